@@ -37,7 +37,11 @@ pub fn position_of(oldest: usize, stages: usize, s: usize) -> usize
     requires { ⌜ (oldest < stages) × (s < stages) × (stages ≤ 32) ⌝ }
     ensures { λ r. ⌜ r ≡ position oldest stages s ⌝ }
 {
-    if oldest <= s { s - oldest } else { s + stages - oldest }
+    if oldest <= s {
+        s - oldest
+    } else {
+        s + stages - oldest
+    }
 }
 
 // The set of the stages at the first `count` positions.

@@ -1,20 +1,24 @@
+-- `marks::including` meets its contract: `1 << k` is 2 ^ k, since k is below 32 and no bit is shifted out.
+-- Assumes nothing.
+use mathlib.Core.Path.{_∙_, ap}
+use Prim.Native.Nat.{ℕ, _^_, _%_}
+use native.Mathlib.Nat.{one-mul, mod-eq-of-lt}
+use lib.Bits.{bitOr}
+use lib.Pow.{pow-lt}
 use borrow.Author.Needs.{needs}
 use Rattle.marks.proofs.including.Statement.{statement}
 use Rattle.marks.proofs.including.Tie as tie
-use Rattle.marks.proofs.including.Reads as reads
-use Rattle.marks.proofs.including.Lts as lts
 
--- src/lib.rt:23:18
 cast-result : tie.Need-cast-result
 cast-result c = search needs
 
--- src/lib.rt:23:13
 shl-result : tie.Need-shl-result
 shl-result c = search needs
 
--- src/lib.rt:19:1
 returns : tie.Need-returns
-returns c = ?
+returns c =
+    ap (bitOr (c .args .word))
+    (ap (λ (x : ℕ). x % 2 ^ 32) (one-mul (2 ^ (c .args .k))) ∙ mod-eq-of-lt (pow-lt (c .pre)))
 
 pub including-spec : {M : Type 1} → statement M
 including-spec = tie.close (tie.spec cast-result shl-result returns)

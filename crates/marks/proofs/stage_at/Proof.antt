@@ -1,20 +1,18 @@
+-- `marks::stage_at` meets its contract: each branch is the side of the definition's test that the code took.
+-- Assumes nothing.
 use borrow.Author.Needs.{needs}
+use borrow.Author.Tests.{lt-ltb, le-ltb}
 use Rattle.marks.proofs.stage_at.Statement.{statement}
 use Rattle.marks.proofs.stage_at.Tie as tie
-use Rattle.marks.proofs.stage_at.Reads as reads
-use Rattle.marks.proofs.stage_at.Lts as lts
 
--- src/lib.rt:31:15
 add-sum : tie.Need-add-sum
 add-sum c = search needs
 
--- src/lib.rt:27:1
 returns : tie.Need-returns
-returns c = ?
+returns c = search (needs, lt-ltb)
 
--- src/lib.rt:27:1
 returns-2 : tie.Need-returns-2
-returns-2 c = ?
+returns-2 c = search (needs, le-ltb)
 
 pub stage-at-spec : {M : Type 1} → statement M
 stage-at-spec = tie.close (tie.spec add-sum returns returns-2)

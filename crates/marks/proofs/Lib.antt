@@ -1,0 +1,4 @@
+-- The laws of mark words and of the circle: Sets (words as sets), Turns (the circle), Counts (tests below a bound).
+pub mod Sets
+pub mod Turns
+pub mod Counts

@@ -1,0 +1,59 @@
+-- The moves of the plain state: issue, squash, commit, and a reference that executes.
+-- Assumes nothing.
+use mathlib.Core.List.{[], _∷_, _++_}
+use Prim.Native.Nat.{ℕ, _+_, _%_, _^_}
+use lib.ListN.{take, drop, set}
+use Rattle.marks.specs.Circle.{stage}
+use Rattle.table.specs.Reference.{Fate, waiting, ref, numberOf, at, State}
+
+-- a new youngest reference; issue numbers wrap from 4,294,967,295 to 0
+abbrev pub issued : State → State
+issued P =
+    record {
+      banks = P .banks;
+      rows = P .rows;
+      stages = P .stages;
+      words = P .words;
+      oldest = P .oldest;
+      next = (P .next + 1) % 2 ^ 32;
+      refs = P .refs ++ (ref (P .next) waiting ∷ []);
+    }
+
+-- the k oldest references stay: the others are squashed
+abbrev pub keeping : State → ℕ → State
+keeping P k =
+    record {
+      banks = P .banks;
+      rows = P .rows;
+      stages = P .stages;
+      words = P .words;
+      oldest = P .oldest;
+      next = P .next;
+      refs = take k (P .refs);
+    }
+
+-- the oldest reference is committed: the window starts one stage later
+abbrev pub retired : State → State
+retired P =
+    record {
+      banks = P .banks;
+      rows = P .rows;
+      stages = P .stages;
+      words = P .words;
+      oldest = stage (P .oldest) (P .stages) 1;
+      next = P .next;
+      refs = drop 1 (P .refs);
+    }
+
+-- the reference at position p has this fate now
+abbrev pub became : State → ℕ → Fate → State
+became P p f =
+    record {
+      banks = P .banks;
+      rows = P .rows;
+      stages = P .stages;
+      words = P .words;
+      oldest = P .oldest;
+      next = P .next;
+      refs = set (P .refs) p (ref (numberOf (at (P .refs) p)) f);
+    }

@@ -1,0 +1,41 @@
+-- The plain state: what 01 says of a table, as a list of live references in program order, oldest first.
+-- Assumes nothing.
+use mathlib.Core.List.{List, [], _∷_}
+use Prim.Native.Nat.{ℕ}
+use lib.ListN.{getD}
+
+-- What became of a reference (its status): not executed; executed without memory; a load of an address; a store at an
+-- address of a word.
+pub data Fate : Type 0 where
+  waiting : Fate
+  other : Fate
+  loaded : ℕ → Fate
+  stored : ℕ → ℕ → Fate
+
+-- A live reference: its issue number (sequence tag) and its fate.
+pub data Ref : Type 0 where
+  ref : ℕ → Fate → Ref
+
+abbrev pub numberOf : Ref → ℕ
+numberOf (ref n f) = n
+
+abbrev pub fateOf : Ref → Fate
+fateOf (ref n f) = f
+
+-- what stands where no reference is
+abbrev pub blank : Ref
+blank = ref 0 waiting
+
+-- the reference at position p
+abbrev pub at : List Ref → ℕ → Ref
+at refs p = getD refs p blank
+
+-- The sizes, the stage of the oldest, the next issue number, and the live references.
+pub record State : Type 0 where
+  pub banks : ℕ
+  pub rows : ℕ
+  pub stages : ℕ
+  pub words : ℕ
+  pub oldest : ℕ
+  pub next : ℕ
+  pub refs : List Ref

@@ -1,0 +1,67 @@
+-- The plain state of a table. It forgets a row's place in its bank, values without a store mark, and what stands at free
+-- rows and at stages that are not live (specs/Same.antt says that it forgets nothing else).
+-- Assumes nothing.
+use mathlib.Core.Bool.{Bool, cond, _||_}
+use mathlib.Core.List.{List, [], _∷_, _++_}
+use Prim.Native.Nat.{ℕ, zero, suc, _+_, _*_}
+use lib.ListN.{getD}
+use Rattle.marks.specs.Stages.{has}
+use Rattle.marks.specs.Circle.{stage}
+use Rattle.table.specs.declared.Table.{Table}
+use Rattle.table.specs.Limits.{rowsAll, stagesMost}
+use Rattle.table.specs.Reference.{Fate, waiting, other, loaded, stored, Ref, ref, State}
+
+-- the stage at position p of the window
+abbrev pub stageOf : Table → ℕ → ℕ
+stageOf t p = stage (t .oldest) (t .stages) p
+
+abbrev pub address : Table → ℕ → ℕ
+address t r = getD (t .addresses) r 0
+
+-- row r bears a load mark at stage s
+abbrev pub loadMark : Table → ℕ → ℕ → Bool
+loadMark t r s = has (getD (t .loads) r 0) s
+
+-- row r bears a store mark at stage s
+abbrev pub storeMark : Table → ℕ → ℕ → Bool
+storeMark t r s = has (getD (t .stores) r 0) s
+
+-- row r bears a mark at stage s
+abbrev pub mark : Table → ℕ → ℕ → Bool
+mark t r s = loadMark t r s || storeMark t r s
+
+abbrev pub value : Table → ℕ → ℕ → ℕ
+value t r s = getD (t .values) (r * stagesMost + s) 0
+
+-- what the marks of row r say of stage s; d where it bears none there
+abbrev pub rowFate : Table → ℕ → ℕ → Fate → Fate
+rowFate t s r d = cond (storeMark t r s) (stored (address t r) (value t r s)) (cond (loadMark t r s) (loaded (address t r)) d)
+
+-- what the marks of the first k rows say of stage s; without a mark it executed without memory
+unfoldable pub markFate : Table → ℕ → ℕ → Fate
+markFate t s zero = other
+markFate t s (suc k) = rowFate t s k (markFate t s k)
+
+abbrev pub fateAt : Table → ℕ → Fate
+fateAt t s = cond (has (t .executed) s) (markFate t s rowsAll) waiting
+
+-- the live reference at position p
+abbrev pub refAt : Table → ℕ → Ref
+refAt t p = ref (getD (t .numbers) (stageOf t p) 0) (fateAt t (stageOf t p))
+
+-- f 0, f 1, .. up to below k
+unfoldable pub tabulate : {A : Type 0} → (ℕ → A) → ℕ → List A
+tabulate f zero = []
+tabulate f (suc k) = tabulate f k ++ (f k ∷ [])
+
+abbrev pub view : Table → State
+view t =
+    record {
+      banks = t .banks;
+      rows = t .rows;
+      stages = t .stages;
+      words = t .words;
+      oldest = t .oldest;
+      next = t .next;
+      refs = tabulate (refAt t) (t .live);
+    }

@@ -1,0 +1,228 @@
+// The table of the address resolution buffer, tickets, and the check of the table's own rules.
+//
+// Inner crate: the calls are in the crate `buffer`. The check runs over lent arrays, so that a call copies no table for it.
+ghost use mathlib.Core.Path.{_≡_};
+ghost use Prim.Native.Nat.{_<_};
+ghost use lib.ListN.{length};
+ghost use Rattle.marks.specs.Counting.{every};
+ghost use Rattle.table.specs.Limits.{sizesFit};
+ghost use Rattle.table.specs.Bank.{bank};
+ghost use Rattle.table.specs.Check.{taken, otherAddress, rowFits, lawfulBy};
+
+// Row i of bank b is at b * 8 + i of the arrays by row, and its value at stage s at (b * 8 + i) * 16 + s of `values`.
+// A mark word (load or store bits) has bit s for stage s. `executed` has the stages whose reference has executed.
+pub struct Table {
+    pub banks: usize,
+    pub rows: usize,
+    pub stages: usize,
+    pub words: usize,
+    pub oldest: usize,
+    pub live: usize,
+    pub next: u32,
+    pub executed: u32,
+    pub numbers: [u32; 16],
+    pub addresses: [u32; 64],
+    pub loads: [u32; 64],
+    pub stores: [u32; 64],
+    pub values: [u32; 1024],
+}
+
+// A reference's name (sequence tag): its stage and the number under which it was issued.
+pub struct Ticket {
+    pub stage: usize,
+    pub number: u32,
+}
+
+// The home (bank hash) of an address, at its remainder by 64.
+const HOMES: [usize; 64] = [
+    0,
+    1,
+    2,
+    3,
+    4,
+    5,
+    6,
+    7,
+    0,
+    1,
+    2,
+    3,
+    4,
+    5,
+    6,
+    7,
+    0,
+    1,
+    2,
+    3,
+    4,
+    5,
+    6,
+    7,
+    0,
+    1,
+    2,
+    3,
+    4,
+    5,
+    6,
+    7,
+    0,
+    1,
+    2,
+    3,
+    4,
+    5,
+    6,
+    7,
+    0,
+    1,
+    2,
+    3,
+    4,
+    5,
+    6,
+    7,
+    0,
+    1,
+    2,
+    3,
+    4,
+    5,
+    6,
+    7,
+    0,
+    1,
+    2,
+    3,
+    4,
+    5,
+    6,
+    7,
+];
+
+// The bank of an address.
+pub fn bank_of(banks: usize, address: u32) -> usize
+    requires { ⌜ 0 < banks ⌝ }
+    ensures { λ r. ⌜ r ≡ bank banks address ⌝ }
+{
+    let home = HOMES[(address % 64) as usize];
+    home % banks
+}
+
+// Whether the sizes lie in their limits.
+pub fn sizes_fit(banks: usize, rows: usize, stages: usize, words: usize) -> bool
+    ensures { λ r. ⌜ r ≡ sizesFit banks rows stages words ⌝ }
+{
+    ((banks == 1) | (banks == 2) | (banks == 4) | (banks == 8))
+        & ((1 <= rows) & (rows <= 8))
+        & ((1 <= stages) & (stages <= 16))
+        & ((1 <= words) & (words <= 4096))
+}
+
+// Whether no marked row among the first `i` of bank `b` has address `a`.
+pub fn address_alone<'a>(
+    addresses: &'a [u32; 64],
+    loads: &'a [u32; 64],
+    stores: &'a [u32; 64],
+    b: usize,
+    a: u32,
+    i: usize,
+) -> bool
+    requires { ⌜ (b < 8) × (i < 8) ⌝ }
+    requires { ⌜ (length (now addresses) ≡ 64) × (length (now loads) ≡ 64) × (length (now stores) ≡ 64) ⌝ }
+    ensures { λ r. ⌜ r ≡ every (otherAddress (now (addresses .entry)) (now (loads .entry)) (now (stores .entry)) b a) i ⌝ }
+{
+    let mut alone = true;
+    let mut k = 0;
+    while k < i {
+        let r = b * 8 + k;
+        alone = alone & (((loads[r] | stores[r]) == 0) | !(addresses[r] == a));
+        k += 1;
+    }
+    alone
+}
+
+// Whether row `r` is free or keeps the rules, given the live executed stages and those that the rows before it have marked.
+pub fn row_fits<'a>(
+    banks: usize,
+    rows: usize,
+    allowed: u32,
+    before: u32,
+    addresses: &'a [u32; 64],
+    loads: &'a [u32; 64],
+    stores: &'a [u32; 64],
+    r: usize,
+) -> bool
+    requires { ⌜ (r < 64) × (0 < banks) × (before ≡ taken (now loads) (now stores) r) ⌝ }
+    requires { ⌜ (length (now addresses) ≡ 64) × (length (now loads) ≡ 64) × (length (now stores) ≡ 64) ⌝ }
+    ensures { λ t. ⌜ t ≡ rowFits banks rows allowed (now (addresses .entry)) (now (loads .entry)) (now (stores .entry)) r ⌝ }
+{
+    let load = loads[r];
+    let store = stores[r];
+    let marks = load | store;
+    if marks == 0 {
+        return true;
+    }
+    let address = addresses[r];
+    let own = ((load & store) == 0)
+        & ((marks & allowed) == marks)
+        & ((marks & before) == 0)
+        & (r / 8 == bank_of(banks, address))
+        & (r % 8 < rows);
+    own & address_alone(addresses, loads, stores, r / 8, address, r % 8)
+}
+
+// Whether every row is free or keeps the rules.
+pub fn rows_fit<'a>(
+    banks: usize,
+    rows: usize,
+    allowed: u32,
+    addresses: &'a [u32; 64],
+    loads: &'a [u32; 64],
+    stores: &'a [u32; 64],
+) -> bool
+    requires { ⌜ 0 < banks ⌝ }
+    requires { ⌜ (length (now addresses) ≡ 64) × (length (now loads) ≡ 64) × (length (now stores) ≡ 64) ⌝ }
+    ensures { λ t. ⌜ t ≡ every (rowFits banks rows allowed (now (addresses .entry)) (now (loads .entry)) (now (stores .entry))) 64 ⌝ }
+{
+    let mut fit = true;
+    let mut before: u32 = 0;
+    let mut r = 0;
+    while r < 64 {
+        fit = fit & row_fits(banks, rows, allowed, before, addresses, loads, stores, r);
+        before = before | (loads[r] | stores[r]);
+        r += 1;
+    }
+    fit
+}
+
+// Whether a table with these sizes, window and arrays keeps its own rules.
+pub fn keeps_rules<'a>(
+    banks: usize,
+    rows: usize,
+    stages: usize,
+    words: usize,
+    oldest: usize,
+    live: usize,
+    executed: u32,
+    addresses: &'a [u32; 64],
+    loads: &'a [u32; 64],
+    stores: &'a [u32; 64],
+) -> bool
+    requires { ⌜ (length (now addresses) ≡ 64) × (length (now loads) ≡ 64) × (length (now stores) ≡ 64) ⌝ }
+    ensures { λ r. ⌜ r
+        ≡ lawfulBy banks rows stages words oldest live executed (now (addresses .entry)) (now (loads .entry)) (now (stores .entry)) ⌝ }
+{
+    if !sizes_fit(banks, rows, stages, words) {
+        return false;
+    }
+    if live > stages {
+        return false;
+    }
+    if oldest >= stages {
+        return false;
+    }
+    let allowed = executed & marks::first_stages(oldest, stages, live);
+    rows_fit(banks, rows, allowed, addresses, loads, stores)
+}
