@@ -1,0 +1,10 @@
+-- Loops: the searches step by step. Finds: what they find. Forwards, Violations, Firsts, Bankrows: what they find is what the
+-- list of references says. Places: the row and what is left, whole. Sentences: 01's sentences of the definitions.
+pub mod Loops
+pub mod Finds
+pub mod Forwards
+pub mod Violations
+pub mod Firsts
+pub mod Bankrows
+pub mod Places
+pub mod Sentences

@@ -1,0 +1,90 @@
+-- 01's sentences of a load's value and of a store's check, shown of the definitions in specs/Forwarding and
+-- specs/Violation: "youngest", "older", "first met" by positions of the list. Induction on the load's position; for the
+-- check, the references that have not executed to the address are passed (spared-skip), and the next one decides.
+-- Assumes nothing.
+use mathlib.Core.Bool.{Bool, true, false, cond}
+use mathlib.Core.List.{List}
+use mathlib.Core.Logic.{⊎-elim}
+use mathlib.Core.Path.{_≡_, refl, sym, ap, _∙_}
+use Prim.Native.Nat.{ℕ, zero, suc, _≤_, _<_, _+_}
+use native.Mathlib.Nat.{eq-or-lt-of-le, le-of-suc-le-suc, not-suc-le-zero, le-refl, le-step}
+use native.Mathlib.Omega.{arith}
+use lib.Dec.{eqb}
+use lib.ListN.{length, take, drop, length-drop}
+use borrow.Author.Tests.{eq-eqb, eqb-true}
+use Rattle.table.specs.Reference.{Fate, waiting, other, loaded, stored, Ref, ref, fateOf, at, State}
+use Rattle.lookup.specs.Forwarding.{after, seen}
+use Rattle.lookup.specs.Rows.{touches}
+use Rattle.lookup.specs.Violation.{met, spared, checked}
+use Rattle.lookup.proofs.Forwards.{seen-next}
+use Rattle.lookup.proofs.Violations.{spared-next, spared-skip, spared-all}
+
+-- a reference that is no executed store to the address leaves the word
+after-no-store : (x : Ref) (a w : ℕ) → ((m u : ℕ) → x ≡ ref m (stored a u) → ⊥) → after (fateOf x) a w ≡ w
+after-no-store (ref n waiting) a w none = refl
+after-no-store (ref n other) a w none = refl
+after-no-store (ref n (loaded b)) a w none = refl
+after-no-store (ref n (stored b v)) a w none = go (eqb b a) refl
+  where
+    go : (t : Bool) → eqb b a ≡ t → cond t v w ≡ w
+    go true e = absurd (none n v (ap (λ (c : ℕ). ref n (stored c v)) (eqb-true b a e)))
+    go false e = refl
+
+-- "Without one it is the memory word": no older live reference is an executed store to this address
+pub seen-none : (refs : List Ref) (p a w : ℕ) → p ≤ length refs
+    → ((k m u : ℕ) → k < p → at refs k ≡ ref m (stored a u) → ⊥) → seen (take p refs) a w ≡ w
+unfolding seen
+seen-none refs zero a w h none = refl
+seen-none refs (suc p) a w h none =
+    seen-next refs p a w h
+    ∙ after-no-store (at refs p) a (seen (take p refs) a w) (λ m u. none p m u (le-refl (suc p)))
+    ∙ seen-none refs p a w (omega arith) (λ k m u l. none k m u (le-step l))
+
+-- "the value is that of the youngest executed store to this address among older live references"
+pub seen-youngest : (refs : List Ref) (p q a v w n : ℕ) → q < p → p ≤ length refs → at refs q ≡ ref n (stored a v)
+    → ((k m u : ℕ) → q < k → k < p → at refs k ≡ ref m (stored a u) → ⊥) → seen (take p refs) a w ≡ v
+seen-youngest refs zero q a v w n l h e none = absurd (not-suc-le-zero l)
+seen-youngest refs (suc p) q a v w n l h e none =
+    seen-next refs p a w h
+    ∙ ⊎-elim
+    (λ (i : q ≡ p).
+    ap (λ (x : Ref). after (fateOf x) a (seen (take p refs) a w)) (ap (at refs) (sym i) ∙ e)
+    ∙ ap (λ (t : Bool). cond t v (seen (take p refs) a w)) (eq-eqb a a refl))
+    (λ (i : q < p).
+    after-no-store (at refs p) a (seen (take p refs) a w) (λ m u. none p m u i (le-refl (suc p)))
+    ∙ seen-youngest refs p q a v w n i (omega arith) e (λ k m u j o. none k m u j (le-step o)))
+    (eq-or-lt-of-le (le-of-suc-le-suc l))
+
+module _ (P : State) (p a : ℕ) where
+  -- no reference between p and q has executed to this address: the one at q is met
+  met-at : (q n : ℕ) (f : Fate) → p < q → q < length (P .refs) → at (P .refs) q ≡ ref n f
+      → ((k : ℕ) → p < k → k < q → touches a (fateOf (at (P .refs) k)) ≡ false)
+      → checked P p a ≡ q + met f a (length (drop (suc q) (P .refs))) (spared a (drop (suc q) (P .refs)))
+  met-at q n f l h e none =
+      spared-skip (P .refs) (suc p) q a l (omega arith) none
+      ∙ ap (λ (j : ℕ). q + j)
+      (spared-next (P .refs) q a h
+      ∙ ap (λ (x : Ref). met (fateOf x) a (length (drop (suc q) (P .refs))) (spared a (drop (suc q) (P .refs)))) e)
+
+  -- "If the first one met is a load, that load and everything younger is squashed"
+  pub spared-load : (q n : ℕ) → p < q → q < length (P .refs) → at (P .refs) q ≡ ref n (loaded a)
+      → ((k : ℕ) → p < k → k < q → touches a (fateOf (at (P .refs) k)) ≡ false) → checked P p a ≡ q
+  spared-load q n l h e none =
+      met-at q n (loaded a) l h e none
+      ∙ ap (λ (t : Bool). q + cond t 0 (suc (spared a (drop (suc q) (P .refs))))) (eq-eqb a a refl) ∙ omega arith
+
+  -- "If it is a store, or there is none, nothing is": it is a store
+  pub spared-store : (q n v : ℕ) → p < q → q < length (P .refs) → at (P .refs) q ≡ ref n (stored a v)
+      → ((k : ℕ) → p < k → k < q → touches a (fateOf (at (P .refs) k)) ≡ false) → checked P p a ≡ length (P .refs)
+  spared-store q n v l h e none =
+      met-at q n (stored a v) l h e none
+      ∙ ap
+      (λ (t : Bool). q + cond t (suc (length (drop (suc q) (P .refs)))) (suc (spared a (drop (suc q) (P .refs)))))
+      (eq-eqb a a refl)
+      ∙ omega (arith, length-drop (suc q) (P .refs))
+
+  -- there is none
+  pub spared-none : p < length (P .refs)
+      → ((k : ℕ) → p < k → k < length (P .refs) → touches a (fateOf (at (P .refs) k)) ≡ false)
+      → checked P p a ≡ length (P .refs)
+  spared-none h none = spared-all (P .refs) (suc p) a h none

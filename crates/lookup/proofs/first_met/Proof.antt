@@ -1,0 +1,65 @@
+-- `lookup::first_met` meets its contract: `q` is the first younger mark, and each branch is the side of the
+-- definition's two tests that the code took.
+-- Assumes nothing.
+use mathlib.Core.Bool.{true, false}
+use mathlib.Core.Path.{_≡_}
+use native.Mathlib.Numerals.{add-one}
+use native.Mathlib.Omega.{arith}
+use lib.Bits.{bitOr}
+use borrow.Author.Tests.{lt-ltb, le-ltb}
+use borrow.Author.Needs.{needs}
+use Rattle.marks.proofs.Turns.{stage-lt}
+use Rattle.lookup.specs.Search.{marked, metAt}
+use Rattle.lookup.proofs.first_met.Statement.{statement}
+use Rattle.lookup.proofs.first_met.Tie as tie
+
+-- the code's p + 1 is the definition's suc p
+met : (c : tie.After-next-mark) → c .next-mark .result
+    ≡ metAt (c .before .args .oldest) (c .before .args .stages) (c .before .args .live)
+    (bitOr (c .before .args .load) (c .before .args .store)) (c .before .args .p)
+met c = rw (add-one (c .before .args .p)) at (c .next-mark .ensures .1)
+
+add-next-mark : tie.Need-add-next-mark
+add-next-mark c = search needs
+
+next-mark-requires : tie.Need-next-mark-requires
+next-mark-requires c κs = search needs
+
+stage-at-requires : tie.Need-stage-at-requires
+stage-at-requires c κs = search needs
+
+contains-requires : tie.Need-contains-requires
+contains-requires c κs =
+    let start = c .before .before .before .pre .0 in
+    omega (arith, stage-lt _ _ start (c .before .before .next-mark .result) (omega arith))
+
+returns : tie.Need-returns
+returns c =
+    let args = c .before .before .before .before .before .args in
+    let q = c .before .before .before .before .next-mark .result in
+    let m : marked (args .oldest) (args .stages) (args .load) q ≡ true = cc in
+    rw (← met (c .before .before .before .before), lt-ltb q (args .live) (c .before .before .before .if1 .taken), m)
+
+returns-2 : tie.Need-returns-2
+returns-2 c =
+    let args = c .before .before .before .before .before .args in
+    let q = c .before .before .before .before .next-mark .result in
+    let m : marked (args .oldest) (args .stages) (args .load) q ≡ false = cc in
+    rw (← met (c .before .before .before .before), lt-ltb q (args .live) (c .before .before .before .if1 .taken), m)
+
+returns-3 : tie.Need-returns-3
+returns-3 c =
+    let q = c .before .next-mark .result in
+    rw (← met (c .before), le-ltb q (c .before .before .args .live) (c .if1 .left))
+
+pub first-met-spec : {M : Type 1} → statement M
+first-met-spec =
+    tie.close
+    (tie.spec
+    add-next-mark
+    next-mark-requires
+    stage-at-requires
+    contains-requires
+    returns
+    returns-2
+    returns-3)

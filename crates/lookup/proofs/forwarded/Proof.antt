@@ -1,0 +1,80 @@
+-- `lookup::forwarded` meets its contract: `q` is the definition's nearest store, and the two branches are its two
+-- cases. The store found is older than p, so its stage is below 16 and the value's index below 1024.
+-- Assumes nothing.
+use Prim.Native.Nat.{_-_, _≤_, _<_}
+use native.Mathlib.Omega.{arith}
+use lib.ListN.{getD}
+use borrow.Author.Tests.{ne-eqb}
+use borrow.Author.Needs.{needs}
+use Rattle.marks.proofs.Turns.{stage-lt}
+use Rattle.lookup.specs.Search.{marked}
+use Rattle.lookup.proofs.Loops.{find-le}
+use Rattle.lookup.proofs.forwarded.Statement.{statement}
+use Rattle.lookup.proofs.forwarded.Tie as tie
+
+-- the store found is older than the load
+older : (c : tie.After-nearest-store) → c .nearest-store .result ≤ c .before .before .args .p
+older c =
+    let args = c .before .before .args in
+    omega (
+      arith,
+      c .nearest-store .ensures,
+      find-le (marked (args .oldest) (args .stages) (getD (args .stores .now) (args .r) 0)) (args .p),
+    )
+
+stage-below : (c : tie.After-stage-at) → c .stage-at .result < 16
+stage-below c =
+    let start = c .before .before .before .before .pre .0 .0 in
+    let l = older (c .before .before) in
+    omega (arith, stage-lt _ _ start (c .before .before .nearest-store .result - 1) (omega arith))
+
+mul-nearest-store : tie.Need-mul-nearest-store
+mul-nearest-store c = search needs
+
+element-copy-out-nearest-store : tie.Need-element-copy-out-nearest-store
+element-copy-out-nearest-store c = search needs
+
+nearest-store-requires : tie.Need-nearest-store-requires
+nearest-store-requires c κs = search needs
+
+returns : tie.Need-returns
+returns c = rw (← c .before .nearest-store .ensures, c .if1 .taken)
+
+mul-result : tie.Need-mul-result
+mul-result c = search needs
+
+sub-stage-at : tie.Need-sub-stage-at
+sub-stage-at c = search needs
+
+stage-at-requires : tie.Need-stage-at-requires
+stage-at-requires c κs = omega (arith, older (c .before))
+
+add-result : tie.Need-add-result
+add-result c = omega (arith, stage-below c)
+
+mul-result-2 : tie.Need-mul-result-2
+mul-result-2 c = omega (arith, stage-below c)
+
+element-copy-out-result : tie.Need-element-copy-out-result
+element-copy-out-result c = omega (arith, stage-below c)
+
+returns-2 : tie.Need-returns-2
+returns-2 c =
+    let found = c .before .before .before .nearest-store in
+    rw (← found .ensures, ne-eqb (found .result) 0 (c .before .before .if1 .left), c .before .stage-at .ensures)
+
+pub forwarded-spec : {M : Type 1} → statement M
+forwarded-spec =
+    tie.close
+    (tie.spec
+    mul-nearest-store
+    element-copy-out-nearest-store
+    nearest-store-requires
+    returns
+    mul-result
+    sub-stage-at
+    stage-at-requires
+    add-result
+    mul-result-2
+    element-copy-out-result
+    returns-2)

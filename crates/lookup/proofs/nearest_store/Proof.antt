@@ -1,0 +1,77 @@
+-- `lookup::nearest_store` meets its contract. The loop's invariant: the search below `p` finds what the search below
+-- `q` finds. A turn looks at position q - 1, whose stage is below 16.
+-- Assumes nothing.
+use mathlib.Core.Bool.{true, false}
+use mathlib.Core.Path.{_≡_, refl, sym, _∙_}
+use Prim.Native.Nat.{_-_, _≤_}
+use native.Mathlib.Omega.{arith}
+use Rattle.marks.proofs.Turns.{stage-lt}
+use Rattle.lookup.specs.Search.{nearest, marked}
+use Rattle.lookup.proofs.Loops.{find-hit, find-miss, find-none}
+use Rattle.lookup.proofs.nearest_store.Statement.{statement}
+use Rattle.lookup.proofs.nearest_store.Tie as tie
+
+abbrev Inv-loop : tie.InvT-loop
+Inv-loop oldest stages stores p q₀ q =
+    (q ≤ p) × (nearest oldest stages stores p ≡ nearest oldest stages stores q)
+
+abbrev μ-loop : tie.MeasureT-loop
+μ-loop oldest stages stores p q₀ q = q
+
+loop-holds : tie.Need-loop-holds Inv-loop μ-loop
+loop-holds c = (omega arith, refl)
+
+sub-stage-at : tie.Need-sub-stage-at Inv-loop μ-loop
+sub-stage-at c = omega arith
+
+stage-at-requires : tie.Need-stage-at-requires Inv-loop μ-loop
+stage-at-requires c κs = omega arith
+
+contains-requires : tie.Need-contains-requires Inv-loop μ-loop
+contains-requires c κs =
+    let start = c .before .before .before .pre .0 in
+    omega (arith, stage-lt _ _ start (c .before .before .loop .q - 1) (omega arith))
+
+returns : tie.Need-returns Inv-loop μ-loop
+returns c =
+    let at = c .before .before .before .before .loop in
+    let args = c .before .before .before .before .before .args in
+    let f = marked (args .oldest) (args .stages) (args .stores) in
+    let e : f (at .q - 1) ≡ true = cc in
+    sym (at .inv .1 ∙ find-hit f (at .q) (omega arith) e)
+
+sub-q : tie.Need-sub-q Inv-loop μ-loop
+sub-q c = omega arith
+
+loop-less : tie.Need-loop-less Inv-loop μ-loop
+loop-less c = omega arith
+
+loop-again : tie.Need-loop-again Inv-loop μ-loop
+loop-again c =
+    let at = c .before .before .before .before .loop in
+    let args = c .before .before .before .before .before .args in
+    let f = marked (args .oldest) (args .stages) (args .stores) in
+    let e : f (at .q - 1) ≡ false = cc in
+    (omega arith, at .inv .1 ∙ find-miss f (at .q) (omega arith) e)
+
+returns-2 : tie.Need-returns-2 Inv-loop μ-loop
+returns-2 c =
+    let at = c .before .loop in
+    let args = c .before .before .args in
+    sym (at .inv .1 ∙ find-none (marked (args .oldest) (args .stages) (args .stores)) (at .q) (omega arith))
+
+pub nearest-store-spec : {M : Type 1} → statement M
+nearest-store-spec =
+    tie.close
+    (tie.spec
+    Inv-loop
+    μ-loop
+    loop-holds
+    sub-stage-at
+    stage-at-requires
+    contains-requires
+    returns
+    sub-q
+    loop-less
+    loop-again
+    returns-2)

@@ -1,0 +1,46 @@
+-- The rows of a bank, read off the list of references. A row in use belongs to one address, and is known here by its oldest
+-- mark: the first live reference that has executed to that address.
+-- Assumes nothing.
+use mathlib.Core.Bool.{Bool, false, _&&_, _||_, not}
+use mathlib.Core.List.{List, [], _∷_}
+use Prim.Native.Nat.{ℕ}
+use lib.Dec.{eqb}
+use lib.ListN.{length, take}
+use Rattle.marks.specs.Counting.{count, last}
+use Rattle.table.specs.Bank.{bank}
+use Rattle.table.specs.Reference.{Fate, waiting, other, loaded, stored, Ref, ref, fateOf, at}
+
+-- a reference with this fate has executed to address a
+abbrev pub touches : ℕ → Fate → Bool
+touches a waiting = false
+touches a other = false
+touches a (loaded b) = eqb b a
+touches a (stored b v) = eqb b a
+
+-- one of these references has executed to address a: the address has a row
+unfoldable pub touched : ℕ → List Ref → Bool
+touched a [] = false
+touched a (ref n f ∷ refs) = touches a f || touched a refs
+
+-- address b is of bank h, and none of these older references has executed to it
+abbrev pub firstTo : ℕ → ℕ → ℕ → List Ref → Bool
+firstTo banks h b older = eqb (bank banks b) h && not (touched b older)
+
+-- a reference with this fate, after these older ones, is the oldest mark of a row of bank h
+abbrev pub opensBy : ℕ → ℕ → List Ref → Fate → Bool
+opensBy banks h older waiting = false
+opensBy banks h older other = false
+opensBy banks h older (loaded b) = firstTo banks h b older
+opensBy banks h older (stored b v) = firstTo banks h b older
+
+-- the reference at position p is the oldest mark of a row of bank h
+abbrev pub opens : ℕ → ℕ → List Ref → ℕ → Bool
+opens banks h refs p = opensBy banks h (take p refs) (fateOf (at refs p))
+
+-- how many rows of bank h are in use
+abbrev pub used : ℕ → ℕ → List Ref → ℕ
+used banks h refs = count (opens banks h refs) (length refs)
+
+-- the oldest mark of the row of bank h whose oldest mark is youngest
+abbrev pub youngest : ℕ → ℕ → List Ref → ℕ
+youngest banks h refs = last (opens banks h refs) (length refs)

@@ -1,0 +1,26 @@
+-- Execute store: among younger live references that have executed to this address, go from the nearest on. If the first one
+-- met is a load, that load and everything younger is squashed. If it is a store, or there is none, nothing is.
+-- Assumes nothing.
+use mathlib.Core.Bool.{cond}
+use mathlib.Core.List.{List, [], _∷_}
+use Prim.Native.Nat.{ℕ, suc, _+_}
+use lib.Dec.{eqb}
+use lib.ListN.{length, drop}
+use Rattle.table.specs.Reference.{Fate, waiting, other, loaded, stored, Ref, ref, State}
+
+-- How many of the references from one with this fate on stay: `all` are younger than it, and `rest` of those stay if the walk
+-- goes on.
+abbrev pub met : Fate → ℕ → ℕ → ℕ → ℕ
+met waiting a all rest = suc rest
+met other a all rest = suc rest
+met (loaded b) a all rest = cond (eqb b a) 0 (suc rest)
+met (stored b v) a all rest = cond (eqb b a) (suc all) (suc rest)
+
+-- how many of these younger references stay when an older store to address a executes
+unfoldable pub spared : ℕ → List Ref → ℕ
+spared a [] = 0
+spared a (ref n f ∷ refs) = met f a (length refs) (spared a refs)
+
+-- how many references stay when the one at position p stores to address a
+abbrev pub checked : State → ℕ → ℕ → ℕ
+checked P p a = suc p + spared a (drop (suc p) (P .refs))
