@@ -1,5 +1,5 @@
 -- Loops: the searches step by step. Finds: what they find. Forwards, Violations, Firsts, Bankrows: what they find is what the
--- list of references says. Places: the row and what is left, whole. Sentences: 01's sentences of the definitions.
+-- list of references says. Places: the row and what is left, whole. Telling: what the marks of a stage say. Sentences: 01's sentences of the definitions.
 pub mod Loops
 pub mod Finds
 pub mod Forwards
@@ -7,4 +7,5 @@ pub mod Violations
 pub mod Firsts
 pub mod Bankrows
 pub mod Places
+pub mod Telling
 pub mod Sentences

@@ -11,7 +11,10 @@ use Rattle.marks.specs.Stages.{has}
 use Rattle.marks.specs.Circle.{stage}
 use Rattle.table.specs.Limits.{rowsMost, stagesMost}
 use Rattle.table.specs.Check.{marksOf}
+use Rattle.table.specs.Reference.{Fate, other, loaded, stored}
 use Rattle.lookup.specs.declared.Place.{Place}
+use Rattle.lookup.specs.declared.Mark.{Mark}
+use Rattle.lookup.specs.declared.Mark.the-variants.{Absent, Load, Store}
 
 -- one more than the largest number below n that has f; 0 where none has
 unfoldable pub find : (ℕ → Bool) → ℕ → ℕ
@@ -100,3 +103,16 @@ storePlace o n live rows addresses loads stores b a p =
     cond (eqb (rowOf rows addresses loads stores b a) 0) (taken o n live rows loads stores b p)
     (let r = b * rowsMost + (rowOf rows addresses loads stores b a - 1) in
     record { row = r; left = violates o n live (getD loads r 0) (getD stores r 0) p })
+
+-- what the marks of the first k rows say of stage s
+unfoldable pub markOf : List ℕ → List ℕ → List ℕ → List ℕ → ℕ → ℕ → Mark
+markOf addresses loads stores values s zero = Absent
+markOf addresses loads stores values s (suc k) =
+    cond (has (getD stores k 0) s) (Store (getD addresses k 0) (getD values (k * stagesMost + s) 0))
+    (cond (has (getD loads k 0) s) (Load (getD addresses k 0)) (markOf addresses loads stores values s k))
+
+-- a mark as the fate of an executed reference
+abbrev pub markedFate : Mark → Fate
+markedFate Absent = other
+markedFate (Load a) = loaded a
+markedFate (Store a v) = stored a v

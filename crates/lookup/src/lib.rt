@@ -21,12 +21,20 @@ ghost use Rattle.lookup.specs.Search.{
   rowOf,
   loadPlace,
   storePlace,
+  markOf,
 };
 
 // The row in which an execution is marked, and how many references stay; none stay where it stalls.
 pub struct Place {
     pub row: usize,
     pub left: usize,
+}
+
+// What the marks of a stage say: none, a load of an address, a store at an address of a word.
+pub enum Mark {
+    Absent,
+    Load(u32),
+    Store(u32, u32),
 }
 
 // The memory word at `address`, 0 past the end.
@@ -277,4 +285,30 @@ pub fn store_place<'a>(
         row: r,
         left: first_met(oldest, stages, live, loads[r], stores[r], p),
     }
+}
+
+// What the marks say of stage `s`.
+pub fn mark_at<'a>(
+    addresses: &'a [u32; 64],
+    loads: &'a [u32; 64],
+    stores: &'a [u32; 64],
+    values: &'a [u32; 1024],
+    s: usize,
+) -> Mark
+    requires { ⌜ (s < 16) × (length (now addresses) ≡ 64) × (length (now loads) ≡ 64) ⌝ }
+    requires { ⌜ (length (now stores) ≡ 64) × (length (now values) ≡ 1024) ⌝ }
+    ensures { λ r. ⌜ r ≡ markOf (now (addresses .entry)) (now (loads .entry)) (now (stores .entry)) (now (values .entry)) s 64 ⌝ }
+{
+    let mut i = 64;
+    while 0 < i {
+        let r = i - 1;
+        if marks::contains(stores[r], s) {
+            return Mark::Store(addresses[r], values[r * 16 + s]);
+        }
+        if marks::contains(loads[r], s) {
+            return Mark::Load(addresses[r]);
+        }
+        i = r;
+    }
+    Mark::Absent
 }

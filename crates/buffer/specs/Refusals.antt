@@ -1,0 +1,70 @@
+-- Where a call is turned down. Checks go from the smallest number up: a call is refused when a condition in its rows holds,
+-- and only then, with the first such number.
+-- Assumes nothing.
+use mathlib.Core.Bool.{Bool, true, false, cond, not, _&&_}
+use mathlib.Core.List.{List, [], _∷_}
+use Prim.Native.Nat.{ℕ}
+use lib.Dec.{eqb, leb, ltb}
+use lib.ListN.{length}
+use Rattle.marks.specs.Circle.{position}
+use Rattle.table.specs.declared.Ticket.{Ticket}
+use Rattle.table.specs.Limits.{sizesFit}
+use Rattle.table.specs.Reference.{Fate, waiting, other, loaded, stored, Ref, numberOf, fateOf, at, State}
+use Rattle.lookup.specs.Outcome.{leaves}
+
+-- a condition of the table with its number
+pub data Check : Type 0 where
+  when : Bool → ℕ → Check
+
+-- the number of the first condition that holds; 0 where none does
+abbrev pub refusal : List Check → ℕ
+refusal [] = 0
+refusal (when c k ∷ checks) = cond c k (refusal checks)
+
+-- the position that a ticket's stage has in the window
+abbrev pub place : State → Ticket → ℕ
+place P τ = position (P .oldest) (P .stages) (τ .stage)
+
+-- A ticket names its stage's live reference if this was issued under its number.
+abbrev pub names : State → Ticket → Bool
+names P τ =
+    ltb (τ .stage) (P .stages) && (ltb (place P τ) (length (P .refs)) && eqb (numberOf (at (P .refs) (place P τ))) (τ .number))
+
+abbrev pub hasExecuted : Fate → Bool
+hasExecuted waiting = false
+hasExecuted other = true
+hasExecuted (loaded a) = true
+hasExecuted (stored a v) = true
+
+-- it executed at an address of W or more
+abbrev pub faults : ℕ → Fate → Bool
+faults words waiting = false
+faults words other = false
+faults words (loaded a) = leb words a
+faults words (stored a v) = leb words a
+
+-- memory length is not W
+abbrev pub wrongLength : ℕ → List ℕ → Check
+wrongLength words memory = when (not (eqb (length memory) words)) 3
+
+abbrev pub openChecks : ℕ → ℕ → ℕ → ℕ → List ℕ → List Check
+openChecks banks rows stages words memory =
+    when (not (sizesFit banks rows stages words)) 1 ∷ wrongLength words memory ∷ []
+
+abbrev pub issueChecks : State → List Check
+issueChecks P = when (eqb (length (P .refs)) (P .stages)) 5 ∷ []
+
+abbrev pub executeChecks : State → List ℕ → Ticket → Fate → List Check
+executeChecks P memory τ f =
+    wrongLength (P .words) memory ∷ when (not (names P τ)) 7 ∷ when (hasExecuted (fateOf (at (P .refs) (place P τ)))) 8
+    ∷ when (eqb (leaves P (place P τ) f) 0) 10
+    ∷ []
+
+abbrev pub squashChecks : State → Ticket → List Check
+squashChecks P τ = when (not (names P τ)) 7 ∷ []
+
+abbrev pub commitChecks : State → List ℕ → List Check
+commitChecks P memory =
+    wrongLength (P .words) memory ∷ when (eqb (length (P .refs)) 0) 11 ∷ when (not (hasExecuted (fateOf (at (P .refs) 0)))) 12
+    ∷ when (faults (P .words) (fateOf (at (P .refs) 0))) 13
+    ∷ []
