@@ -11,18 +11,6 @@ use Rattle.buffer.specs.Answers.{Answer, refused, done}
 use Rattle.buffer.specs.Refusals.{refusal, openChecks}
 use Rattle.buffer.specs.Calls.{Call, respond, opening}
 
--- The call c on table t and memory m said `said` and handed back table u and memory v. The place of a row in its bank is the
--- one free choice: u may be any table with this view that keeps the rules.
-pub record Meets (t : Table) (c : Call) (m : List ℕ) (said : Answer) (u : Table) (v : List ℕ) : Type 0 where
-  -- 2: the table breaks its own rules
-  pub broken : (Rules t → ⊥) → (said ≡ refused 2) × (u ≡ t) × (v ≡ m)
-  -- any other number: table and memory come back as they were passed
-  pub refuses : Rules t → (k : ℕ) → respond c (view t) m .answer ≡ refused k → (said ≡ refused k) × (u ≡ t) × (v ≡ m)
-  pub answer : Rules t → said ≡ respond c (view t) m .answer
-  pub state : Rules t → view u ≡ respond c (view t) m .state
-  pub memory : Rules t → v ≡ respond c (view t) m .memory
-  pub rules : Rules t → Rules u
-
 -- a table with these sizes and nothing in it
 abbrev pub fresh : ℕ → ℕ → ℕ → ℕ → Table
 fresh banks rows stages words =
@@ -41,6 +29,18 @@ fresh banks rows stages words =
       stores = replicate 64 0;
       values = replicate 1024 0;
     }
+
+-- The call c on table t and memory m said `said` and handed back table u and memory v. The place of a row in its bank is the
+-- one free choice: u may be any table with this view that keeps the rules.
+pub record Meets (t : Table) (c : Call) (m : List ℕ) (said : Answer) (u : Table) (v : List ℕ) : Type 0 where
+  -- 2: the table breaks its own rules
+  pub broken : (Rules t → ⊥) → (said ≡ refused 2) × (u ≡ t) × (v ≡ m)
+  -- any other number: table and memory come back as they were passed
+  pub refuses : Rules t → (k : ℕ) → respond c (view t) m .answer ≡ refused k → (said ≡ refused k) × (u ≡ t) × (v ≡ m)
+  pub answer : Rules t → said ≡ respond c (view t) m .answer
+  pub state : Rules t → view u ≡ respond c (view t) m .state
+  pub memory : Rules t → v ≡ respond c (view t) m .memory
+  pub rules : Rules t → Rules u
 
 -- An opening with these sizes on memory m said `said` and handed back table u. A refused opening hands back a table without
 -- stages, which breaks the rules, so that every call on it is refused with 2.
