@@ -6,12 +6,12 @@ use mathlib.Core.Bool.{true, false}
 use mathlib.Core.List.{List}
 use mathlib.Core.Path.{_≡_, sym, ap, _∙_}
 use Prim.Native.Nat.{ℕ, _-_, _<_}
-use native.Mathlib.Nat.{add-zero}
 use native.Mathlib.Omega.{arith}
 use lib.Dec.{eqb}
 use lib.ListN.{length, getD}
-use borrow.Author.Tests.{lt-ltb, eq-eqb, ne-eqb}
+use borrow.Author.Tests.{eq-eqb, ne-eqb}
 use Rattle.marks.specs.Stages.{has}
+use Rattle.marks.proofs.Turns.{stage-zero}
 use Rattle.table.specs.declared.Table.{Table}
 use Rattle.table.specs.Limits.{rowsAll}
 use Rattle.table.specs.Moves.{retired}
@@ -49,11 +49,11 @@ module _ (t : Table) (rules : Rules t) (m : List ℕ) where
     some-live : eqb (length (view t .refs)) 0 ≡ false
     some-live = rw (length-refs t) (ne-eqb (t .live) 0 (λ z. omega arith))
 
-    stage-zero : stageOf t 0 ≡ t .oldest
-    stage-zero = rw (add-zero (t .oldest), lt-ltb (t .oldest) (t .stages) (rules .start))
+    oldest-stage : stageOf t 0 ≡ t .oldest
+    oldest-stage = stage-zero (t .oldest) (t .stages) (rules .start)
 
     oldest-executed : hasExecuted (fateOf (at (view t .refs) 0)) ≡ has (t .executed) (t .oldest)
-    oldest-executed = executed-at t rules 0 some ∙ ap (has (t .executed)) stage-zero
+    oldest-executed = executed-at t rules 0 some ∙ ap (has (t .executed)) oldest-stage
 
     -- refusal 12: the oldest has not executed
     pub waiting-refused : has (t .executed) (t .oldest) ≡ false → Meets t commit m (refused 12) t m
@@ -65,8 +65,8 @@ module _ (t : Table) (rules : Rules t) (m : List ℕ) where
     module _ (done : has (t .executed) (t .oldest) ≡ true) where
       oldest-fate : fateOf (at (view t .refs) 0) ≡ oldestFate t
       oldest-fate =
-          sym (mark-fate t rules 0 some (ap (has (t .executed)) stage-zero ∙ done))
-          ∙ ap (λ (s : ℕ). markedFate (markOf (t .addresses) (t .loads) (t .stores) (t .values) s rowsAll)) stage-zero
+          sym (mark-fate t rules 0 some (ap (has (t .executed)) oldest-stage ∙ done))
+          ∙ ap (λ (s : ℕ). markedFate (markOf (t .addresses) (t .loads) (t .stores) (t .values) s rowsAll)) oldest-stage
 
       -- refusal 13: the oldest's address is W or more
       pub fault-refused : faults (t .words) (oldestFate t) ≡ true → Meets t commit m (refused 13) t m
@@ -88,7 +88,7 @@ module _ (t : Table) (rules : Rules t) (m : List ℕ) where
           rules
           (rw (eq-eqb (length m) (t .words) w, some-live, oldest-executed ∙ done, ap (faults (t .words)) oldest-fate ∙ f))
           tt
-          (rw (at-refs t 0 some, stage-zero))
+          (rw (at-refs t 0 some, oldest-stage))
           (retire-view t rules some)
           (ap (written m) (sym oldest-fate))
           (retire-rules t rules some)

@@ -20,7 +20,7 @@ use Rattle.table.specs.declared.Table.{Table}
 use Rattle.table.specs.Reference.{Fate, waiting, other, loaded, stored, Ref, ref, fateOf, at, blank, State}
 use Rattle.table.specs.Rules.{Rules}
 use Rattle.table.specs.View.{view, stageOf, address, loadMark, storeMark, mark, fateAt}
-use Rattle.table.proofs.Fates.{Fated, waits, bare, loads, stores, fated, mark-load, mark-store, length-refs, at-refs}
+use Rattle.table.proofs.Fates.{neither, Fated, waits, bare, loads, stores, fated, mark-load, mark-store, length-refs, at-refs}
 use Rattle.table.proofs.Fates.{fate-load, fate-store, fate-other, fate-waiting}
 use Rattle.table.proofs.Owning.{RowFor}
 use Rattle.lookup.specs.Rows.{touches, touched}
@@ -99,10 +99,6 @@ pub checked-after : (P : State) (p a : ℕ) → p < length (P .refs)
     → (p < checked P p a) × (checked P p a ≤ length (P .refs))
 checked-after P p a h =
     (omega arith, omega (arith, spared-le (drop (suc p) (P .refs)) a, length-drop (suc p) (P .refs)))
-
-neither : (b c : Bool) → (b || c) ≡ false → (b ≡ false) × (c ≡ false)
-neither true c e = absurd (true≢false e)
-neither false c e = (refl, e)
 
 untouched-at : (refs : List Ref) (a k : ℕ) → touched a refs ≡ false → k < length refs
     → touches a (fateOf (at refs k)) ≡ false

@@ -40,6 +40,9 @@ module _ (o n : ℕ) (start : o < n) where
       go true e = let l : o ≤ s = leb-true o s e in inl (l, rw e (omega arith))
       go false e = let l : s < o = leb-false o s e in inr (l, rw e (omega arith))
 
+  pub stage-zero : stage o n 0 ≡ o
+  stage-zero = turn-is o n 0 o (inl (omega arith, omega arith))
+
   pub stage-lt : (p : ℕ) → p ≤ n → stage o n p < n
   stage-lt p h = ⊎-elim (λ w. omega arith) (λ w. omega arith) (turn o n p)
 

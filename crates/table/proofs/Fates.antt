@@ -23,7 +23,7 @@ pub mark-store : (t : Table) (r s : ℕ) → storeMark t r s ≡ true → mark t
 mark-store t r s h = ap (λ (b : Bool). loadMark t r s || b) h ∙ or-true (loadMark t r s)
 
 -- neither of two tests passes where their disjunction fails
-neither : (a b : Bool) → (a || b) ≡ false → (a ≡ false) × (b ≡ false)
+pub neither : (a b : Bool) → (a || b) ≡ false → (a ≡ false) × (b ≡ false)
 neither true b h = absurd (true≢false h)
 neither false b h = (refl, h)
 

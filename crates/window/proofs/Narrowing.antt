@@ -7,7 +7,6 @@ use mathlib.Core.List.{List}
 use mathlib.Core.Logic.{⊎-elim}
 use mathlib.Core.Path.{_≡_, refl, sym, ap, ap₂, subst, _∙_}
 use Prim.Native.Nat.{ℕ, _+_, _-_, _≤_, _<_}
-use native.Mathlib.Nat.{add-zero}
 use native.Mathlib.Omega.{arith}
 use lib.Bits.{bitAnd, and-zero-l}
 use lib.Dec.{ltb}
@@ -17,7 +16,7 @@ use borrow.Author.Tests.{ltb-true, ltb-false, lt-ltb}
 use Rattle.marks.specs.Circle.{stage, position, firsts}
 use Rattle.marks.specs.Stages.{has}
 use Rattle.marks.proofs.Sets.{has-and}
-use Rattle.marks.proofs.Turns.{stage-lt, stage-from, firsts-has, firsts-at}
+use Rattle.marks.proofs.Turns.{stage-zero, stage-lt, stage-from, firsts-has, firsts-at}
 use Rattle.table.specs.declared.Table.{Table}
 use Rattle.table.specs.Moves.{keeping, retired}
 use Rattle.table.specs.Reference.{ref}
@@ -100,9 +99,6 @@ module _ (t : Table) (rules : Rules t) (f k : ℕ) (h : f + k ≤ t .live) where
   narrowed-view =
       tabulate-same (refAt (narrowed t (stageOf t f) k)) (λ (p : ℕ). refAt t (f + p)) k narrowed-ref
       ∙ sym (tabulate-window (refAt t) (t .live) f k h)
-
-stage-zero : (o n : ℕ) → o < n → stage o n 0 ≡ o
-stage-zero o n h = rw (add-zero o, lt-ltb o n h)
 
 -- a cut that drops references is the narrowing from position 0 on
 cut-narrows : (t : Table) → Rules t → (left : ℕ) → ltb left (t .live) ≡ true → cut t left ≡ narrowed t (stageOf t 0) left

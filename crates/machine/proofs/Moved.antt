@@ -1,0 +1,259 @@
+-- The calls that move the window's young end, past the verdict: issue is refused with 5 where every stage is live, with 6
+-- where no instruction is left, and otherwise adds an entry where the buffer adds a reference; squash is refused with 7 at a
+-- position that is not live, and otherwise cuts where the buffer does, whose ticket for that position names its reference.
+-- Assumes nothing.
+use mathlib.Core.Bool.{Bool, true, false, cond, _&&_}
+use mathlib.Core.List.{List, [], _∷_, _++_}
+use mathlib.Core.Path.{_≡_, refl, sym, ap, ap₂, _∙_}
+use Prim.Native.Nat.{ℕ, suc, _+_, _≤_, _<_}
+use native.Mathlib.Nat.{ne-of-lt, le-of-lt}
+use native.Mathlib.Numerals.{add-one}
+use native.Mathlib.Omega.{arith}
+use lib.Dec.{eqb, leb, ltb}
+use lib.ListN.{length, getD, take, set, length-append}
+use lib.Seq.{length-take-le}
+use borrow.Author.Tests.{lt-ltb, le-leb, lt-leb, eq-eqb, ne-eqb}
+use Rattle.marks.proofs.Turns.{stage-lt, position-stage}
+use Rattle.table.specs.declared.Table.{Table}
+use Rattle.table.specs.declared.Ticket.{Ticket}
+use Rattle.table.specs.Reference.{Ref, ref, waiting, numberOf, at}
+use Rattle.table.specs.View.{stageOf, view}
+use Rattle.table.specs.Moves.{issued, keeping}
+use Rattle.table.specs.Rules.{Rules}
+use Rattle.table.proofs.Sizes.{sizes}
+use Rattle.table.proofs.Lists.{tabulate-take}
+use Rattle.table.proofs.Fates.{length-refs, at-refs}
+use Rattle.buffer.specs.Answers as answers
+use Rattle.buffer.specs.Refusals.{when, refusal, place, names}
+use Rattle.buffer.specs.Calls as calls
+use Rattle.buffer.specs.Contract as contract
+use Rattle.machine.specs.declared.Entry.{Entry}
+use Rattle.machine.specs.declared.Fate.the-variants.{Waiting}
+use Rattle.machine.specs.declared.Machine.{Machine}
+use Rattle.machine.specs.Program.{instructionAt}
+use Rattle.machine.specs.Window.{entryAt}
+use Rattle.machine.specs.Calls.{
+  Plain,
+  issue,
+  squash,
+  refused,
+  position,
+  done,
+  Result,
+  programCheck,
+  judged,
+  goesOn,
+  respond,
+}
+use Rattle.machine.specs.Contract.{entryOf, plain, Meets}
+use Rattle.machine.specs.Parts.{entriesOf}
+use Rattle.machine.proofs.Sounding.{length-entries, entry-at}
+use Rattle.machine.proofs.Answering.{Passed, refused-meets, accepted-meets}
+use Rattle.machine.proofs.Reaching.{plain-by, entries-grow, sound-agreed, reached, agreed-grow, agreed-take}
+
+-- ---- what the buffer hands back
+
+-- its ticket of position p
+abbrev pub ticketOf : Table → ℕ → Ticket
+ticketOf t p = record { stage = stageOf t p; number = getD (t .numbers) (stageOf t p) 0 }
+
+module _ (t : Table) (rules : Rules t) (w : List ℕ) (said : answers.Answer) (after : Table) where
+  issue-view : t .live < t .stages → contract.Meets t calls.issue w said after w → view after ≡ issued (view t)
+  unfolding calls.respond
+  issue-view room meets =
+      let some : eqb (length (view t .refs)) (t .stages) ≡ false =
+      ap (λ (k : ℕ). eqb k (t .stages)) (length-refs t) ∙ ne-eqb (t .live) (t .stages) (ne-of-lt room) in
+      meets .state rules ∙ rw some
+
+  ticket-place : (p : ℕ) → p < t .live → place (view t) (ticketOf t p) ≡ p
+  ticket-place p h = position-stage (t .oldest) (t .stages) (rules .start) p (omega (arith, rules .room))
+
+  ticket-names : (p : ℕ) → p < t .live → names (view t) (ticketOf t p) ≡ true
+  ticket-names p h =
+      let n = getD (t .numbers) (stageOf t p) 0 in
+      ap₂ _&&_
+      (lt-ltb (stageOf t p) (t .stages) (stage-lt (t .oldest) (t .stages) (rules .start) p (omega (arith, rules .room))))
+      (ap (λ (q : ℕ). ltb q (length (view t .refs)) && eqb (numberOf (at (view t .refs) q)) n) (ticket-place p h)
+      ∙ ap₂ _&&_ (lt-ltb p (length (view t .refs)) (omega (arith, length-refs t)))
+      (ap (λ (r : Ref). eqb (numberOf r) n) (at-refs t p h) ∙ eq-eqb n n refl))
+
+  squash-view : (p : ℕ) → p < t .live → contract.Meets t (calls.squash (ticketOf t p)) w said after w
+      → view after ≡ keeping (view t) p
+  unfolding calls.respond
+  squash-view p h meets =
+      meets .state rules ∙ rw (ticket-names p h) (ap (keeping (view t)) (ticket-place p h))
+
+-- ---- issue
+
+-- the entry that an issue adds
+abbrev newEntry : List ℕ → ℕ → Entry
+newEntry program next = record { instruction = instructionAt program next; index = next; fate = Waiting }
+
+-- what an accepted issue comes to
+abbrev issuing : List ℕ → Plain → List ℕ → Result
+issuing program X w =
+    record {
+      answer = position (length (X .entries));
+      state = record {
+        buffer = issued (X .buffer);
+        entries = X .entries ++ (newEntry program (X .next) ∷ []);
+        registers = X .registers;
+        count = X .count;
+        next = suc (X .next);
+      };
+      memory = w;
+      list = [];
+    }
+
+-- the machine after an issue that left the buffer's table `after`
+abbrev pub issuedOver : List ℕ → Machine → Table → Machine
+issuedOver program m after =
+    record {
+      table = after;
+      window = set (m .window) (stageOf (m .table) (m .table .live)) (newEntry program (m .next));
+      registers = m .registers;
+      count = m .count;
+      next = m .next + 1;
+    }
+
+-- the number of an issue's refusal, past the verdict
+abbrev issueNumber : List ℕ → Plain → ℕ
+issueNumber program X =
+    refusal
+    (programCheck program X ∷ when (eqb (length (X .entries)) (X .buffer .stages)) 5 ∷ when (leb (X .count) (X .next)) 6 ∷ [])
+
+module _ (program : List ℕ) (m : Machine) (passed : Passed m program (m .table .words)) (w : List ℕ) where
+  issue-number : (a b : Bool) → eqb (m .table .live) (m .table .stages) ≡ a → leb (m .count) (m .next) ≡ b
+      → issueNumber program (plain m) ≡ cond a 5 (cond b 6 0)
+  issue-number a b e f =
+      passed .checks
+      (when (eqb (length (plain m .entries)) (m .table .stages)) 5 ∷ when (leb (m .count) (m .next)) 6 ∷ [])
+      ∙ ap₂ (λ (x y : Bool). cond x 5 (cond y 6 0)) (ap (λ (k : ℕ). eqb k (m .table .stages)) (length-entries m) ∙ e) f
+
+  -- what the definition says, by that number
+  issue-responds : (k : ℕ) → issueNumber program (plain m) ≡ k
+      → respond program issue (plain m) w ≡ judged k (plain m) w [] (issuing program (plain m) w)
+  unfolding respond
+  issue-responds k e = ap (λ (j : ℕ). judged j (plain m) w [] (issuing program (plain m) w)) e
+
+  pub issue-full : m .table .live ≡ m .table .stages → Meets program m issue w (refused 5) m w []
+  issue-full e =
+      refused-meets program m issue w 5 (passed .sound)
+      (issue-responds 5 (issue-number true (leb (m .count) (m .next)) (eq-eqb (m .table .live) (m .table .stages) e) refl))
+
+  pub issue-over : (m .table .live ≡ m .table .stages → ⊥) → m .count ≤ m .next → Meets program m issue w (refused 6) m w []
+  issue-over some e =
+      refused-meets program m issue w 6 (passed .sound)
+      (issue-responds 6
+      (issue-number false true (ne-eqb (m .table .live) (m .table .stages) some) (le-leb (m .count) (m .next) e)))
+
+  pub issue-meets : (said : answers.Answer) (after : Table) → contract.Meets (m .table) calls.issue w said after w
+      → length (m .window) ≡ 16 → m .table .live < m .table .stages → m .next < m .count
+      → Meets program m issue w (position (m .table .live)) (issuedOver program m after) w []
+  issue-meets said after meets long room left =
+      let rules = passed .sound .rules in
+      let u = issuedOver program m after in
+      let refs = view (m .table) .refs in
+      let e = newEntry program (m .next) in
+      let seen : view after ≡ issued (view (m .table)) = issue-view (m .table) rules w said after room meets in
+      let more : length (issued (view (m .table)) .refs) ≡ suc (m .table .live) =
+      length-append refs (ref (m .table .next) waiting ∷ []) ∙ ap (λ (k : ℕ). k + 1) (length-refs (m .table))
+      ∙ add-one (m .table .live) in
+      let wide : m .table .stages ≤ length (m .window) = omega (arith, sizes _ _ _ _ (rules .sizes) .stages) in
+      let entries : entriesOf (u .window) (m .table .oldest) (m .table .stages) (length (issued (view (m .table)) .refs))
+      ≡ plain m .entries ++ (e ∷ []) =
+      ap (entriesOf (u .window) (m .table .oldest) (m .table .stages)) more
+      ∙ entries-grow (m .window) (m .table .oldest) (m .table .stages) (rules .start) (m .table .live) e room wide in
+      let state : plain u ≡ issuing program (plain m) w .state =
+      plain-by u (issued (view (m .table))) seen
+      ∙ ap₂
+      (λ (es : List Entry) (k : ℕ).
+      record { buffer = issued (view (m .table)); entries = es; registers = m .registers; count = m .count; next = k })
+      entries (add-one (m .next)) in
+      accepted-meets program m issue w u w [] (position (m .table .live)) (issuing program (plain m) w) (passed .sound)
+      (issue-responds 0
+      (issue-number false false (ne-eqb (m .table .live) (m .table .stages) (ne-of-lt room))
+      (lt-leb (m .count) (m .next) left)))
+      tt
+      (ap position (sym (length-entries m)))
+      state
+      refl
+      refl
+      (reached u (issuing program (plain m) w .state) (meets .rules rules) state
+      (agreed-grow (plain m .entries) refs (sound-agreed m (passed .sound)) e (ref (m .table .next) waiting)
+      (length-entries m ∙ sym (length-refs (m .table))) refl))
+
+-- ---- squash
+
+-- what an accepted squash at position p comes to
+abbrev squashing : Plain → List ℕ → ℕ → Result
+squashing X w p =
+    record {
+      answer = done;
+      state = record {
+        buffer = keeping (X .buffer) p;
+        entries = take p (X .entries);
+        registers = X .registers;
+        count = X .count;
+        next = goesOn X p;
+      };
+      memory = w;
+      list = [];
+    }
+
+-- the machine after a squash at position p that left the buffer's table `after`
+abbrev pub squashedOver : Machine → ℕ → Table → Machine
+squashedOver m p after =
+    record {
+      table = after;
+      window = m .window;
+      registers = m .registers;
+      count = m .count;
+      next = entryOf m p .index;
+    }
+
+module _ (program : List ℕ) (m : Machine) (passed : Passed m program (m .table .words)) (w : List ℕ) (p : ℕ) where
+  squash-responds : (b : Bool) → leb (m .table .live) p ≡ b
+      → respond program (squash p) (plain m) w ≡ judged (cond b 7 0) (plain m) w [] (squashing (plain m) w p)
+  unfolding respond
+  squash-responds b e =
+      ap (λ (k : ℕ). judged k (plain m) w [] (squashing (plain m) w p))
+      (passed .checks (when (leb (length (plain m .entries)) p) 7 ∷ [])
+      ∙ ap (λ (x : Bool). cond x 7 0) (ap (λ (k : ℕ). leb k p) (length-entries m) ∙ e))
+
+  pub squash-beyond : m .table .live ≤ p → Meets program m (squash p) w (refused 7) m w []
+  squash-beyond h =
+      refused-meets program m (squash p) w 7 (passed .sound) (squash-responds true (le-leb (m .table .live) p h))
+
+  pub squash-meets : (said : answers.Answer) (after : Table)
+      → contract.Meets (m .table) (calls.squash (ticketOf (m .table) p)) w said after w → p < m .table .live
+      → Meets program m (squash p) w done (squashedOver m p after) w []
+  squash-meets said after meets h =
+      let rules = passed .sound .rules in
+      let u = squashedOver m p after in
+      let refs = view (m .table) .refs in
+      let seen : view after ≡ keeping (view (m .table)) p = squash-view (m .table) rules w said after p h meets in
+      let few : length (take p refs) ≡ p = length-take-le p refs (omega (arith, length-refs (m .table))) in
+      let entries : entriesOf (m .window) (m .table .oldest) (m .table .stages) (length (take p refs))
+      ≡ take p (plain m .entries) =
+      ap (entriesOf (m .window) (m .table .oldest) (m .table .stages)) few
+      ∙ sym (tabulate-take (entryOf m) (m .table .live) p (le-of-lt h)) in
+      let next : entryOf m p .index ≡ goesOn (plain m) p =
+      ap (λ (x : Entry). x .index) (sym (entry-at m p h))
+      ∙ ap (λ (b : Bool). cond b (entryAt (plain m .entries) p .index) (m .next))
+      (sym (lt-ltb p (length (plain m .entries)) (omega (arith, length-entries m)))) in
+      let state : plain u ≡ squashing (plain m) w p .state =
+      plain-by u (keeping (view (m .table)) p) seen
+      ∙ ap₂
+      (λ (es : List Entry) (k : ℕ).
+      record { buffer = keeping (view (m .table)) p; entries = es; registers = m .registers; count = m .count; next = k })
+      entries next in
+      accepted-meets program m (squash p) w u w [] done (squashing (plain m) w p) (passed .sound)
+      (squash-responds false (lt-leb (m .table .live) p h))
+      tt
+      refl
+      state
+      refl
+      refl
+      (reached u (squashing (plain m) w p .state) (meets .rules rules) state
+      (agreed-take (plain m .entries) refs (sound-agreed m (passed .sound)) p))

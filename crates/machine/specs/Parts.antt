@@ -1,0 +1,135 @@
+-- What the parts of a call compute, as the code does it, over the arrays lent or passed to them.
+-- Assumes nothing.
+use mathlib.Core.Bool.{Bool, true, false, cond, not, _&&_}
+use mathlib.Core.List.{List, [], _∷_}
+use mathlib.Core.Option.{Option, none, some}
+use Prim.Native.Nat.{ℕ, _+_, _-_, _*_}
+use lib.Dec.{eqb, ltb}
+use lib.ListN.{length, getD, set}
+use Rattle.marks.specs.Circle.{stage}
+use Rattle.marks.specs.Counting.{every}
+use Rattle.table.specs.declared.Ticket.{Ticket}
+use Rattle.table.specs.Reference
+use Rattle.table.specs.Reference.{waiting, other, loaded, stored}
+use Rattle.table.specs.View.{fateAt, stageOf, tabulate}
+use Rattle.table.specs.Check.{lawful}
+use Rattle.lookup.specs.Search.{find}
+use Rattle.buffer.specs.Refusals.{refusal, when}
+use Rattle.buffer.specs.Calls
+use Rattle.machine.specs.declared.Instruction.{Instruction}
+use Rattle.machine.specs.declared.Instruction.the-variants.{Add, Sum, Load, Store}
+use Rattle.machine.specs.declared.Fate.{Fate}
+use Rattle.machine.specs.declared.Fate.the-variants.{Waiting, Executed}
+use Rattle.machine.specs.declared.Entry.{Entry}
+use Rattle.machine.specs.declared.Machine.{Machine}
+use Rattle.machine.specs.declared.Operand.{Operand}
+use Rattle.machine.specs.declared.Operand.the-variants.{Unknown, Known}
+use Rattle.machine.specs.declared.Action.{Action}
+use Rattle.machine.specs.declared.Action.the-variants as action
+use Rattle.machine.specs.declared.Wanted.{Wanted}
+use Rattle.machine.specs.declared.Wanted.the-variants as wanted
+use Rattle.table.specs.declared.Table.{Table}
+use Rattle.buffer.specs.declared.ExecuteAnswer as buffer-answer
+use Rattle.buffer.specs.declared.ExecuteAnswer.the-variants as buffer-answers
+use Rattle.machine.specs.declared.Squashed.the-variants as squashed
+use Rattle.machine.specs.declared.ExecuteAnswer.the-variants as execute-answer
+use Rattle.machine.specs.declared.ExecuteResult.{ExecuteResult}
+use Rattle.machine.specs.Program.{sum, programFits}
+use Rattle.machine.specs.Window.{blankEntry, became, reference}
+use Rattle.machine.specs.Calls.{like}
+use Rattle.machine.specs.Contract.{entryOf, agree}
+
+-- the register that an instruction writes; 8 where it writes none
+abbrev pub destination : Instruction → ℕ
+destination (Add d s imm) = d
+destination (Sum d s r) = d
+destination (Load d s imm) = d
+destination (Store d s imm) = 8
+
+-- one more than the position of the nearest writer of register k older than position p; 0 where there is none
+abbrev pub writer : ℕ → ℕ → List ℕ → ℕ → ℕ → ℕ
+writer oldest stages destinations k p = find (λ (q : ℕ). eqb (getD destinations (stage oldest stages q) 0) k) p
+
+-- an operand as a number that may not be known yet
+abbrev pub asNumber : Operand → Option ℕ
+asNumber Unknown = none
+asNumber (Known v) = some v
+
+-- what an instruction asks of the buffer, with its value: nothing, a load of an address, a store at an address
+abbrev pub asCall : Action → Ticket → Calls.Call
+asCall (action.Compute v) τ = Calls.executeOther τ
+asCall (action.LoadAt a) τ = Calls.executeLoad τ a
+asCall (action.StoreAt a v) τ = Calls.executeStore τ a v
+
+-- the entry's fate after it, where a load took v
+abbrev pub fateAfter : Action → ℕ → Fate
+fateAfter (action.Compute x) v = Executed x 0
+fateAfter (action.LoadAt a) v = Executed v a
+fateAfter (action.StoreAt a x) v = Executed x a
+
+-- what an instruction with these operands asks
+abbrev pub actionOf : Instruction → ℕ → ℕ → Action
+actionOf (Add d s imm) x y = action.Compute (sum x imm)
+actionOf (Sum d s r) x y = action.Compute (sum x y)
+actionOf (Load d s imm) x y = action.LoadAt (sum x imm)
+actionOf (Store d s imm) x y = action.StoreAt (sum x imm) y
+
+-- the register of an instruction's second operand; of one that has none, the first again
+abbrev pub second : Instruction → ℕ
+second (Add d s imm) = s
+second (Sum d s r) = r
+second (Load d s imm) = s
+second (Store d s imm) = d
+
+-- a fate as two numbers: executed or not and with which mark, and the address
+abbrev pub kindOf : Reference.Fate → ℕ
+kindOf waiting = 3
+kindOf other = 0
+kindOf (loaded a) = 1
+kindOf (stored a v) = 2
+
+abbrev pub placeOf : Reference.Fate → ℕ
+placeOf waiting = 0
+placeOf other = 0
+placeOf (loaded a) = a
+placeOf (stored a v) = a
+
+-- the entries at the first k positions of a window by stage
+abbrev pub entriesOf : List Entry → ℕ → ℕ → ℕ → List Entry
+entriesOf window oldest stages k = tabulate (λ (p : ℕ). getD window (stage oldest stages p) blankEntry) k
+
+-- what an instruction at position p asks, if its operands are known
+abbrev pub wantedBy : Wanted → Option Action
+wantedBy wanted.Unready = none
+wantedBy (wanted.Ready x) = some x
+
+-- the window agrees with the table at the first k positions
+abbrev pub agreeing : Machine → ℕ → Bool
+agreeing m k = every (λ (p : ℕ). agree (reference (entryOf m p)) (fateAt (m .table) (stageOf (m .table) p))) k
+
+-- the conditions 2, 3 and 4, in that order, of a call lent a memory of this length
+abbrev pub verdictOf : Machine → List ℕ → ℕ → ℕ
+verdictOf m program lent =
+    refusal
+    (when (not (lawful (m .table) && agreeing m (m .table .live))) 2 ∷ when (not (eqb lent (m .table .words))) 3
+    ∷ when
+    (not
+    (programFits program && eqb (length program) (4 * m .count)
+    && every (λ (p : ℕ). like program (m .count) (entryOf m p)) (m .table .live)))
+    4
+    ∷ [])
+
+-- the machine and answer after the buffer answered an execution of the entry at stage s
+abbrev pub settled : Machine → Table → ℕ → Action → buffer-answer.ExecuteAnswer → ExecuteResult
+settled m after s act (buffer-answers.Refused k) = record { answer = execute-answer.Refused k; machine = m }
+settled m after s act (buffer-answers.Executed v q) =
+    record {
+      answer = execute-answer.Executed v (cond (ltb (after .live) (m .table .live)) (squashed.From (after .live)) squashed.Nothing);
+      machine = record {
+        table = after;
+        window = set (m .window) s (became (getD (m .window) s blankEntry) (fateAfter act v));
+        registers = m .registers;
+        count = m .count;
+        next = cond (ltb (after .live) (m .table .live)) (entryOf m (after .live) .index) (m .next);
+      };
+    }

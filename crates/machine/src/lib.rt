@@ -1,0 +1,966 @@
+// The window machine: small programs run out of order over the address resolution buffer.
+//
+// No call requires anything: what it is given that breaks a rule it refuses, with the numbers of specs/Calls.antt, and hands
+// everything back as it was passed. Each contract is `Meets` (or `Opens`) of specs/Contract.antt. The program is lent to each
+// call and checked there.
+use lookup::Mark;
+use table::Table;
+use table::Ticket;
+ghost use mathlib.Core.Path.{_≡_};
+ghost use mathlib.Core.Bool.{true, false, cond};
+ghost use mathlib.Core.List.{List, [], _∷_, map};
+ghost use mathlib.Core.Option.{some};
+ghost use Prim.Native.Nat.{ℕ, _+_, _*_, _/_, _≤_, _<_};
+ghost use lib.ListN.{length, getD};
+ghost use lib.Seq.{sets};
+ghost use Rattle.table.specs.Rules.{Rules};
+ghost use Rattle.table.specs.Reference.{fateOf, at};
+ghost use Rattle.table.specs.View.{view, stageOf, fateAt};
+ghost use Rattle.buffer.specs.Answers;
+ghost use Rattle.buffer.specs.Contract;
+ghost use Rattle.machine.specs.Program.{decoded, instructionAt, wellFormed, wellFormedAt, programFits, codeOf};
+ghost use Rattle.machine.specs.Window.{blankEntry, reference, held, with₂};
+ghost use Rattle.machine.specs.Calls.{refused, issue, execute, squash, commit, finish, dOf, sOf, immOf, same, like, waits, valueBy, addressBy, registersAfter, target, begun, ready};
+ghost use Rattle.machine.specs.Contract.{doneSays, issueSays, executeSays, commitSays, finishSays, agree, over, fresh, plain, Sound, Meets, Opens};
+ghost use Rattle.machine.specs.Parts.{destination, writer, asNumber, asCall, fateAfter, actionOf, second, verdictOf, kindOf, placeOf, entriesOf, wantedBy, settled};
+ghost use Rattle.machine.specs.declared.Entry.{Entry};
+ghost use Rattle.marks.specs.Circle.{stage};
+ghost use Rattle.marks.specs.Counting.{every};
+ghost use Rattle.table.specs.Reference.{waiting};
+ghost use Rattle.lookup.specs.Search.{markedFate};
+
+// An instruction: codes 1 (A), 2 (P), 3 (L) and 4 (S), each with d, s and imm.
+pub enum Instruction {
+    Add(u32, u32, u32),
+    Sum(u32, u32, u32),
+    Load(u32, u32, u32),
+    Store(u32, u32, u32),
+}
+
+// What became of an entry (its status): waiting, or executed with its value and address.
+pub enum Fate {
+    Waiting,
+    Executed(u32, u32),
+}
+
+// A window entry: the instruction, its index in the program, and what became of it.
+pub struct Entry {
+    pub instruction: Instruction,
+    pub index: u32,
+    pub fate: Fate,
+}
+
+// Entries stand at their stages. `count` is the number of instructions opened, `next` the index of the next to issue.
+pub struct Machine {
+    pub table: Table,
+    pub window: [Entry; 16],
+    pub registers: [u32; 8],
+    pub count: u32,
+    pub next: u32,
+}
+
+// From which position on entries were squashed, or that none was.
+pub enum Squashed {
+    Nothing,
+    From(usize),
+}
+
+// The answer of `open` and `squash`: a refusal's number, or that it was done.
+pub enum DoneAnswer {
+    Refused(u32),
+    Done,
+}
+
+// The answer of `issue`: the new position.
+pub enum IssueAnswer {
+    Refused(u32),
+    Issued(usize),
+}
+
+// The answer of `execute`: the value (of a load, else 0), and what was squashed.
+pub enum ExecuteAnswer {
+    Refused(u32),
+    Executed(u32, Squashed),
+}
+
+// The answer of `commit`: index, code, register (for S the address) and value.
+pub enum CommitAnswer {
+    Refused(u32),
+    Committed(u32, u32, u32, u32),
+}
+
+// The answer of `finish`: the number of commits.
+pub enum FinishAnswer {
+    Refused(u32),
+    Finished(usize),
+}
+
+pub struct DoneResult {
+    pub answer: DoneAnswer,
+    pub machine: Machine,
+}
+
+pub struct IssueResult {
+    pub answer: IssueAnswer,
+    pub machine: Machine,
+}
+
+pub struct ExecuteResult {
+    pub answer: ExecuteAnswer,
+    pub machine: Machine,
+}
+
+pub struct CommitResult {
+    pub answer: CommitAnswer,
+    pub machine: Machine,
+}
+
+pub struct FinishResult {
+    pub answer: FinishAnswer,
+    pub machine: Machine,
+}
+
+// An operand: the number, or that its writer has not executed.
+pub enum Operand {
+    Unknown,
+    Known(u32),
+}
+
+// What an instruction with its operands asks of the buffer: nothing but a value, a load of an address, a store at an address.
+pub enum Action {
+    Compute(u32),
+    LoadAt(u32),
+    StoreAt(u32, u32),
+}
+
+// What an instruction asks, where its operands are known.
+pub enum Wanted {
+    Unready,
+    Ready(Action),
+}
+
+// The instruction with these four numbers.
+fn decode(code: u32, d: u32, s: u32, imm: u32) -> Instruction
+    ensures { λ r. ⌜ r ≡ decoded code d s imm ⌝ }
+{
+    if code == 1 {
+        return Instruction::Add(d, s, imm);
+    }
+    if code == 2 {
+        return Instruction::Sum(d, s, imm);
+    }
+    if code == 3 {
+        return Instruction::Load(d, s, imm);
+    }
+    Instruction::Store(d, s, imm)
+}
+
+// The instruction at index `i` of the program.
+fn instruction_at(program: &[u32], i: usize) -> Instruction
+    requires { ⌜ i * 4 + 3 < length (now program) ⌝ }
+    ensures { λ r. ⌜ r ≡ instructionAt (now (program .entry)) i ⌝ }
+{
+    let k = i * 4;
+    decode(program[k], program[k + 1], program[k + 2], program[k + 3])
+}
+
+// Whether these four numbers are an instruction.
+fn well_formed(code: u32, d: u32, s: u32, imm: u32) -> bool
+    ensures { λ r. ⌜ r ≡ wellFormed code d s imm ⌝ }
+{
+    ((1 <= code) & (code <= 4)) & ((d <= 7) & (s <= 7)) & (!(code == 2) | (imm <= 7))
+}
+
+// Whether the program is whole instructions, each well formed.
+fn program_fits(program: &[u32]) -> bool
+    ensures { λ r. ⌜ r ≡ programFits (now (program .entry)) ⌝ }
+{
+    if program.len() % 4 != 0 {
+        return false;
+    }
+    let count = program.len() / 4;
+    let mut fit = true;
+    let mut i = 0;
+    while i < count {
+        let k = i * 4;
+        fit = fit & well_formed(program[k], program[k + 1], program[k + 2], program[k + 3]);
+        i += 1;
+    }
+    fit
+}
+
+// 01's code of an instruction.
+fn code_of(i: Instruction) -> u32
+    ensures { λ r. ⌜ r ≡ codeOf i ⌝ }
+{
+    match i {
+        Instruction::Add(_, _, _) => 1,
+        Instruction::Sum(_, _, _) => 2,
+        Instruction::Load(_, _, _) => 3,
+        Instruction::Store(_, _, _) => 4,
+    }
+}
+
+// An instruction's d, s and imm.
+fn d_of(i: Instruction) -> u32
+    ensures { λ r. ⌜ r ≡ dOf i ⌝ }
+{
+    match i {
+        Instruction::Add(d, _, _) => d,
+        Instruction::Sum(d, _, _) => d,
+        Instruction::Load(d, _, _) => d,
+        Instruction::Store(d, _, _) => d,
+    }
+}
+
+fn s_of(i: Instruction) -> u32
+    ensures { λ r. ⌜ r ≡ sOf i ⌝ }
+{
+    match i {
+        Instruction::Add(_, s, _) => s,
+        Instruction::Sum(_, s, _) => s,
+        Instruction::Load(_, s, _) => s,
+        Instruction::Store(_, s, _) => s,
+    }
+}
+
+fn imm_of(i: Instruction) -> u32
+    ensures { λ r. ⌜ r ≡ immOf i ⌝ }
+{
+    match i {
+        Instruction::Add(_, _, imm) => imm,
+        Instruction::Sum(_, _, r) => r,
+        Instruction::Load(_, _, imm) => imm,
+        Instruction::Store(_, _, imm) => imm,
+    }
+}
+
+// Whether two instructions are the same.
+fn same_instruction(i: Instruction, j: Instruction) -> bool
+    ensures { λ r. ⌜ r ≡ same i j ⌝ }
+{
+    (code_of(i) == code_of(j))
+        & (d_of(i) == d_of(j))
+        & (s_of(i) == s_of(j))
+        & (imm_of(i) == imm_of(j))
+}
+
+// Whether the entry is the program's instruction at its index.
+fn entry_fits(program: &[u32], count: u32, e: Entry) -> bool
+    requires { ⌜ length (now program) ≡ 4 * count ⌝ }
+    ensures { λ r. ⌜ r ≡ like (now (program .entry)) count e ⌝ }
+{
+    let index = e.index;
+    if index >= count {
+        return false;
+    }
+    let own = e.instruction;
+    same_instruction(instruction_at(program, index as usize), own)
+}
+
+// Whether the entries at the first `live` positions are the program's.
+fn entries_fit(
+    program: &[u32],
+    count: u32,
+    window: [Entry; 16],
+    oldest: usize,
+    stages: usize,
+    live: usize,
+) -> bool
+    requires { ⌜ (length (now program) ≡ 4 * count) × (oldest < stages) × (live ≤ stages) × (stages ≤ 16) ⌝ }
+    ensures { λ r. ⌜ r
+        ≡ every (λ (p : ℕ). like (now (program .entry)) count (getD window (stage oldest stages p) blankEntry)) live ⌝ }
+{
+    let mut fit = true;
+    let mut p = 0;
+    while p < live {
+        let e = window[marks::stage_at(oldest, stages, p)];
+        fit = fit & entry_fits(program, count, e);
+        p += 1;
+    }
+    fit
+}
+
+// An entry's kind and address as the buffer has them: 0 executed without memory, 1 a load, 2 a store, 3 waiting.
+fn entry_kind(e: Entry) -> u32
+    ensures { λ r. ⌜ r ≡ kindOf (reference e) ⌝ }
+{
+    let fate = e.fate;
+    let instruction = e.instruction;
+    match fate {
+        Fate::Waiting => 3,
+        Fate::Executed(_, _) => match instruction {
+            Instruction::Add(_, _, _) => 0,
+            Instruction::Sum(_, _, _) => 0,
+            Instruction::Load(_, _, _) => 1,
+            Instruction::Store(_, _, _) => 2,
+        },
+    }
+}
+
+fn entry_place(e: Entry) -> u32
+    ensures { λ r. ⌜ r ≡ placeOf (reference e) ⌝ }
+{
+    let fate = e.fate;
+    let instruction = e.instruction;
+    match fate {
+        Fate::Waiting => 0,
+        Fate::Executed(_, a) => match instruction {
+            Instruction::Add(_, _, _) => 0,
+            Instruction::Sum(_, _, _) => 0,
+            Instruction::Load(_, _, _) => a,
+            Instruction::Store(_, _, _) => a,
+        },
+    }
+}
+
+// The same of what the table's marks say of a stage.
+fn mark_kind(executed: bool, mark: Mark) -> u32
+    ensures { λ r. ⌜ r ≡ kindOf (cond executed (markedFate mark) waiting) ⌝ }
+{
+    if !executed {
+        return 3;
+    }
+    match mark {
+        Mark::Absent => 0,
+        Mark::Load(_) => 1,
+        Mark::Store(_, _) => 2,
+    }
+}
+
+fn mark_place(executed: bool, mark: Mark) -> u32
+    ensures { λ r. ⌜ r ≡ placeOf (cond executed (markedFate mark) waiting) ⌝ }
+{
+    if !executed {
+        return 0;
+    }
+    match mark {
+        Mark::Absent => 0,
+        Mark::Load(a) => a,
+        Mark::Store(a, _) => a,
+    }
+}
+
+// Whether window and table agree on the live stages: executed or not, at which address and with which mark.
+fn window_agrees(t: Table, window: [Entry; 16]) -> bool
+    requires { ⌜ Rules t ⌝ }
+    ensures { λ r. ⌜ r
+        ≡ every (λ (p : ℕ). agree (reference (getD window (stageOf t p) blankEntry)) (fateAt t (stageOf t p))) (t .live) ⌝ }
+{
+    let oldest = t.oldest;
+    let stages = t.stages;
+    let live = t.live;
+    let executed = t.executed;
+    let mut same = true;
+    let mut p = 0;
+    while p < live {
+        let s = marks::stage_at(oldest, stages, p);
+        let e = window[s];
+        let mark = lookup::mark_at(&t.addresses, &t.loads, &t.stores, &t.values, s);
+        let done = marks::contains(executed, s);
+        same = same
+            & (entry_kind(e) == mark_kind(done, mark))
+            & (entry_place(e) == mark_place(done, mark));
+        p += 1;
+    }
+    same
+}
+
+// Which of the conditions 2, 3 and 4 holds first, of a call lent a memory of this length; 0: none.
+fn verdict(m: Machine, program: &[u32], lent: usize) -> u32
+    ensures { λ r. ⌜ r ≡ verdictOf m (now (program .entry)) lent ⌝ }
+{
+    let t = m.table;
+    let oldest = t.oldest;
+    let stages = t.stages;
+    let live = t.live;
+    let window = m.window;
+    let count = m.count;
+    if !table::keeps_rules(
+        t.banks,
+        t.rows,
+        stages,
+        t.words,
+        oldest,
+        live,
+        t.executed,
+        &t.addresses,
+        &t.loads,
+        &t.stores,
+    ) {
+        return 2;
+    }
+    if !window_agrees(t, window) {
+        return 2;
+    }
+    if lent != t.words {
+        return 3;
+    }
+    if !program_fits(program) {
+        return 4;
+    }
+    if program.len() != 4 * (count as usize) {
+        return 4;
+    }
+    if !entries_fit(program, count, window, oldest, stages, live) {
+        return 4;
+    }
+    0
+}
+
+// The register that an instruction writes; 8 where it writes none.
+fn destination_of(i: Instruction) -> u32
+    ensures { λ r. ⌜ r ≡ destination i ⌝ }
+{
+    match i {
+        Instruction::Add(d, _, _) => d,
+        Instruction::Sum(d, _, _) => d,
+        Instruction::Load(d, _, _) => d,
+        Instruction::Store(_, _, _) => 8,
+    }
+}
+
+// The destinations of the entries, by stage: what the search for a writer reads.
+fn destinations(window: [Entry; 16]) -> [u32; 16]
+    ensures { λ r. ⌜ r ≡ map (λ (e : Entry). destination (e .instruction)) window ⌝ }
+{
+    let mut into = [0u32; 16];
+    let mut s = 0;
+    while s < 16 {
+        let e = window[s];
+        let i = e.instruction;
+        into[s] = destination_of(i);
+        s += 1;
+    }
+    into
+}
+
+// One more than the position of the nearest older writer of register `k`, or 0: the search goes on at the next older position.
+fn writer_of(oldest: usize, stages: usize, into: &[u32; 16], k: u32, p: usize) -> usize
+    requires { ⌜ (oldest < stages) × (stages ≤ 16) × (p ≤ stages) × (length (now into) ≡ 16) ⌝ }
+    ensures { λ r. ⌜ (r ≤ p) × (r ≡ writer oldest stages (now (into .entry)) k p) ⌝ }
+{
+    if p == 0 {
+        return 0;
+    }
+    let s = marks::stage_at(oldest, stages, p - 1);
+    if into[s] == k {
+        return p;
+    }
+    writer_of(oldest, stages, into, k, p - 1)
+}
+
+// What register `k` holds for the entry at position `p`.
+fn operand_at(
+    window: [Entry; 16],
+    registers: [u32; 8],
+    oldest: usize,
+    stages: usize,
+    k: u32,
+    p: usize,
+) -> Operand
+    requires { ⌜ (oldest < stages) × (stages ≤ 16) × (p ≤ stages) × (k < 8) ⌝ }
+    ensures { λ r. ⌜ asNumber r ≡ held (entriesOf window oldest stages p) k (some (getD registers k 0)) ⌝ }
+{
+    let into = destinations(window);
+    let w = writer_of(oldest, stages, &into, k, p);
+    if w == 0 {
+        return Operand::Known(registers[k as usize]);
+    }
+    let e = window[marks::stage_at(oldest, stages, w - 1)];
+    let fate = e.fate;
+    match fate {
+        Fate::Waiting => Operand::Unknown,
+        Fate::Executed(v, _) => Operand::Known(v),
+    }
+}
+
+// The register of an instruction's second operand; of one that has none, the first again.
+fn second_of(i: Instruction) -> u32
+    ensures { λ r. ⌜ r ≡ second i ⌝ }
+{
+    match i {
+        Instruction::Add(_, s, _) => s,
+        Instruction::Sum(_, _, r) => r,
+        Instruction::Load(_, s, _) => s,
+        Instruction::Store(d, _, _) => d,
+    }
+}
+
+// What the instruction asks with these operands; sums wrap.
+fn action_of(i: Instruction, x: u32, y: u32) -> Action
+    ensures { λ r. ⌜ r ≡ actionOf i x y ⌝ }
+{
+    match i {
+        Instruction::Add(_, _, imm) => Action::Compute(std::num::wrapping_add_u32(x, imm)),
+        Instruction::Sum(_, _, _) => Action::Compute(std::num::wrapping_add_u32(x, y)),
+        Instruction::Load(_, _, imm) => Action::LoadAt(std::num::wrapping_add_u32(x, imm)),
+        Instruction::Store(_, _, imm) => Action::StoreAt(std::num::wrapping_add_u32(x, imm), y),
+    }
+}
+
+// What the instruction at position `p` asks, if its operands are known.
+fn wanted_at(
+    window: [Entry; 16],
+    registers: [u32; 8],
+    oldest: usize,
+    stages: usize,
+    i: Instruction,
+    p: usize,
+) -> Wanted
+    requires { ⌜ (oldest < stages) × (stages ≤ 16) × (p ≤ stages) × (sOf i < 8) × (second i < 8) ⌝ }
+    ensures { λ r. ⌜ wantedBy r
+        ≡ with₂ (held (entriesOf window oldest stages p) (sOf i) (some (getD registers (sOf i) 0)))
+        (held (entriesOf window oldest stages p) (second i) (some (getD registers (second i) 0)))
+        (actionOf i) ⌝ }
+{
+    let first = operand_at(window, registers, oldest, stages, s_of(i), p);
+    let other = operand_at(window, registers, oldest, stages, second_of(i), p);
+    match first {
+        Operand::Unknown => Wanted::Unready,
+        Operand::Known(x) => match other {
+            Operand::Unknown => Wanted::Unready,
+            Operand::Known(y) => Wanted::Ready(action_of(i, x, y)),
+        },
+    }
+}
+
+// The execution that an action asks of the buffer.
+fn dispatch(t: Table, ticket: Ticket, action: Action, memory: &[u32]) -> buffer::ExecuteResult
+    ensures { λ r. ⌜ Contract.Meets t (asCall action ticket) (now (memory .entry)) (Answers.executeSays (r .answer)) (r .table)
+        (now (memory .entry)) ⌝ }
+{
+    match action {
+        Action::Compute(_) => buffer::execute_other(t, ticket, memory),
+        Action::LoadAt(a) => buffer::execute_load(t, ticket, a, memory),
+        Action::StoreAt(a, v) => buffer::execute_store(t, ticket, a, v, memory),
+    }
+}
+
+// The entry's fate after its execution, where a load took `v`.
+fn fate_after(action: Action, v: u32) -> Fate
+    ensures { λ r. ⌜ r ≡ fateAfter action v ⌝ }
+{
+    match action {
+        Action::Compute(x) => Fate::Executed(x, 0),
+        Action::LoadAt(a) => Fate::Executed(v, a),
+        Action::StoreAt(a, x) => Fate::Executed(x, a),
+    }
+}
+
+// Whether an entry waits.
+fn is_waiting(e: Entry) -> bool
+    ensures { λ r. ⌜ r ≡ waits (e .fate) ⌝ }
+{
+    let fate = e.fate;
+    match fate {
+        Fate::Waiting => true,
+        Fate::Executed(_, _) => false,
+    }
+}
+
+// A machine of `count` instructions over this table, with nothing in its window.
+fn empty(table: Table, count: u32) -> Machine
+    ensures { λ r. ⌜ r ≡ over table count ⌝ }
+{
+    Machine {
+        table,
+        window: [Entry {
+            instruction: Instruction::Add(0, 0, 0),
+            index: 0,
+            fate: Fate::Waiting,
+        }; 16],
+        registers: [0; 8],
+        count,
+        next: 0,
+    }
+}
+
+// A refused opening: a machine without stages.
+fn unopened(why: u32, memory: &[u32]) -> DoneResult
+    ensures { λ r. ⌜ (doneSays (r .answer) ≡ refused why) × (r .machine ≡ fresh 0 0 0 0 0) ⌝ }
+{
+    let closed = buffer::open(0, 0, 0, 0, memory);
+    let table = closed.table;
+    DoneResult {
+        answer: DoneAnswer::Refused(why),
+        machine: empty(table, 0),
+    }
+}
+
+// A machine for the program over a table of these sizes.
+pub fn open(
+    banks: usize,
+    rows: usize,
+    stages: usize,
+    words: usize,
+    program: &[u32],
+    memory: &[u32],
+) -> DoneResult
+    ensures { λ r. ⌜ Opens banks rows stages words (now (program .entry)) (now (memory .entry)) (doneSays (r .answer)) (r .machine) ⌝ }
+{
+    if !(table::sizes_fit(banks, rows, stages, words) & (program.len() <= 1024)) {
+        return unopened(1, memory);
+    }
+    if memory.len() != words {
+        return unopened(3, memory);
+    }
+    if !program_fits(program) {
+        return unopened(4, memory);
+    }
+    let opened = buffer::open(banks, rows, stages, words, memory);
+    let table = opened.table;
+    DoneResult {
+        answer: DoneAnswer::Done,
+        machine: empty(table, (program.len() / 4) as u32),
+    }
+}
+
+// Puts the next instruction in the next stage.
+pub fn issue(m: Machine, program: &[u32]) -> IssueResult
+    ensures { λ r. ⌜ ((w : List ℕ) → Meets (now (program .entry)) m issue w (issueSays (r .answer)) (r .machine) w []) ⌝ }
+{
+    let t = m.table;
+    let live = t.live;
+    let next = m.next;
+    let why = verdict(m, program, t.words);
+    if why != 0 {
+        return IssueResult {
+            answer: IssueAnswer::Refused(why),
+            machine: m,
+        };
+    }
+    if live == t.stages {
+        return IssueResult {
+            answer: IssueAnswer::Refused(5),
+            machine: m,
+        };
+    }
+    if m.count <= next {
+        return IssueResult {
+            answer: IssueAnswer::Refused(6),
+            machine: m,
+        };
+    }
+    let s = marks::stage_at(t.oldest, t.stages, live);
+    let issued = buffer::issue(t);
+    let after = issued.table;
+    let mut n = m;
+    n.table = after;
+    n.window[s] = Entry {
+        instruction: instruction_at(program, next as usize),
+        index: next,
+        fate: Fate::Waiting,
+    };
+    n.next = next + 1;
+    IssueResult {
+        answer: IssueAnswer::Issued(live),
+        machine: n,
+    }
+}
+
+// Executes the entry at position `p`.
+pub fn execute(m: Machine, program: &[u32], p: usize, memory: &[u32]) -> ExecuteResult
+    ensures { λ r. ⌜ Meets (now (program .entry)) m (execute p) (now (memory .entry)) (executeSays (r .answer)) (r .machine)
+        (now (memory .entry)) [] ⌝ }
+{
+    let why = verdict(m, program, memory.len());
+    if why != 0 {
+        return ExecuteResult {
+            answer: ExecuteAnswer::Refused(why),
+            machine: m,
+        };
+    }
+    let t = m.table;
+    let live = t.live;
+    let oldest = t.oldest;
+    let stages = t.stages;
+    if p >= live {
+        return ExecuteResult {
+            answer: ExecuteAnswer::Refused(7),
+            machine: m,
+        };
+    }
+    let s = marks::stage_at(oldest, stages, p);
+    let window = m.window;
+    let e = window[s];
+    if !is_waiting(e) {
+        return ExecuteResult {
+            answer: ExecuteAnswer::Refused(8),
+            machine: m,
+        };
+    }
+    let instruction = e.instruction;
+    let registers = m.registers;
+    let wanted = wanted_at(window, registers, oldest, stages, instruction, p);
+    let Wanted::Ready(action) = wanted else {
+        return ExecuteResult {
+            answer: ExecuteAnswer::Refused(9),
+            machine: m,
+        };
+    };
+    let number = t.numbers[s];
+    let ran = dispatch(t, Ticket { stage: s, number }, action, memory);
+    let said = ran.answer;
+    let after = ran.table;
+    settle(m, after, s, action, said)
+}
+
+// The machine after the buffer answered an execution of the entry at stage `s`: the entry's fate, and where issue goes on.
+fn settle(
+    m: Machine,
+    after: Table,
+    s: usize,
+    action: Action,
+    said: buffer::ExecuteAnswer,
+) -> ExecuteResult
+    requires { ⌜ (s < 16) × (m .table .oldest < m .table .stages) × (m .table .live ≤ m .table .stages) × (m .table .stages ≤ 16) ⌝ }
+    ensures { λ r. ⌜ r ≡ settled m after s action said ⌝ }
+{
+    match said {
+        buffer::ExecuteAnswer::Refused(k) => ExecuteResult {
+            answer: ExecuteAnswer::Refused(k),
+            machine: m,
+        },
+        buffer::ExecuteAnswer::Executed(v, _) => {
+            let before = m.table;
+            let window = m.window;
+            let e = window[s];
+            let instruction = e.instruction;
+            let left = after.live;
+            let mut n = m;
+            n.table = after;
+            n.window[s] = Entry {
+                instruction,
+                index: e.index,
+                fate: fate_after(action, v),
+            };
+            if left < before.live {
+                let f = window[marks::stage_at(before.oldest, before.stages, left)];
+                n.next = f.index;
+                return ExecuteResult {
+                    answer: ExecuteAnswer::Executed(v, Squashed::From(left)),
+                    machine: n,
+                };
+            }
+            ExecuteResult {
+                answer: ExecuteAnswer::Executed(v, Squashed::Nothing),
+                machine: n,
+            }
+        }
+    }
+}
+
+// Drops the entry at position `p` and everything younger; issue goes on there.
+pub fn squash(m: Machine, program: &[u32], p: usize) -> DoneResult
+    ensures { λ r. ⌜ ((w : List ℕ) → Meets (now (program .entry)) m (squash p) w (doneSays (r .answer)) (r .machine) w []) ⌝ }
+{
+    let t = m.table;
+    let why = verdict(m, program, t.words);
+    if why != 0 {
+        return DoneResult {
+            answer: DoneAnswer::Refused(why),
+            machine: m,
+        };
+    }
+    if p >= t.live {
+        return DoneResult {
+            answer: DoneAnswer::Refused(7),
+            machine: m,
+        };
+    }
+    let s = marks::stage_at(t.oldest, t.stages, p);
+    let window = m.window;
+    let e = window[s];
+    let number = t.numbers[s];
+    let squashed = buffer::squash(t, Ticket { stage: s, number });
+    let after = squashed.table;
+    let mut n = m;
+    n.table = after;
+    n.next = e.index;
+    DoneResult {
+        answer: DoneAnswer::Done,
+        machine: n,
+    }
+}
+
+// The registers after the commit of an instruction with value `v`.
+fn registers_after(registers: [u32; 8], i: Instruction, v: u32) -> [u32; 8]
+    ensures { λ r. ⌜ r ≡ registersAfter registers i v ⌝ }
+{
+    let d = destination_of(i);
+    let mut after = registers;
+    if d < 8 {
+        after[d as usize] = v;
+    }
+    after
+}
+
+// The value and the address of an entry.
+fn value_of(e: Entry) -> u32
+    ensures { λ r. ⌜ r ≡ valueBy (e .fate) ⌝ }
+{
+    let fate = e.fate;
+    match fate {
+        Fate::Waiting => 0,
+        Fate::Executed(v, _) => v,
+    }
+}
+
+// The third number of a commit: the register, for S the address.
+fn target_of(e: Entry) -> u32
+    ensures { λ r. ⌜ r ≡ target (e .instruction) (addressBy (e .fate)) ⌝ }
+{
+    let i = e.instruction;
+    let fate = e.fate;
+    match i {
+        Instruction::Add(d, _, _) => d,
+        Instruction::Sum(d, _, _) => d,
+        Instruction::Load(d, _, _) => d,
+        Instruction::Store(_, _, _) => match fate {
+            Fate::Waiting => 0,
+            Fate::Executed(_, a) => a,
+        },
+    }
+}
+
+// Commits the oldest entry: its register, or for S its memory word, takes the value.
+pub fn commit(m: Machine, program: &[u32], memory: &mut [u32]) -> CommitResult
+    ensures { λ r. ⌜ Meets (now (program .entry)) m commit (now (memory .entry)) (commitSays (r .answer)) (r .machine)
+        (now (memory .exit)) [] ⌝ }
+{
+    let why = verdict(m, program, memory.len());
+    if why != 0 {
+        return CommitResult {
+            answer: CommitAnswer::Refused(why),
+            machine: m,
+        };
+    }
+    let t = m.table;
+    let window = m.window;
+    let oldest = t.oldest;
+    let e = window[oldest];
+    let out = buffer::commit(t, memory);
+    let said = out.answer;
+    match said {
+        buffer::TicketAnswer::Refused(k) => CommitResult {
+            answer: CommitAnswer::Refused(k),
+            machine: m,
+        },
+        buffer::TicketAnswer::Named(_) => {
+            let after = out.table;
+            let i = e.instruction;
+            let v = value_of(e);
+            let held = m.registers;
+            let registers = registers_after(held, i, v);
+            let mut n = m;
+            n.table = after;
+            n.registers = registers;
+            CommitResult {
+                answer: CommitAnswer::Committed(e.index, code_of(i), target_of(e), v),
+                machine: n,
+            }
+        }
+    }
+}
+
+// The oldest issued where the window is empty.
+fn begin(m: Machine, program: &[u32]) -> Machine
+    requires { ⌜ Sound m ⌝ }
+    ensures { λ r. ⌜ Sound r × ((w : List ℕ) → plain r ≡ begun (now (program .entry)) (plain m) w) ⌝ }
+{
+    let t = m.table;
+    if t.live != 0 {
+        return m;
+    }
+    let issued = issue(m, program);
+    issued.machine
+}
+
+// The oldest on its way to its commit: issued where the window is empty, executed where it waits.
+fn make_ready(m: Machine, program: &[u32], memory: &[u32]) -> Machine
+    requires { ⌜ Sound m ⌝ }
+    ensures { λ r. ⌜ Sound r × (plain r ≡ ready (now (program .entry)) (plain m) (now (memory .entry))) ⌝ }
+{
+    let n = begin(m, program);
+    let t = n.table;
+    let oldest = t.oldest;
+    let window = n.window;
+    let e = window[oldest];
+    if is_waiting(e) {
+        let ran = execute(n, program, 0, memory);
+        return ran.machine;
+    }
+    n
+}
+
+// Four numbers from place `at` of the list on.
+fn put(list: &mut [u32], at: usize, i: u32, c: u32, r: u32, v: u32)
+    requires { ⌜ at + 4 ≤ length (now list) ⌝ }
+    ensures { λ x. ⌜ now (list .exit) ≡ sets (now (list .entry)) at (i ∷ c ∷ r ∷ v ∷ []) ⌝ }
+{
+    list[at] = i;
+    list[at + 1] = c;
+    list[at + 2] = r;
+    list[at + 3] = v;
+}
+
+// Takes the oldest to its commit again and again, until `k` commits, fewer than four places left in the list, the end of the
+// program, or a fault. Each commit's four numbers go to the list.
+pub fn finish(
+    m: Machine,
+    program: &[u32],
+    k: u32,
+    memory: &mut [u32],
+    list: &mut [u32],
+) -> FinishResult
+    ensures { λ r. ⌜ Meets (now (program .entry)) m (finish k (now (list .entry))) (now (memory .entry)) (finishSays (r .answer)) (r .machine)
+        (now (memory .exit)) (now (list .exit)) ⌝ }
+{
+    let why = verdict(m, program, memory.len());
+    if why != 0 {
+        return FinishResult {
+            answer: FinishAnswer::Refused(why),
+            machine: m,
+        };
+    }
+    let limit = k as usize;
+    let mut state = m;
+    let mut n: usize = 0;
+    while n < limit {
+        if list.len() - n * 4 < 4 {
+            return FinishResult {
+                answer: FinishAnswer::Finished(n),
+                machine: state,
+            };
+        }
+        let t = state.table;
+        if (t.live == 0) & (state.count <= state.next) {
+            return FinishResult {
+                answer: FinishAnswer::Finished(n),
+                machine: state,
+            };
+        }
+        let prepared = make_ready(state, program, memory);
+        let out = commit(prepared, program, memory);
+        let said = out.answer;
+        let after = out.machine;
+        state = after;
+        match said {
+            CommitAnswer::Refused(_) => {
+                return FinishResult {
+                    answer: FinishAnswer::Finished(n),
+                    machine: state,
+                };
+            }
+            CommitAnswer::Committed(i, c, r, v) => {
+                put(list, n * 4, i, c, r, v);
+                n += 1;
+            }
+        }
+    }
+    FinishResult {
+        answer: FinishAnswer::Finished(n),
+        machine: state,
+    }
+}

@@ -1,0 +1,149 @@
+-- The window alone, apart from any engine that disambiguates memory: its steps, and the invariant of the record theorem.
+-- What an engine owes is what the step `executing` asks of an execution: it leaves the executing entry and a prefix of the
+-- younger ones, and, of a store, no load among them that saw the word before. Squash and eviction take a prefix, so they
+-- keep the invariant for nothing; issue appends; a commit moves the oldest into registers and memory.
+-- Assumes nothing.
+use mathlib.Core.Path.{_≡_}
+use mathlib.Core.Bool.{Bool, true, false, cond}
+use mathlib.Core.List.{List, [], _∷_, _++_}
+use mathlib.Core.Option.{Option, some}
+use Prim.Native.Nat.{ℕ, suc, _-_, _*_, _/_, _≤_, _<_}
+use lib.Dec.{eqb, ltb}
+use lib.ListN.{length, getD, take, drop, set, replicate}
+use Rattle.table.specs.Reference
+use Rattle.table.specs.Reference.{waiting, other, loaded, stored}
+use Rattle.lookup.specs.Forwarding
+use Rattle.buffer.specs.Refusals.{faults}
+use Rattle.buffer.specs.Calls.{written}
+use Rattle.machine.specs.declared.Instruction.{Instruction}
+use Rattle.machine.specs.declared.Fate.{Fate}
+use Rattle.machine.specs.declared.Fate.the-variants.{Waiting, Executed}
+use Rattle.machine.specs.declared.Entry.{Entry}
+use Rattle.machine.specs.Program.{instructionAt, codeOf}
+use Rattle.theorem.specs.Sequential.{after}
+use Rattle.machine.specs.Window.{entryAt, became, leads, writesTo, valueOf, held, referenceBy, reference, outcome}
+use Rattle.machine.specs.Calls.{waits, valueBy, addressBy, registersAfter, target}
+
+-- entries oldest first, committed registers, memory, the next index, and the record and number of commits so far
+pub record Core : Type 0 where
+  pub entries : List Entry
+  pub registers : List ℕ
+  pub memory : List ℕ
+  pub next : ℕ
+  pub record′ : List ℕ
+  pub commits : ℕ
+
+-- the word at address a that is seen after these entries, where w stood before them
+unfoldable pub seenBy : List Entry → ℕ → ℕ → ℕ
+seenBy [] a w = w
+seenBy (e ∷ es) a w = seenBy es a (Forwarding.after (reference e) a w)
+
+-- registers and memory as an entry at position p sees them
+abbrev pub registersAt : Core → ℕ → ℕ → Option ℕ
+registersAt c p k = held (take p (c .entries)) k (some (getD (c .registers) k 0))
+
+abbrev pub memoryAt : Core → ℕ → ℕ → ℕ
+memoryAt c p a = seenBy (take p (c .entries)) a (getD (c .memory) a 0)
+
+-- no load of address a among these entries stands before every store to a: none of them saw the word before them
+abbrev pub clearBy : Reference.Fate → ℕ → Bool → Bool
+clearBy waiting a rest = rest
+clearBy other a rest = rest
+clearBy (loaded b) a rest = cond (eqb b a) false rest
+clearBy (stored b v) a rest = cond (eqb b a) true rest
+
+unfoldable pub clear : ℕ → List Entry → Bool
+clear a [] = true
+clear a (e ∷ es) = clearBy (reference e) a (clear a es)
+
+-- the entries that stay younger than one that executes to this fate: of a store, none saw the word before it
+abbrev pub Spares : Reference.Fate → List Entry → Type 0
+Spares waiting es = Unit {0}
+Spares other es = Unit {0}
+Spares (loaded a) es = Unit {0}
+Spares (stored a v) es = clear a es ≡ true
+
+-- the index of the first of these entries, else the next index
+abbrev pub headIndex : List Entry → ℕ → ℕ
+headIndex [] next = next
+headIndex (e ∷ es) next = e .index
+
+-- the first k entries stay, and issue goes on at the first that does not
+abbrev pub resumes : Core → ℕ → ℕ
+resumes c k = cond (ltb k (length (c .entries))) (entryAt (c .entries) k .index) (c .next)
+
+pub data Step (program : List ℕ) (c : Core) : Core → Type 0 where
+  issuing : c .next < length program / 4
+      → Step program c
+      (record {
+        entries = c .entries ++ (record { instruction = instructionAt program (c .next); index = c .next; fate = Waiting } ∷ []);
+        registers = c .registers;
+        memory = c .memory;
+        next = suc (c .next);
+        record′ = c .record′;
+        commits = c .commits;
+      })
+  executing : (p left : ℕ) (f : Fate) → p < left → left ≤ length (c .entries) → entryAt (c .entries) p .fate ≡ Waiting
+      → outcome (entryAt (c .entries) p .instruction) (registersAt c p) (memoryAt c p) ≡ some f
+      → Spares (referenceBy (entryAt (c .entries) p .instruction) f) (take (left - suc p) (drop (suc p) (c .entries)))
+      → Step program c
+      (record {
+        entries = take left (set (c .entries) p (became (entryAt (c .entries) p) f));
+        registers = c .registers;
+        memory = c .memory;
+        next = resumes c left;
+        record′ = c .record′;
+        commits = c .commits;
+      })
+  squashing : (k : ℕ)
+      → Step program c
+      (record {
+        entries = take k (c .entries);
+        registers = c .registers;
+        memory = c .memory;
+        next = resumes c k;
+        record′ = c .record′;
+        commits = c .commits;
+      })
+  committing : (e : Entry) (es : List Entry) → c .entries ≡ e ∷ es → waits (e .fate) ≡ false
+      → faults (length (c .memory)) (reference e) ≡ false
+      → Step program c
+      (record {
+        entries = es;
+        registers = registersAfter (c .registers) (e .instruction) (valueBy (e .fate));
+        memory = written (c .memory) (reference e);
+        next = c .next;
+        record′ = c .record′
+            ++ (e .index ∷ codeOf (e .instruction) ∷ target (e .instruction) (addressBy (e .fate)) ∷ valueBy (e .fate) ∷ []);
+        commits = suc (c .commits);
+      })
+
+-- an executed entry is what its instruction comes to over the registers and the memory that it sees
+abbrev pub Right : Instruction → (ℕ → Option ℕ) → (ℕ → ℕ) → Fate → Type 0
+Right i ρ μ Waiting = Unit {0}
+Right i ρ μ (Executed v a) = outcome i ρ μ ≡ some (Executed v a)
+
+-- Each entry is the program's instruction at its index, leads to the next one's index, and is right over what it sees.
+abbrev pub Good : List ℕ → ℕ → (ℕ → Option ℕ) → (ℕ → ℕ) → List Entry → Type 0
+Good program next ρ μ [] = Unit {0}
+Good program next ρ μ (e ∷ es) =
+    Right (e .instruction) ρ μ (e .fate) × (e .instruction ≡ instructionAt program (e .index)) × (e .index < length program / 4)
+    × (leads e ≡ headIndex es next)
+    × Good program next (λ (k : ℕ). cond (writesTo (e .instruction) k) (valueOf (e .fate)) (ρ k))
+    (λ (a : ℕ). Forwarding.after (reference e) a (μ a))
+    es
+
+-- What is kept: registers, memory and record are those of the sequential run after as many steps as were committed, whose
+-- next index is the oldest entry's, and the window is good over them. The record has four numbers a commit, so each of the
+-- run's steps was a real one.
+pub record Kept (program memory : List ℕ) (c : Core) : Type 0 where
+  pub registers : c .registers ≡ after program memory (c .commits) .registers
+  pub lent : c .memory ≡ after program memory (c .commits) .memory
+  pub record′ : c .record′ ≡ after program memory (c .commits) .record′
+  pub index : headIndex (c .entries) (c .next) ≡ after program memory (c .commits) .index
+  pub fours : length (c .record′) ≡ c .commits * 4
+  pub good : Good program (c .next) (λ (k : ℕ). some (getD (c .registers) k 0)) (λ (a : ℕ). getD (c .memory) a 0) (c .entries)
+
+-- the window of a program just opened
+abbrev pub fresh : List ℕ → Core
+fresh memory = record { entries = []; registers = replicate 8 0; memory = memory; next = 0; record′ = []; commits = 0 }

@@ -1,0 +1,163 @@
+-- A finish, and so every call, is some steps of the window. The oldest is made ready by an issue and an execution, refused or
+-- not: both leave memory and commit nothing, so what they reach is reached with the same record. Then it is committed. Only
+-- the answer with a commit's four numbers goes on, after any other the finish stops. So its numbers are four a commit, and the
+-- start of its list, as long as its answer tells, is those numbers.
+-- Assumes nothing.
+use mathlib.Core.Path.{_≡_, refl}
+use mathlib.Core.Bool.{Bool, true, false, cond, _||_}
+use mathlib.Core.List.{List, [], _∷_, _++_, append-nil, append-assoc}
+use Prim.Native.Nat.{ℕ, zero, suc, _+_, _-_, _*_}
+use native.Mathlib.Nat.{add-zero}
+use native.Mathlib.Omega.{arith}
+use lib.Dec.{eqb, ltb}
+use lib.ListN.{length, drop}
+use lib.Seq.{take-at}
+use Rattle.buffer.specs.Refusals.{refusal, wrongLength}
+use Rattle.machine.specs.Window.{entryAt}
+use Rattle.machine.specs.Calls.{Plain, Call, issue, execute, squash, commit, finish, Answer, refused, position, executed}
+use Rattle.machine.specs.Calls.{done, committed, finished, Result, waits, programCheck, issues, executions, commits, begun}
+use Rattle.machine.specs.Calls.{ready, over, Way, goOn, stopped, finishes, finishing, respond}
+use Rattle.theorem.specs.Play.{recorded, counted}
+use Rattle.theorem.proofs.Linked.{Linked, coreOf, Steps, stays, steps-join, Links, steps-quiet}
+use Rattle.machine.specs.Calls.{issueChecks, executeChecks}
+use Rattle.theorem.proofs.Linking.{issue-links, execute-links, squash-links, commit-links}
+
+-- what holds of both ways of a choice holds of the chosen one
+either : {A : Type 0} (P : A → Type 0) (t : Bool) {x y : A} → P x → P y → P (cond t x y)
+either P true p q = p
+either P false p q = q
+
+-- the end of a way from X: its state is linked, its numbers and commits are those of steps, and the numbers are four a commit
+record Goes (program : List ℕ) (X : Plain) (memory : List ℕ) (w : Way) : Type 0 where
+  linked : Linked program (w .state) (w .memory)
+  steps : (rec : List ℕ) (n : ℕ)
+      → Steps program (coreOf X memory rec n) (coreOf (w .state) (w .memory) (rec ++ w .numbers) (n + w .commits))
+  fours : length (w .numbers) ≡ w .commits * 4
+
+goes-stopped : (program : List ℕ) (X : Plain) (memory : List ℕ) → Linked program X memory
+    → Goes program X memory (stopped X memory)
+goes-stopped program X memory l =
+    record { linked = l; steps = λ rec n. steps-quiet stays; fours = refl }
+
+-- Y is linked and reached from X by steps that record nothing
+record Reaches (program : List ℕ) (X Y : Plain) (memory : List ℕ) : Type 0 where
+  linked : Linked program Y memory
+  steps : (rec : List ℕ) (n : ℕ) → Steps program (coreOf X memory rec n) (coreOf Y memory rec n)
+
+reaches-self : (program : List ℕ) (X : Plain) (memory : List ℕ) → Linked program X memory → Reaches program X X memory
+reaches-self program X memory l = record { linked = l; steps = λ rec n. stays }
+
+reaches-join : {program memory : List ℕ} {X Y Z : Plain} → Reaches program X Y memory → Reaches program Y Z memory
+    → Reaches program X Z memory
+reaches-join r s = record { linked = s .linked; steps = λ rec n. steps-join (r .steps rec n) (s .steps rec n) }
+
+-- a call that leaves memory and answers no commit
+record Quiet (memory : List ℕ) (r : Result) : Type 0 where
+  keeps : r .memory ≡ memory
+  nothing : recorded (r .answer) (r .list) ≡ []
+  uncounted : counted (r .answer) ≡ 0
+
+issue-quiet : (program : List ℕ) (X : Plain) (memory : List ℕ) → Quiet memory (issues program X memory)
+issue-quiet program X memory =
+    either (Quiet memory) (eqb (refusal (issueChecks program X)) 0) (record { keeps = refl; nothing = refl; uncounted = refl })
+    (record { keeps = refl; nothing = refl; uncounted = refl })
+
+execute-quiet : (program : List ℕ) (X : Plain) (memory : List ℕ) (p : ℕ) → Quiet memory (executions program X memory p)
+execute-quiet program X memory p =
+    either (Quiet memory) (eqb (refusal (executeChecks program X memory p)) 0)
+    (record { keeps = refl; nothing = refl; uncounted = refl })
+    (record { keeps = refl; nothing = refl; uncounted = refl })
+
+quiet-reaches : (program : List ℕ) (X : Plain) (memory : List ℕ) (r : Result) → Quiet memory r → Links program X memory r
+    → Reaches program X (r .state) memory
+quiet-reaches program X memory r q l =
+    record {
+      linked = rw (q .keeps) at (l .linked);
+      steps = λ rec n. rw (q .keeps, q .nothing, q .uncounted, append-nil, add-zero) at (l .steps rec n);
+    }
+
+-- the oldest is issued where nothing is live, and executed where it waits
+begun-reaches : (program : List ℕ) (X : Plain) (memory : List ℕ) → Linked program X memory
+    → Reaches program X (begun program X memory) memory
+begun-reaches program X memory l =
+    either (λ Y. Reaches program X Y memory) (eqb (length (X .entries)) 0)
+    (quiet-reaches program X memory (issues program X memory) (issue-quiet program X memory) (issue-links program X memory l))
+    (reaches-self program X memory l)
+
+ready-reaches : (program : List ℕ) (X : Plain) (memory : List ℕ) → Linked program X memory
+    → Reaches program X (ready program X memory) memory
+ready-reaches program X memory l =
+    let Y = begun program X memory in
+    let b = begun-reaches program X memory l in
+    either (λ Z. Reaches program X Z memory) (waits (entryAt (Y .entries) 0 .fate))
+    (reaches-join b
+    (quiet-reaches program Y memory (executions program Y memory 0) (execute-quiet program Y memory 0)
+    (execute-links program Y memory (b .linked) 0)))
+    b
+
+reaches-goes : {program memory : List ℕ} {X Y : Plain} {w : Way} → Reaches program X Y memory → Goes program Y memory w
+    → Goes program X memory w
+reaches-goes r g =
+    record { linked = g .linked; steps = λ rec n. steps-join (r .steps rec n) (g .steps rec n); fours = g .fours }
+
+-- the count of a way with one commit before it
+one-more : (n m : ℕ) → n + 1 + m ≡ n + suc m
+one-more n m = omega arith
+
+-- after a commit's answer: its numbers stand before those of the rest
+answer-goes : (program : List ℕ) (Y : Plain) (memory : List ℕ) → Linked program Y memory → (a : Answer) (Z : Plain)
+    (words list : List ℕ)
+    → Links program Y memory (record { answer = a; state = Z; memory = words; list = list })
+    → (rest : Way)
+    → Goes program Z words rest
+    → Goes program Y memory (goOn a (stopped Y memory) rest)
+answer-goes program Y memory l (refused k) Z words list h rest g = goes-stopped program Y memory l
+answer-goes program Y memory l (position p) Z words list h rest g = goes-stopped program Y memory l
+answer-goes program Y memory l (executed v s) Z words list h rest g = goes-stopped program Y memory l
+answer-goes program Y memory l done Z words list h rest g = goes-stopped program Y memory l
+answer-goes program Y memory l (committed i c r v) Z words list h rest g =
+    record {
+      linked = g .linked;
+      steps = λ rec n.
+          steps-join (h .steps rec n)
+          (rw (append-assoc rec (i ∷ c ∷ r ∷ v ∷ []) (rest .numbers), one-more n (rest .commits)) at
+          (g .steps (rec ++ (i ∷ c ∷ r ∷ v ∷ [])) (n + 1)));
+      fours = omega (arith, g .fours);
+    }
+answer-goes program Y memory l (finished n) Z words list h rest g = goes-stopped program Y memory l
+
+finishes-goes : (program : List ℕ) (k places : ℕ) (X : Plain) (memory : List ℕ) → Linked program X memory
+    → Goes program X memory (finishes program k places X memory)
+unfolding finishes
+finishes-goes program zero places X memory l = goes-stopped program X memory l
+finishes-goes program (suc k) places X memory l =
+    let Y = ready program X memory in
+    let y = ready-reaches program X memory l in
+    let r = commits program Y memory in
+    let h = commit-links program Y memory (y .linked) in
+    either (Goes program X memory) (ltb places 4 || over X) (goes-stopped program X memory l)
+    (reaches-goes y
+    (answer-goes program Y memory (y .linked) (r .answer) (r .state) (r .memory) (r .list) h _
+    (finishes-goes program k (places - 4) (r .state) (r .memory) (h .linked))))
+
+pub finish-links : (program : List ℕ) (X : Plain) (memory : List ℕ) → Linked program X memory → (k : ℕ) (list : List ℕ)
+    → Links program X memory (finishing program X memory k list)
+finish-links program X memory l k list =
+    let w = finishes program k (length list) X memory in
+    let g = finishes-goes program k (length list) X memory l in
+    either (Links program X memory) (eqb (refusal (wrongLength (X .buffer .words) memory ∷ programCheck program X ∷ [])) 0)
+    (record {
+      linked = g .linked;
+      steps = λ rec n.
+          rw (take-at (w .numbers) (drop (length (w .numbers)) list) (w .commits * 4) (g .fours)) (g .steps rec n);
+    })
+    (record { linked = l; steps = λ rec n. steps-quiet stays })
+
+pub respond-links : (program : List ℕ) (c : Call) (X : Plain) (memory : List ℕ) → Linked program X memory
+    → Links program X memory (respond program c X memory)
+unfolding respond
+respond-links program issue X memory l = issue-links program X memory l
+respond-links program (execute p) X memory l = execute-links program X memory l p
+respond-links program (squash p) X memory l = squash-links program X memory l p
+respond-links program commit X memory l = commit-links program X memory l
+respond-links program (finish k list) X memory l = finish-links program X memory l k list

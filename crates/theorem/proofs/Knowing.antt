@@ -1,0 +1,104 @@
+-- What is right stays right where more is known (good-more). Registers gain knowledge when a waiting entry executes: an
+-- outcome over known operands is the same over registers that know more. The memory seen changes where a store executes. It
+-- may change at each address that is clear among the entries, since none of them loads from there before one of them stores
+-- there. Assumes nothing.
+use mathlib.Core.Path.{_≡_, refl, sym, ap, _∙_}
+use mathlib.Core.Bool.{Bool, true, false, cond}
+use mathlib.Core.List.{List, [], _∷_}
+use mathlib.Core.Option.{Option, none, some, Option·none-ne-some}
+use Prim.Native.Nat.{ℕ}
+use lib.Dec.{eqb}
+use borrow.Author.Tests.{eq-eqb}
+use Rattle.table.specs.Reference
+use Rattle.table.specs.Reference.{waiting, other, loaded, stored}
+use Rattle.lookup.specs.Forwarding
+use Rattle.machine.specs.declared.Instruction.{Instruction}
+use Rattle.machine.specs.declared.Instruction.the-variants.{Add, Sum, Load, Store}
+use Rattle.machine.specs.declared.Fate.{Fate}
+use Rattle.machine.specs.declared.Fate.the-variants.{Waiting, Executed}
+use Rattle.machine.specs.declared.Entry.{Entry}
+use Rattle.machine.specs.Program.{sum}
+use Rattle.machine.specs.Window.{writesTo, valueOf, referenceBy, reference, with₂}
+use Rattle.theorem.proofs.Core.{clearBy, clear, Right, Good}
+
+-- what x tells, y tells too
+abbrev pub Tells : Option ℕ → Option ℕ → Type 0
+Tells x y = (v : ℕ) → x ≡ some v → y ≡ some v
+
+pub unknown-tells : (y : Option ℕ) → Tells none y
+unknown-tells y v e = absurd (Option·none-ne-some v e)
+
+-- the memories agree at the address that a load read
+abbrev SameRead : Reference.Fate → (ℕ → ℕ) → (ℕ → ℕ) → Type 0
+SameRead waiting μ μ′ = Unit {0}
+SameRead other μ μ′ = Unit {0}
+SameRead (loaded a) μ μ′ = μ a ≡ μ′ a
+SameRead (stored a v) μ μ′ = Unit {0}
+
+more₂ : {A : Type 0} (x y x′ y′ : Option ℕ) (g : ℕ → ℕ → A) (f : A) → Tells x x′ → Tells y y′ → with₂ x y g ≡ some f
+    → with₂ x′ y′ g ≡ some f
+more₂ none y x′ y′ g f k l h = absurd (Option·none-ne-some f h)
+more₂ (some u) none x′ y′ g f k l h = absurd (Option·none-ne-some f h)
+more₂ (some u) (some w) x′ y′ g f k l h = rw (k u refl, l w refl) h
+
+-- of a load the word read must be the same
+more-load : (x x′ : Option ℕ) (imm v a : ℕ) (μ μ′ : ℕ → ℕ) → Tells x x′ → μ a ≡ μ′ a
+    → with₂ x (some imm) (λ b c. Executed (μ (sum b c)) (sum b c)) ≡ some (Executed v a)
+    → with₂ x′ (some imm) (λ b c. Executed (μ′ (sum b c)) (sum b c)) ≡ some (Executed v a)
+more-load none x′ imm v a μ μ′ k m h = absurd (Option·none-ne-some (Executed v a) h)
+more-load (some u) x′ imm v a μ μ′ k m h =
+    let at : sum u imm ≡ a = cc in
+    rw (k u refl, at) (let w : μ a ≡ v = ap μ (sym at) ∙ cc in cc)
+
+right-more : (i : Instruction) (f : Fate) (ρ ρ′ : ℕ → Option ℕ) (μ μ′ : ℕ → ℕ) → ((k : ℕ) → Tells (ρ k) (ρ′ k))
+    → SameRead (referenceBy i f) μ μ′ → Right i ρ μ f → Right i ρ′ μ′ f
+right-more i Waiting ρ ρ′ μ μ′ k m h = tt
+right-more (Add d s imm) (Executed v a) ρ ρ′ μ μ′ k m h = more₂ (ρ s) (some imm) (ρ′ s) (some imm) _ _ (k s) (λ w e. e) h
+right-more (Sum d s r) (Executed v a) ρ ρ′ μ μ′ k m h = more₂ (ρ s) (ρ r) (ρ′ s) (ρ′ r) _ _ (k s) (k r) h
+right-more (Load d s imm) (Executed v a) ρ ρ′ μ μ′ k m h = more-load (ρ s) (ρ′ s) imm v a μ μ′ (k s) m h
+right-more (Store d s imm) (Executed v a) ρ ρ′ μ μ′ k m h = more₂ (ρ s) (ρ d) (ρ′ s) (ρ′ d) _ _ (k s) (k d) h
+
+-- past an entry
+tells-past : (t : Bool) (x y y′ : Option ℕ) → Tells y y′ → Tells (cond t x y) (cond t x y′)
+tells-past true x y y′ k = λ v e. e
+tells-past false x y y′ k = k
+
+past-load : (t rest : Bool) → rest ≡ false → cond t false rest ≡ false
+past-load true rest e = refl
+past-load false rest e = e
+
+past-store : (t rest : Bool) (v w w′ : ℕ) → rest ≡ false → (cond t true rest ≡ false → w ≡ w′)
+    → cond t v w ≡ cond t v w′
+past-store true rest v w w′ e agree = refl
+past-store false rest v w w′ e agree = agree e
+
+-- The memories agree at each address that is not clear. So they agree at what the oldest read, and again past it.
+module _ (μ μ′ : ℕ → ℕ) (es : List Entry) where
+  same-read : (r : Reference.Fate) → ((b : ℕ) → clearBy r b (clear b es) ≡ false → μ b ≡ μ′ b) → SameRead r μ μ′
+  same-read waiting agree = tt
+  same-read other agree = tt
+  same-read (loaded a) agree = agree a (rw (eq-eqb a a refl))
+  same-read (stored a v) agree = tt
+
+  same-past : (r : Reference.Fate) → ((b : ℕ) → clearBy r b (clear b es) ≡ false → μ b ≡ μ′ b)
+      → (b : ℕ) → clear b es ≡ false → Forwarding.after r b (μ b) ≡ Forwarding.after r b (μ′ b)
+  same-past waiting agree b e = agree b e
+  same-past other agree b e = agree b e
+  same-past (loaded a) agree b e = agree b (past-load (eqb a b) (clear b es) e)
+  same-past (stored a v) agree b e = past-store (eqb a b) (clear b es) v (μ b) (μ′ b) e (agree b)
+
+pub good-more : (program : List ℕ) (next : ℕ) (es : List Entry) (ρ ρ′ : ℕ → Option ℕ) (μ μ′ : ℕ → ℕ)
+    → ((k : ℕ) → Tells (ρ k) (ρ′ k)) → ((b : ℕ) → clear b es ≡ false → μ b ≡ μ′ b)
+    → Good program next ρ μ es → Good program next ρ′ μ′ es
+unfolding clear
+good-more program next [] ρ ρ′ μ μ′ k m g = tt
+good-more program next (e ∷ es) ρ ρ′ μ μ′ k m g = (
+  right-more (e .instruction) (e .fate) ρ ρ′ μ μ′ k (same-read μ μ′ es (reference e) m) (g .0),
+  g .1,
+  g .2,
+  g .3,
+  good-more program next es _ _ _ _
+      (λ j. tells-past (writesTo (e .instruction) j) (valueOf (e .fate)) (ρ j) (ρ′ j) (k j))
+      (same-past μ μ′ es (reference e) m)
+      (g .4),
+)

@@ -1,0 +1,345 @@
+-- The machine's calls over the plain state are steps of the window alone: the buffer meets what an engine owes. Each accepted
+-- call is one step, whose conditions are the checks that it passed; for an execution the buffer owes the rest (Paired). The
+-- references move with the entries, so the result is linked again. Where the window is empty and instructions are left, issue
+-- is accepted; execution of an oldest entry that waits is accepted, as its operands are the committed registers and it never
+-- stalls; and so is the commit of an oldest entry that executed without a fault. Assumes nothing.
+use mathlib.Core.Bool.{Bool, true, false, cond, not, _&&_, true≢false, and-eq-true-iff}
+use mathlib.Core.List.{List, [], _∷_}
+use mathlib.Core.Option.{Option, none, some}
+use mathlib.Core.Path.{_≡_, refl, sym, ap, ap₂, fun-ext, _∙_}
+use Prim.Native.Nat.{ℕ, _*_, _/_, _%_, _<_, zero-le}
+use native.Mathlib.Nat.{not-suc-le-zero}
+use native.Mathlib.Numerals.{add-one}
+use native.Mathlib.Omega.{arith}
+use lib.Dec.{eqb, leb}
+use lib.ListN.{length, getD, take, drop, set, length-append, length-take, length-drop, length-set}
+use lib.Seq.{take-set-lt}
+use borrow.Author.Tests.{leb-false, eqb-true, eqb-false, not-false, lt-ltb, lt-leb, eq-eqb, ne-eqb}
+use Rattle.table.specs.Bank.{bank}
+use Rattle.table.specs.Limits.{sizesFit}
+use Rattle.table.specs.Reference
+use Rattle.table.specs.Reference.{waiting, other, loaded, stored, Ref, ref, numberOf, fateOf, at, State}
+use Rattle.table.proofs.Sizes.{Sizes, sizes}
+use Rattle.lookup.specs.Forwarding.{seen}
+use Rattle.lookup.specs.Outcome.{room, leaves}
+use Rattle.lookup.specs.Rows.{touched}
+use Rattle.lookup.specs.Violation.{checked}
+use Rattle.lookup.proofs.Violations.{checked-after}
+use Rattle.lookup.proofs.Firsts.{never-stalls}
+use Rattle.buffer.specs.Refusals.{Check, when, refusal, wrongLength, faults}
+use Rattle.buffer.specs.Calls.{written}
+use Rattle.machine.specs.declared.Instruction.{Instruction}
+use Rattle.machine.specs.declared.Instruction.the-variants.{Add, Sum, Load, Store}
+use Rattle.machine.specs.declared.Fate.{Fate}
+use Rattle.machine.specs.declared.Fate.the-variants.{Waiting, Executed}
+use Rattle.machine.specs.declared.Entry.{Entry}
+use Rattle.machine.specs.Program.{programFits, codeOf, instructionAt}
+use Rattle.machine.specs.Window.{entryAt, became, held, referenceBy, reference, outcome}
+use Rattle.machine.specs.Calls
+use Rattle.machine.specs.Calls.{Plain, Result, waits, dOf, sOf, immOf, same, like, programCheck, issues, coming}
+use Rattle.machine.specs.Calls.{known, unknown, stay, executions, squashes, commits, openChecks, opened}
+use Rattle.machine.specs.Calls.{issueChecks, executeChecks, commitChecks}
+use Rattle.theorem.specs.Play.{counted, isRefused}
+use Rattle.theorem.proofs.Core.{issuing, executing, squashing, committing}
+use Rattle.theorem.proofs.Paired.{Each, each-next, each-take, each-drop, each-set, Fated, seen-paired, owed}
+use Rattle.theorem.proofs.Linked.{steps-quiet, judged-links, passes, program-passes, lent-passes}
+use Rattle.machine.proofs.Answering.{judged-accepted}
+pub use Rattle.theorem.proofs.Linked.{Linked, coreOf, Steps, stays, goes, steps-join, Links}
+
+-- ---- opening
+
+whole : (program : List ℕ) → programFits program ≡ true → length program ≡ 4 * (length program / 4)
+unfolding programFits
+whole program h =
+    omega (arith, eqb-true (length program % 4) 0 (and-eq-true-iff (eqb (length program % 4) 0) _ .0 h .0))
+
+pub linked-open : (banks rows stages words : ℕ) (program memory : List ℕ)
+    → refusal (openChecks banks rows stages words program memory) ≡ 0
+    → Linked program (opened banks rows stages words program) memory
+linked-open banks rows stages words program memory z =
+    let fit = sizesFit banks rows stages words && leb (length program) 1024 in
+    let sized = passes (not fit) 0 _ z in
+    let lent = passes (not (eqb (length memory) words)) 2 _ (sized .1) in
+    let fits = not-false (programFits program) (passes (not (programFits program)) 3 0 (lent .1) .0) in
+    record {
+      sized = and-eq-true-iff (sizesFit banks rows stages words) (leb (length program) 1024) .0 (not-false fit (sized .0)) .0;
+      lent = eqb-true (length memory) words (not-false (eqb (length memory) words) (lent .0));
+      fits = fits;
+      counted = whole program fits;
+      paired = refl;
+      room = zero-le;
+      fates = λ p h. absurd (not-suc-le-zero h);
+      alike = λ p h. absurd (not-suc-le-zero h);
+    }
+
+-- ---- issue
+
+same-refl : (i : Instruction) → same i i ≡ true
+same-refl i =
+    ap₂ _&&_
+    (ap₂ _&&_ (ap₂ _&&_ (eq-eqb (codeOf i) (codeOf i) refl) (eq-eqb (dOf i) (dOf i) refl)) (eq-eqb (sOf i) (sOf i) refl))
+    (eq-eqb (immOf i) (immOf i) refl)
+
+-- an entry is the program's instruction at its index
+abbrev Alike : List ℕ → ℕ → Ref → Entry → Type 0
+Alike program count r e = like program count e ≡ true
+
+module _ (program : List ℕ) (X : Plain) (memory : List ℕ) (linked : Linked program X memory) where
+  abbrev fated : Each Fated (X .buffer .refs) (X .entries)
+  fated = (linked .paired, linked .fates)
+
+  abbrev all-alike : Each (Alike program (X .count)) (X .buffer .refs) (X .entries)
+  all-alike = (linked .paired, linked .alike)
+
+  pub issue-links : Links program X memory (issues program X memory)
+  issue-links =
+      judged-links program X memory (refusal (issueChecks program X)) _ linked
+      (λ z.
+      let passed = sym (program-passes program X memory linked (drop 1 (issueChecks program X))) ∙ z in
+      let five = passes (eqb (length (X .entries)) (X .buffer .stages)) 4 _ passed in
+      let six = passes (leb (X .count) (X .next)) 5 0 (five .1) in
+      let left : X .next < X .count = leb-false (X .count) (X .next) (six .0) in
+      let e : Entry = record { instruction = instructionAt program (X .next); index = X .next; fate = Waiting } in
+      let moved = each-next Fated (X .buffer .refs) (X .entries) fated (ref (X .buffer .next) waiting) e refl in
+      record {
+        linked = record {
+          sized = linked .sized;
+          lent = linked .lent;
+          fits = linked .fits;
+          counted = linked .counted;
+          paired = moved .0;
+          room = omega (
+            arith,
+            linked .room,
+            eqb-false (length (X .entries)) (X .buffer .stages) (five .0),
+            length-append (X .entries) (e ∷ []),
+          );
+          fates = moved .1;
+          alike =
+              each-next (Alike program (X .count)) (X .buffer .refs) (X .entries) all-alike (ref (X .buffer .next) waiting) e
+              (ap₂ _&&_ (lt-ltb (X .next) (X .count) left) (same-refl (instructionAt program (X .next)))) .1;
+        };
+        steps = λ numbers n. steps-quiet (goes stays (issuing (omega (arith, linked .counted))));
+      })
+
+-- ---- execute
+
+is-waiting : (f : Fate) → waits f ≡ true → f ≡ Waiting
+is-waiting Waiting h = refl
+is-waiting (Executed v a) h = absurd (true≢false (sym h))
+
+is-known : (o : Option Fate) → unknown o ≡ false → o ≡ some (known o)
+is-known none h = absurd (true≢false h)
+is-known (some f) h = refl
+
+module _ (program : List ℕ) (X : Plain) (memory : List ℕ) (linked : Linked program X memory) (p : ℕ) where
+  -- the entry at position p executes to fate f
+  executing-links : (f : Fate) → p < length (X .entries) → waits (entryAt (X .entries) p .fate) ≡ true
+      → coming X memory p ≡ some f → (stay X p f ≡ 0 → ⊥)
+      → Links program X memory (Calls.executing X memory p f (stay X p f))
+  executing-links f live w comes runs =
+      let refs = X .buffer .refs in
+      let es = X .entries in
+      let left = stay X p f in
+      let i = entryAt es p .instruction in
+      let r : Ref = ref (numberOf (at (take left refs) p)) (referenceBy i f) in
+      let e = became (entryAt es p) f in
+      let all = fated program X memory linked in
+      let o = owed (X .buffer) es all p (omega (arith, linked .paired)) (referenceBy i f) runs in
+      let moves = take-set-lt left es p e (o .after) in
+      let moved = each-set Fated (take left refs) (take left es) (each-take Fated refs es all left) p r e refl in
+      let likes = Alike program (X .count) in
+      let liked = each-take likes refs es (all-alike program X memory linked) left in
+      record {
+        linked = record {
+          sized = linked .sized;
+          lent = linked .lent;
+          fits = linked .fits;
+          counted = linked .counted;
+          paired = rw moves (moved .0);
+          room = omega (arith, linked .room, length-take left (set es p e), length-set es p e);
+          fates = rw moves (moved .1);
+          alike = rw moves (each-set likes (take left refs) (take left es) liked p r e (linked .alike p live) .1);
+        };
+        steps = λ numbers n.
+            steps-quiet
+            (goes stays
+            (executing p left f (o .after) (omega (arith, o .within, linked .paired)) (is-waiting (entryAt es p .fate) w)
+            (ap (outcome i (λ (k : ℕ). held (take p es) k (some (getD (X .registers) k 0))))
+            (fun-ext (λ a. sym (seen-paired (take p refs) (take p es) a (getD memory a 0) (each-take Fated refs es all p))))
+            ∙ comes)
+            (o .spares)));
+      }
+
+  pub execute-links : Links program X memory (executions program X memory p)
+  execute-links =
+      judged-links program X memory (refusal (executeChecks program X memory p)) _ linked
+      (λ z.
+      let passed = sym (lent-passes program X memory linked (drop 2 (executeChecks program X memory p))) ∙ z in
+      let seven = passes (leb (length (X .entries)) p) 6 _ passed in
+      let eight = passes (not (waits (entryAt (X .entries) p .fate))) 7 _ (seven .1) in
+      let nine = passes (unknown (coming X memory p)) 8 _ (eight .1) in
+      let ten = passes (eqb (stay X p (known (coming X memory p))) 0) 9 0 (nine .1) in
+      executing-links (known (coming X memory p)) (leb-false (length (X .entries)) p (seven .0))
+      (not-false (waits (entryAt (X .entries) p .fate)) (eight .0)) (is-known (coming X memory p) (nine .0))
+      (eqb-false (stay X p (known (coming X memory p))) 0 (ten .0)))
+
+  -- ---- squash
+  pub squash-links : Links program X memory (squashes program X memory p)
+  squash-links =
+      judged-links program X memory (refusal (programCheck program X ∷ when (leb (length (X .entries)) p) 7 ∷ [])) _ linked
+      (λ z.
+      let moved = each-take Fated (X .buffer .refs) (X .entries) (fated program X memory linked) p in
+      record {
+        linked = record {
+          sized = linked .sized;
+          lent = linked .lent;
+          fits = linked .fits;
+          counted = linked .counted;
+          paired = moved .0;
+          room = omega (arith, linked .room, length-take p (X .entries));
+          fates = moved .1;
+          alike =
+              each-take (Alike program (X .count)) (X .buffer .refs) (X .entries) (all-alike program X memory linked) p .1;
+        };
+        steps = λ numbers n. steps-quiet (goes stays (squashing p));
+      })
+
+-- ---- commit
+
+oldest-first : (es : List Entry) → (length es ≡ 0 → ⊥) → es ≡ entryAt es 0 ∷ drop 1 es
+oldest-first [] h = absurd (h refl)
+oldest-first (e ∷ es) h = refl
+
+written-length : (memory : List ℕ) (f : Reference.Fate) → length (written memory f) ≡ length memory
+written-length memory waiting = refl
+written-length memory other = refl
+written-length memory (loaded a) = refl
+written-length memory (stored a v) = length-set memory a v
+
+module _ (program : List ℕ) (X : Plain) (memory : List ℕ) (linked : Linked program X memory) where
+  pub commit-links : Links program X memory (commits program X memory)
+  commit-links =
+      judged-links program X memory (refusal (commitChecks program X memory)) _ linked
+      (λ z.
+      let passed = sym (lent-passes program X memory linked (drop 2 (commitChecks program X memory))) ∙ z in
+      let eleven = passes (eqb (length (X .entries)) 0) 10 _ passed in
+      let twelve = passes (waits (entryAt (X .entries) 0 .fate)) 11 _ (eleven .1) in
+      let e = entryAt (X .entries) 0 in
+      let thirteen = passes (faults (X .buffer .words) (reference e)) 12 0 (twelve .1) in
+      let live = eqb-false (length (X .entries)) 0 (eleven .0) in
+      let fate = linked .fates 0 (omega arith) in
+      let moved = each-drop Fated (X .buffer .refs) (X .entries) (fated program X memory linked) 1 in
+      record {
+        linked = record {
+          sized = linked .sized;
+          lent = written-length memory (fateOf (at (X .buffer .refs) 0)) ∙ linked .lent;
+          fits = linked .fits;
+          counted = linked .counted;
+          paired = moved .0;
+          room = omega (arith, linked .room, length-drop 1 (X .entries));
+          fates = moved .1;
+          alike =
+              each-drop (Alike program (X .count)) (X .buffer .refs) (X .entries) (all-alike program X memory linked) 1 .1;
+        };
+        steps = λ numbers n.
+            rw (fate, add-one n)
+            (goes stays
+            (committing e (drop 1 (X .entries)) (oldest-first (X .entries) live) (twelve .0)
+            (ap (λ (k : ℕ). faults k (reference e)) (linked .lent) ∙ thirteen .0)));
+      })
+
+-- ---- when the oldest's calls are accepted
+
+-- the other way round: a check that is passed adds no number
+skips : (c : Bool) (k rest : ℕ) → c ≡ false → rest ≡ 0 → cond c k rest ≡ 0
+skips c k rest h z = rw (h, z)
+
+-- an instruction whose registers are all known comes to something
+all-known : (i : Instruction) (registers memory : ℕ → ℕ) → unknown (outcome i (λ (k : ℕ). some (registers k)) memory) ≡ false
+all-known (Add d s imm) registers memory = refl
+all-known (Sum d s r) registers memory = refl
+all-known (Load d s imm) registers memory = refl
+all-known (Store d s imm) registers memory = refl
+
+-- the operands of the oldest are the committed registers
+oldest-comes : (X : Plain) (memory : List ℕ) → unknown (coming X memory 0) ≡ false
+unfolding held
+oldest-comes X memory =
+    all-known (entryAt (X .entries) 0 .instruction) (λ (k : ℕ). getD (X .registers) k 0)
+    (λ (a : ℕ). seen (take 0 (X .buffer .refs)) a (getD memory a 0))
+
+-- the oldest, where it waits, never stalls
+oldest-leaves : (P : State) → 0 < P .rows → 0 < length (P .refs) → fateOf (at (P .refs) 0) ≡ waiting
+    → (f : Reference.Fate) → leaves P 0 f ≡ 0 → ⊥
+oldest-leaves P rows live w waiting z = omega arith
+oldest-leaves P rows live w other z = omega arith
+oldest-leaves P rows live w (loaded a) z = go (touched a (P .refs)) z
+  where
+    go : (t : Bool) → cond t (length (P .refs)) (room P 0 (bank (P .banks) a)) ≡ 0 → ⊥
+    go true y = omega arith
+    go false y = never-stalls P (bank (P .banks) a) rows live w y
+oldest-leaves P rows live w (stored a v) z = go (touched a (P .refs)) z
+  where
+    go : (t : Bool) → cond t (checked P 0 a) (room P 0 (bank (P .banks) a)) ≡ 0 → ⊥
+    go true y = omega (arith, checked-after P 0 a live)
+    go false y = never-stalls P (bank (P .banks) a) rows live w y
+
+module _ (program : List ℕ) (X : Plain) (memory : List ℕ) (linked : Linked program X memory) where
+  abbrev size : Sizes (X .buffer .banks) (X .buffer .rows) (X .buffer .stages) (X .buffer .words)
+  size = sizes (X .buffer .banks) (X .buffer .rows) (X .buffer .stages) (X .buffer .words) (linked .sized)
+
+  pub issue-accepted : length (X .entries) ≡ 0 → X .next < X .count → refusal (issueChecks program X) ≡ 0
+  issue-accepted empty left =
+      program-passes program X memory linked (drop 1 (issueChecks program X))
+      ∙ skips _ 5 _
+      (ne-eqb (length (X .entries)) (X .buffer .stages) (λ full. omega (arith, size .some-stage)))
+      (skips _ 6 0 (lt-leb (X .count) (X .next) left) refl)
+
+  pub issue-answered : length (X .entries) ≡ 0 → X .next < X .count → isRefused (issues program X memory .answer) ≡ false
+  issue-answered empty left =
+      ap (λ (r : Result). isRefused (r .answer))
+      (judged-accepted (refusal (issueChecks program X)) X memory [] _ (issue-accepted empty left))
+
+  module _ (e : Entry) (es : List Entry) (is : X .entries ≡ e ∷ es) where
+    pub execute-accepted : waits (e .fate) ≡ true → refusal (executeChecks program X memory 0) ≡ 0
+    execute-accepted w =
+        let live : 0 < length (X .entries) = omega (arith, ap length is) in
+        let oldest = ap (λ (ys : List Entry). entryAt ys 0 .fate) is in
+        let i = entryAt (X .entries) 0 .instruction in
+        lent-passes program X memory linked (drop 2 (executeChecks program X memory 0))
+        ∙ skips _ 7 _ (lt-leb (length (X .entries)) 0 live)
+        (skips _ 8 _ (ap (λ (f : Fate). not (waits f)) oldest ∙ ap not w)
+        (skips _ 9 _ (oldest-comes X memory)
+        (skips _ 10 0
+        (ne-eqb (stay X 0 (known (coming X memory 0))) 0
+        (oldest-leaves (X .buffer) (size .some-row) (omega (arith, linked .paired))
+        (linked .fates 0 live ∙ ap (referenceBy i) (oldest ∙ is-waiting (e .fate) w))
+        (referenceBy i (known (coming X memory 0)))))
+        refl)))
+
+    pub execute-answered : waits (e .fate) ≡ true → isRefused (executions program X memory 0 .answer) ≡ false
+    execute-answered w =
+        ap (λ (r : Result). isRefused (r .answer))
+        (judged-accepted (refusal (executeChecks program X memory 0)) X memory [] _ (execute-accepted w))
+
+    module _ (executed : waits (e .fate) ≡ false) (clean : faults (length memory) (reference e) ≡ false) where
+      pub commit-accepted : refusal (commitChecks program X memory) ≡ 0
+      commit-accepted =
+          let oldest = ap (λ (ys : List Entry). entryAt ys 0) is in
+          lent-passes program X memory linked (drop 2 (commitChecks program X memory))
+          ∙ skips _ 11 _ (ne-eqb (length (X .entries)) 0 (λ empty. omega (arith, ap length is)))
+          (skips _ 12 _ (ap (λ (y : Entry). waits (y .fate)) oldest ∙ executed)
+          (skips _ 13 0
+          (ap₂ (λ (k : ℕ) (y : Entry). faults k (reference y)) (sym (linked .lent)) oldest ∙ clean)
+          refl))
+
+      pub commit-answered : isRefused (commits program X memory .answer) ≡ false
+      commit-answered =
+          ap (λ (r : Result). isRefused (r .answer))
+          (judged-accepted (refusal (commitChecks program X memory)) X memory [] _ commit-accepted)
+
+      pub commit-counted : counted (commits program X memory .answer) ≡ 1
+      commit-counted =
+          ap (λ (r : Result). counted (r .answer))
+          (judged-accepted (refusal (commitChecks program X memory)) X memory [] _ commit-accepted)

@@ -1,0 +1,187 @@
+-- The buffer's references beside the window's entries, position by position, and what the buffer owes the window of it: an
+-- entry sees the memory that its reference does, and an execution that does not stall leaves the executing reference, no more
+-- than all, and of a store no younger load that saw the word before. The last is one walk over both lists: what stays is a
+-- part of what `spared` leaves, also where the address had no row, as `spared` then leaves all. Assumes nothing.
+use mathlib.Core.Bool.{Bool, true, false, cond}
+use mathlib.Core.List.{List, [], _∷_, _++_}
+use mathlib.Core.Path.{_≡_, refl, sym, ap, subst, _∙_}
+use Prim.Native.Nat.{ℕ, zero, suc, _+_, _-_, _≤_, _<_, min}
+use native.Mathlib.Nat.{le-refl}
+use native.Mathlib.Omega.{arith}
+use lib.Dec.{eqb, ltb}
+use lib.ListN.{length, take, drop, set, length-append, length-take, length-drop, length-set, List·getD-append}
+use lib.Seq.{getD-take, getD-drop, getD-set-same, getD-set-other, getD-at}
+use borrow.Author.Tests.{ltb-true, ltb-false, eqb-true, eqb-false}
+use Rattle.marks.specs.Counting.{last}
+use Rattle.table.specs.Bank.{bank}
+use Rattle.table.specs.Reference.{Fate, waiting, other, loaded, stored, Ref, ref, blank, fateOf, at, State}
+use Rattle.lookup.specs.Forwarding.{after, seen}
+use Rattle.lookup.specs.Violation.{met, spared, checked}
+use Rattle.lookup.specs.Rows.{touched, used, youngest}
+use Rattle.lookup.specs.Outcome.{room, leaves}
+use Rattle.lookup.proofs.Violations.{checked-after, untouched-checked}
+use Rattle.machine.specs.declared.Entry.{Entry}
+use Rattle.machine.specs.Window.{blankEntry, entryAt, reference}
+use Rattle.theorem.proofs.Core.{seenBy, clearBy, clear, Spares}
+
+-- the lists have one length, and what stands at each position is related
+abbrev pub Each : (Ref → Entry → Type 0) → List Ref → List Entry → Type 0
+Each P rs es = (length rs ≡ length es) × ((p : ℕ) → p < length es → P (at rs p) (entryAt es p))
+
+module _ (P : Ref → Entry → Type 0) (rs : List Ref) (es : List Entry) (all : Each P rs es) where
+  pub each-next : (r : Ref) (e : Entry) → P r e → Each P (rs ++ (r ∷ [])) (es ++ (e ∷ []))
+  each-next r e h =
+      (simp length-append (omega (arith, all .0)), λ p l. go p l (ltb p (length es)) refl)
+    where
+      go : (p : ℕ) → p < length (es ++ (e ∷ [])) → (t : Bool) → ltb p (length es) ≡ t
+          → P (at (rs ++ (r ∷ [])) p) (entryAt (es ++ (e ∷ [])) p)
+      go p l true t =
+          let i : p < length es = ltb-true p (length es) t in
+          rw (List·getD-append rs (r ∷ []) blank p (omega (arith, all .0)), List·getD-append es (e ∷ []) blankEntry p i)
+          (all .1 p i)
+      go p l false t =
+          let i : length es ≡ p = omega (arith, ltb-false p (length es) t, length-append es (e ∷ [])) in
+          rw (getD-at rs r [] blank p (all .0 ∙ i), getD-at es e [] blankEntry p i) h
+
+  pub each-take : (k : ℕ) → Each P (take k rs) (take k es)
+  each-take k =
+      (length-take k rs ∙ ap (min k) (all .0) ∙ sym (length-take k es), λ p l. go p l (length-take k es))
+    where
+      go : (p : ℕ) → p < length (take k es) → length (take k es) ≡ min k (length es)
+          → P (at (take k rs) p) (entryAt (take k es) p)
+      go p l m =
+          let i : p < k = omega arith in
+          rw (getD-take k rs p blank i, getD-take k es p blankEntry i) (all .1 p (omega arith))
+
+  pub each-drop : (k : ℕ) → Each P (drop k rs) (drop k es)
+  each-drop k = (
+    length-drop k rs ∙ ap (λ (n : ℕ). n - k) (all .0) ∙ sym (length-drop k es),
+    λ p l. rw (getD-drop k rs p blank, getD-drop k es p blankEntry) (all .1 (k + p) (omega (arith, length-drop k es))),
+  )
+
+  pub each-set : (p : ℕ) (r : Ref) (e : Entry) → P r e → Each P (set rs p r) (set es p e)
+  each-set p r e h =
+      (length-set rs p r ∙ all .0 ∙ sym (length-set es p e), λ q l. go q (rw (length-set es p e) at l) (eqb q p) refl)
+    where
+      go : (q : ℕ) → q < length es → (t : Bool) → eqb q p ≡ t → P (at (set rs p r) q) (entryAt (set es p e) q)
+      go q l true t =
+          let i : q ≡ p = eqb-true q p t in
+          subst (λ (j : ℕ). P (at (set rs p r) j) (entryAt (set es p e) j)) (sym i)
+          (rw (
+            getD-set-same rs p r blank (omega (arith, all .0)),
+            getD-set-same es p e blankEntry (omega arith),
+          ) h)
+      go q l false t =
+          let i = eqb-false q p t in
+          rw (getD-set-other rs p q r blank i, getD-set-other es p q e blankEntry i) (all .1 q l)
+
+-- a reference bears its entry's fate
+abbrev pub Fated : Ref → Entry → Type 0
+Fated r e = fateOf r ≡ reference e
+
+pub seen-paired : (rs : List Ref) (es : List Entry) (a w : ℕ) → Each Fated rs es → seen rs a w ≡ seenBy es a w
+unfolding seen seenBy
+seen-paired [] [] a w all = refl
+seen-paired [] (e ∷ es) a w all = absurd (omega (arith, all .0))
+seen-paired (r ∷ rs) [] a w all = absurd (omega (arith, all .0))
+seen-paired (ref n f ∷ rs) (e ∷ es) a w all =
+    seen-paired rs es a (after f a w) (each-drop Fated (ref n f ∷ rs) (e ∷ es) all 1)
+    ∙ ap (λ (g : Fate). seenBy es a (after g a w)) (all .1 0 (omega arith))
+
+-- one entry before others that are clear: the walk went past it, or it is a store to the address
+clear-met : (f : Fate) (a all rest m : ℕ) (b : Bool) → suc m ≤ met f a all rest → (m ≤ rest → b ≡ true)
+    → clearBy f a b ≡ true
+clear-met waiting a all rest m b l h = h (omega arith)
+clear-met other a all rest m b l h = h (omega arith)
+clear-met (loaded c) a all rest m b l h = go (eqb c a) l
+  where
+    go : (t : Bool) → suc m ≤ cond t 0 (suc rest) → cond t false b ≡ true
+    go true i = absurd (omega arith)
+    go false i = h (omega arith)
+clear-met (stored c v) a all rest m b l h = go (eqb c a) l
+  where
+    go : (t : Bool) → suc m ≤ cond t (suc all) (suc rest) → cond t true b ≡ true
+    go true i = refl
+    go false i = h (omega arith)
+
+-- entries that a store to the address spares are clear
+clear-spared : (rs : List Ref) (es : List Entry) (a m : ℕ) → Each Fated rs es → m ≤ spared a rs → clear a (take m es) ≡ true
+unfolding spared clear
+clear-spared rs es a zero all l = refl
+clear-spared rs [] a (suc m) all l = refl
+clear-spared [] (e ∷ es) a (suc m) all l = absurd (omega arith)
+clear-spared (ref n f ∷ rs) (e ∷ es) a (suc m) all l =
+    clear-met (reference e) a (length rs) (spared a rs) m (clear a (take m es))
+    (subst (λ (g : Fate). suc m ≤ met g a (length rs) (spared a rs)) (all .1 0 (omega arith)) l)
+    (clear-spared rs es a m (each-drop Fated (ref n f ∷ rs) (e ∷ es) all 1))
+
+last-le : (f : ℕ → Bool) (n : ℕ) → last f n ≤ n
+unfolding last
+last-le f zero = le-refl 0
+last-le f (suc n) = go (f n) (last-le f n)
+  where
+    go : (t : Bool) → last f n ≤ n → cond t n (last f n) ≤ suc n
+    go true h = omega arith
+    go false h = omega arith
+
+-- a row is taken without a squash, or from the references that stay before the one that is squashed
+room-after : (P : State) (p h : ℕ) → p < length (P .refs) → (room P p h ≡ 0 → ⊥)
+    → (p < room P p h) × (room P p h ≤ length (P .refs))
+room-after P p h live =
+    go (ltb (used (P .banks) h (P .refs)) (P .rows)) (ltb p (youngest (P .banks) h (P .refs))) refl
+  where
+    go : (t u : Bool) → ltb p (youngest (P .banks) h (P .refs)) ≡ u
+        → (cond t (length (P .refs)) (cond u (youngest (P .banks) h (P .refs)) 0) ≡ 0 → ⊥)
+        → (p < cond t (length (P .refs)) (cond u (youngest (P .banks) h (P .refs)) 0))
+        × (cond t (length (P .refs)) (cond u (youngest (P .banks) h (P .refs)) 0) ≤ length (P .refs))
+    go true u e some = (live, le-refl (length (P .refs)))
+    go false true e some = (ltb-true p (youngest (P .banks) h (P .refs)) e, last-le _ _)
+    go false false e some = absurd (some refl)
+
+-- what the buffer owes of an execution at position p to this fate that leaves `left`
+pub record Owed (P : State) (es : List Entry) (p left : ℕ) (f : Fate) : Type 0 where
+  pub after : p < left
+  pub within : left ≤ length (P .refs)
+  pub spares : Spares f (take (left - suc p) (drop (suc p) es))
+
+module _ (P : State) (es : List Entry) (all : Each Fated (P .refs) es) (p : ℕ) (live : p < length (P .refs)) where
+  -- nothing is owed to entries younger than a reference that is no store
+  owed-none : (f : Fate) → ((ys : List Entry) → Spares f ys) → Owed P es p (length (P .refs)) f
+  owed-none f free =
+      record {
+        after = live;
+        within = le-refl (length (P .refs));
+        spares = free (take (length (P .refs) - suc p) (drop (suc p) es));
+      }
+
+  -- a store that leaves no more than the check of its address's row does
+  owed-store : (a v left : ℕ) → p < left → left ≤ checked P p a → Owed P es p left (stored a v)
+  owed-store a v left h l =
+      record {
+        after = h;
+        within = omega (arith, checked-after P p a live);
+        spares =
+            clear-spared (drop (suc p) (P .refs)) (drop (suc p) es) a (left - suc p)
+            (each-drop Fated (P .refs) es all (suc p)) (omega arith);
+      }
+
+  pub owed : (f : Fate) → (leaves P p f ≡ 0 → ⊥) → Owed P es p (leaves P p f) f
+  owed waiting some = owed-none waiting (λ ys. tt)
+  owed other some = owed-none other (λ ys. tt)
+  owed (loaded a) some = go (touched a (P .refs)) some
+    where
+      go : (t : Bool) → (cond t (length (P .refs)) (room P p (bank (P .banks) a)) ≡ 0 → ⊥)
+          → Owed P es p (cond t (length (P .refs)) (room P p (bank (P .banks) a))) (loaded a)
+      go true none = owed-none (loaded a) (λ ys. tt)
+      go false none =
+          let h = room-after P p (bank (P .banks) a) live none in
+          record { after = h .0; within = h .1; spares = tt }
+  owed (stored a v) some = go (touched a (P .refs)) refl some
+    where
+      go : (t : Bool) → touched a (P .refs) ≡ t → (cond t (checked P p a) (room P p (bank (P .banks) a)) ≡ 0 → ⊥)
+          → Owed P es p (cond t (checked P p a) (room P p (bank (P .banks) a))) (stored a v)
+      go true e none =
+          owed-store a v (checked P p a) (checked-after P p a live .0) (le-refl (checked P p a))
+      go false e none =
+          let h = room-after P p (bank (P .banks) a) live none in
+          owed-store a v (room P p (bank (P .banks) a)) (h .0) (rw (untouched-checked P p a live e) (h .1))

@@ -1,0 +1,236 @@
+-- THE RECORD THEOREM. Open the machine on sizes B, R, n and W with a program and a memory, and let x be what any list of calls
+-- comes to, refused ones among them. Let `run` be the sequential run of the program from the memory as lent at opening, after
+-- as many steps as x has commits. Then the record of x is the record of the run, four numbers a commit, and the committed
+-- registers and the memory are the run's. As long as the run has not ended, `next`, at most three calls that 01 names, are all
+-- accepted after x and commit one instruction more. Once it has ended, no further calls commit anything.
+--
+-- Every call keeps that the state is linked and that the window is kept (Held): a call is some steps of the window (Finishing),
+-- and each step keeps what is kept (Keeping). The equations are part of that. A step after the run's end commits nothing, so
+-- the count stays, and with it the run. Before the end the window decides: with nothing live an instruction is left, so the
+-- issue is accepted and the new entry waits; an oldest entry that waits has its operands and never stalls, and has executed
+-- then; and an oldest entry that has executed is no fault, as the run's next instruction is none, so its commit is accepted.
+-- Assumes nothing.
+use mathlib.Core.Path.{_≡_, refl, sym, subst, ap, _∙_}
+use mathlib.Core.Bool.{Bool, true, false, cond, not, _&&_}
+use mathlib.Core.List.{List, [], _∷_, _++_}
+use Prim.Native.Nat.{ℕ, zero, suc, _+_, _*_, _≤_, _<_}
+use native.Mathlib.Nat.{add-zero}
+use native.Mathlib.Omega.{arith}
+use lib.Dec.{eqb, leb}
+use lib.ListN.{length, take, drop, set}
+use borrow.Author.Tests.{eqb-false, ne-eqb}
+use Rattle.lookup.specs.Forwarding.{seen}
+use Rattle.buffer.specs.Refusals.{refusal}
+use Rattle.machine.specs.declared.Fate.{Fate}
+use Rattle.machine.specs.declared.Fate.the-variants.{Waiting}
+use Rattle.machine.specs.declared.Entry.{Entry}
+use Rattle.machine.specs.Program.{programFits, instructionAt}
+use Rattle.theorem.specs.Sequential.{Run, after, ends}
+use Rattle.machine.specs.Window.{entryAt, became, held}
+use Rattle.machine.specs.Calls.{Plain, Call, issue, execute, commit, Result, waits, judged, coming, known, unknown, stay}
+use Rattle.machine.specs.Calls.{executing, respond, openChecks, opened}
+use Rattle.theorem.specs.Play.{recorded, counted, Played, plays, play, start, needed, isRefused, accepted}
+use Rattle.theorem.proofs.Core.{Core, Kept, seenBy}
+use Rattle.theorem.proofs.Keeping.{kept-fresh, kept-step, none-after, issue-left, oldest-known, commit-clean}
+use Rattle.machine.proofs.Answering.{judged-accepted}
+use Rattle.theorem.proofs.Linked.{Linked, coreOf, Steps, stays, goes, passes, lent-passes}
+use Rattle.machine.specs.Calls.{issueChecks, executeChecks, commitChecks}
+use Rattle.theorem.proofs.Linking.{linked-open}
+use Rattle.theorem.proofs.Linking.{issue-accepted, execute-accepted, commit-accepted}
+use Rattle.theorem.proofs.Finishing.{respond-links}
+
+abbrev pub run : List ℕ → List ℕ → Played → Run
+run program memory x = after program memory (x .commits)
+
+abbrev pub next : Played → List Call
+next x = needed (x .state)
+
+pub record Truth (program memory : List ℕ) (x : Played) : Type 0 where
+  pub record-is : x .record′ ≡ run program memory x .record′
+  pub record-grows : length (x .record′) ≡ x .commits * 4
+  pub registers-are : x .state .registers ≡ run program memory x .registers
+  pub memory-is : x .memory ≡ run program memory x .memory
+  pub goes-on : ends program (run program memory x) ≡ false
+      → (accepted program x (next x) ≡ true) × (length (next x) ≤ 3) × (play program x (next x) .commits ≡ suc (x .commits))
+  pub stops : ends program (run program memory x) ≡ true → (more : List Call) → play program x more .commits ≡ x .commits
+
+-- what every call keeps
+record Held (program memory : List ℕ) (x : Played) : Type 0 where
+  linked : Linked program (x .state) (x .memory)
+  kept : Kept program memory (coreOf (x .state) (x .memory) (x .record′) (x .commits))
+
+-- x and one call more, with this result
+abbrev played : Played → Result → Played
+played x r =
+    record {
+      state = r .state;
+      memory = r .memory;
+      record′ = x .record′ ++ recorded (r .answer) (r .list);
+      commits = x .commits + counted (r .answer);
+    }
+
+-- ---- the oldest entry
+
+-- what it comes to is known
+oldest-fate : (X : Plain) (memory : List ℕ) (e : Entry) (es : List Entry) → X .entries ≡ e ∷ es
+    → waits (known (coming X memory 0)) ≡ false
+unfolding held seen seenBy
+oldest-fate X memory e es q = rw (q, oldest-known (coreOf X memory [] 0) e es q .2)
+
+-- where its execution is accepted, it is among those that stay
+oldest-stays : (program : List ℕ) (X : Plain) (memory : List ℕ) → Linked program X memory
+    → refusal (executeChecks program X memory 0) ≡ 0
+    → 0 < stay X 0 (known (coming X memory 0))
+oldest-stays program X memory l z =
+    let passed = sym (lent-passes program X memory l (drop 2 (executeChecks program X memory 0))) ∙ z in
+    let seven = passes (leb (length (X .entries)) 0) 6 _ passed in
+    let eight = passes (not (waits (entryAt (X .entries) 0 .fate))) 7 _ (seven .1) in
+    let nine = passes (unknown (coming X memory 0)) 8 _ (eight .1) in
+    let ten = passes (eqb (stay X 0 (known (coming X memory 0))) 0) 9 0 (nine .1) in
+    omega (arith, eqb-false (stay X 0 (known (coming X memory 0))) 0 (ten .0))
+
+oldest-executed : (l : List Entry) (e : Entry) (es : List Entry) (f : Fate) (left : ℕ) → l ≡ e ∷ es → 0 < left
+    → (rest : List Entry) × (take left (set l 0 (became (entryAt l 0) f)) ≡ became e f ∷ rest)
+oldest-executed l e es f zero q h = absurd (omega arith)
+oldest-executed l e es f (suc left) q h = (take left es, rw q)
+
+module _ (program memory : List ℕ) where
+  -- ---- along steps
+  kept-steps : programFits program ≡ true → {c d : Core} → Kept program memory c → Steps program c d → Kept program memory d
+  kept-steps f k stays = k
+  kept-steps f k (goes s h) = kept-step program memory f (kept-steps f k s) h
+
+  none-steps : programFits program ≡ true → {c d : Core} → Kept program memory c → Steps program c d
+      → ends program (after program memory (c .commits)) ≡ true
+      → d .commits ≡ c .commits
+  none-steps f k stays e = refl
+  none-steps f k (goes s h) e =
+      let p = none-steps f k s e in
+      none-after program memory f (kept-steps f k s) h (rw p e) ∙ p
+
+  -- ---- along calls
+  held-plays : (x : Played) → Held program memory x → (c : Call) → Held program memory (plays program x c)
+  held-plays x h c =
+      let l = respond-links program c (x .state) (x .memory) (h .linked) in
+      record { linked = l .linked; kept = kept-steps (h .linked .fits) (h .kept) (l .steps (x .record′) (x .commits)) }
+
+  held-play : (x : Played) → Held program memory x → (calls : List Call) → Held program memory (play program x calls)
+  unfolding play
+  held-play x h [] = h
+  held-play x h (c ∷ calls) = held-play (plays program x c) (held-plays x h c) calls
+
+  none-play : (x : Played) → Held program memory x → ends program (run program memory x) ≡ true → (more : List Call)
+      → play program x more .commits ≡ x .commits
+  unfolding play
+  none-play x h e [] = refl
+  none-play x h e (c ∷ more) =
+      let l = respond-links program c (x .state) (x .memory) (h .linked) in
+      let p = none-steps (h .linked .fits) (h .kept) (l .steps (x .record′) (x .commits)) e in
+      none-play (plays program x c) (held-plays x h c) (rw p e) more ∙ p
+
+  -- ---- the next commit
+
+  -- these calls are at most three, all accepted, and commit once
+  abbrev Next : Played → List Call → Type 0
+  Next x calls = (accepted program x calls ≡ true) × (length calls ≤ 3) × (play program x calls .commits ≡ suc (x .commits))
+
+  -- the same of a call with result r and these calls after it
+  abbrev Then : Played → List Call → Result → Type 0
+  Then x calls r =
+      Held program memory (played x r) → (not (isRefused (r .answer)) && accepted program (played x r) calls ≡ true)
+      × (suc (length calls) ≤ 3)
+      × (play program (played x r) calls .commits ≡ suc (x .commits))
+
+  -- it is enough to say so of the accepted result of a call that no check refuses
+  accepted-then : (x : Played) (calls : List Call) (k : ℕ) (r : Result) → k ≡ 0 → Then x calls r
+      → Then x calls (judged k (x .state) (x .memory) [] r)
+  accepted-then x calls k r z t = subst (Then x calls) (sym (judged-accepted k (x .state) (x .memory) [] r z)) t
+
+  commit-next : (x : Played) → Held program memory x → ends program (run program memory x) ≡ false → (e : Entry)
+      (es : List Entry)
+      → x .state .entries ≡ e ∷ es
+      → waits (e .fate) ≡ false
+      → Next x (commit ∷ [])
+  unfolding accepted play respond
+  commit-next x h n e es q w =
+      let clean = commit-clean program memory (h .linked .fits) _ e es (h .kept) n q w in
+      accepted-then x [] (refusal (commitChecks program (x .state) (x .memory))) _
+      (commit-accepted program (x .state) (x .memory) (h .linked) e es q w clean) (λ h′. (refl, omega arith, omega arith))
+      (held-plays x h commit)
+
+  executed-then : (x : Played) → ends program (run program memory x) ≡ false → (e : Entry) (es : List Entry)
+      → x .state .entries ≡ e ∷ es
+      → (f : Fate) (left : ℕ)
+      → waits f ≡ false
+      → 0 < left
+      → Then x (commit ∷ []) (executing (x .state) (x .memory) 0 f left)
+  executed-then x n e es q f left w l h =
+      let first = oldest-executed (x .state .entries) e es f left q l in
+      let same : ends program (after program memory (x .commits + 0)) ≡ false = rw add-zero n in
+      let c = commit-next _ h same (became e f) (first .0) (first .1) w in
+      (c .0, omega arith, omega (arith, c .2))
+
+  execute-next : (x : Played) → Held program memory x → ends program (run program memory x) ≡ false → (e : Entry)
+      (es : List Entry)
+      → x .state .entries ≡ e ∷ es
+      → waits (e .fate) ≡ true
+      → Next x (execute 0 ∷ commit ∷ [])
+  unfolding accepted play respond
+  execute-next x h n e es q w =
+      let X = x .state in
+      let f = known (coming X (x .memory) 0) in
+      let k = execute-accepted program X (x .memory) (h .linked) e es q w in
+      accepted-then x (commit ∷ []) (refusal (executeChecks program X (x .memory) 0))
+      (executing X (x .memory) 0 f (stay X 0 f)) k
+      (executed-then x n e es q f (stay X 0 f) (oldest-fate X (x .memory) e es q)
+      (oldest-stays program X (x .memory) (h .linked) k))
+      (held-plays x h (execute 0))
+
+  issue-next : (x : Played) → Held program memory x → ends program (run program memory x) ≡ false → x .state .entries ≡ []
+      → Next x (issue ∷ execute 0 ∷ commit ∷ [])
+  unfolding accepted play respond
+  issue-next x h n q =
+      let X = x .state in
+      let left = issue-left program memory _ (h .kept) n q in
+      let e : Entry = record { instruction = instructionAt program (X .next); index = X .next; fate = Waiting } in
+      let same : ends program (after program memory (x .commits + 0)) ≡ false = rw add-zero n in
+      accepted-then x (execute 0 ∷ commit ∷ []) (refusal (issueChecks program X)) _
+      (issue-accepted program X (x .memory) (h .linked) (ap length q) (omega (arith, h .linked .counted)))
+      (λ h′.
+      let c = execute-next _ h′ same e [] (ap (λ es. es ++ (e ∷ [])) q) refl in
+      (c .0, omega arith, omega (arith, c .2)))
+      (held-plays x h issue)
+
+  needed-next : (x : Played) → Held program memory x → ends program (run program memory x) ≡ false → Next x (next x)
+  needed-next x h n = go (x .state .entries) refl
+    where
+      oldest : (e : Entry) (es : List Entry) → x .state .entries ≡ e ∷ es → (t : Bool) → waits (e .fate) ≡ t
+          → Next x (cond t (execute 0 ∷ commit ∷ []) (commit ∷ []))
+      oldest e es q true w = execute-next x h n e es q w
+      oldest e es q false w = commit-next x h n e es q w
+
+      go : (es : List Entry) → x .state .entries ≡ es → Next x (next x)
+      go [] q =
+          let s : next x ≡ issue ∷ execute 0 ∷ commit ∷ [] = rw q in
+          subst (Next x) (sym s) (issue-next x h n q)
+      go (e ∷ es) q =
+          let live = ne-eqb (suc (length es)) 0 (λ z. omega arith) in
+          let s : next x ≡ cond (waits (e .fate)) (execute 0 ∷ commit ∷ []) (commit ∷ []) = rw (q, live) in
+          subst (Next x) (sym s) (oldest e es q (waits (e .fate)) refl)
+
+module _ (B R n W : ℕ) (program memory : List ℕ) (opens : refusal (openChecks B R n W program memory) ≡ 0) where
+  pub record-theorem : (calls : List Call) → Truth program memory (play program (start (opened B R n W program) memory) calls)
+  record-theorem calls =
+      let x₀ = start (opened B R n W program) memory in
+      let h₀ : Held program memory x₀ =
+      record { linked = linked-open B R n W program memory opens; kept = kept-fresh program memory } in
+      let x = play program x₀ calls in
+      let h = held-play program memory x₀ h₀ calls in
+      record {
+        record-is = h .kept .record′;
+        record-grows = h .kept .fours;
+        registers-are = h .kept .registers;
+        memory-is = h .kept .lent;
+        goes-on = needed-next program memory x h;
+        stops = none-play program memory x h;
+      }

@@ -1,0 +1,76 @@
+-- A list of calls on one opened program, refused ones among them, and its record: the numbers that commits answered and those
+-- at the start of each finish's list as that finish left it, for as many commits as it answered. Nothing else is read.
+-- Assumes nothing.
+use mathlib.Core.Bool.{Bool, true, false, cond, not, _&&_}
+use mathlib.Core.List.{List, [], _∷_, _++_}
+use Prim.Native.Nat.{ℕ, _+_, _*_}
+use lib.Dec.{eqb}
+use lib.ListN.{length, take}
+use Rattle.machine.specs.Window.{entryAt}
+use Rattle.machine.specs.Calls.{Plain, Call, issue, execute, commit, Answer, refused, position, executed, done, committed, finished, Result, waits, respond}
+
+-- what an answer adds to the record, with the list as the call left it
+abbrev pub recorded : Answer → List ℕ → List ℕ
+recorded (refused k) list = []
+recorded (position p) list = []
+recorded (executed v s) list = []
+recorded done list = []
+recorded (committed i c r v) list = i ∷ c ∷ r ∷ v ∷ []
+recorded (finished n) list = take (n * 4) list
+
+-- how many commits an answer tells of
+abbrev pub counted : Answer → ℕ
+counted (refused k) = 0
+counted (position p) = 0
+counted (executed v s) = 0
+counted done = 0
+counted (committed i c r v) = 1
+counted (finished n) = n
+
+-- where a list of calls got to: state and memory, the record and the number of commits
+pub record Played : Type 0 where
+  pub state : Plain
+  pub memory : List ℕ
+  pub record′ : List ℕ
+  pub commits : ℕ
+
+-- one call more
+abbrev pub plays : List ℕ → Played → Call → Played
+plays program x c =
+    let r = respond program c (x .state) (x .memory) in
+    record {
+      state = r .state;
+      memory = r .memory;
+      record′ = x .record′ ++ recorded (r .answer) (r .list);
+      commits = x .commits + counted (r .answer);
+    }
+
+-- the calls one after the other
+unfoldable pub play : List ℕ → Played → List Call → Played
+play program x [] = x
+play program x (c ∷ cs) = play program (plays program x c) cs
+
+-- nothing played yet
+abbrev pub start : Plain → List ℕ → Played
+start X memory = record { state = X; memory = memory; record′ = []; commits = 0 }
+
+-- The calls that commit the next instruction: issue if nothing is live, execute of position 0 if that one is waiting, then
+-- commit.
+abbrev pub needed : Plain → List Call
+needed X =
+    cond (eqb (length (X .entries)) 0) (issue ∷ execute 0 ∷ commit ∷ [])
+    (cond (waits (entryAt (X .entries) 0 .fate)) (execute 0 ∷ commit ∷ []) (commit ∷ []))
+
+abbrev pub isRefused : Answer → Bool
+isRefused (refused k) = true
+isRefused (position p) = false
+isRefused (executed v s) = false
+isRefused done = false
+isRefused (committed i c r v) = false
+isRefused (finished n) = false
+
+-- none of these calls, one after the other, is refused
+unfoldable pub accepted : List ℕ → Played → List Call → Bool
+accepted program x [] = true
+accepted program x (c ∷ cs) =
+    not (isRefused (respond program c (x .state) (x .memory) .answer)) && accepted program (plays program x c) cs
