@@ -2,11 +2,10 @@
 -- gives, and by an accepted call whose answer, view and memory are the definition's.
 -- Assumes nothing.
 use mathlib.Core.Path.{_≡_, refl, sym, ap, _∙_}
-use mathlib.Core.Bool.{true, false}
+use mathlib.Core.Bool.{false}
 use mathlib.Core.List.{List}
 use Prim.Native.Nat.{ℕ}
 use native.Mathlib.Omega.{arith}
-use lib.Dec.{eqb}
 use borrow.Author.Tests.{eq-eqb, ne-eqb}
 use Rattle.table.specs.declared.Table.{Table}
 use Rattle.table.specs.Reference.{State}
@@ -38,9 +37,6 @@ broken-meets t c m h =
       memory = λ rules. absurd (lawful-broken t h rules);
       rules = λ rules. rules;
     }
-
-refused-number : (k j : ℕ) → refused k ≡ refused j → k ≡ j
-refused-number k j e = cc
 
 pub refused-meets : (t : Table) (c : Call) (m : List ℕ) (k : ℕ) → Rules t → respond c (view t) m ≡ turned k (view t) m
     → Meets t c m (refused k) t m

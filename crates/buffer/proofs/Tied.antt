@@ -1,22 +1,20 @@
 -- The tests that the code makes on a table that keeps its rules are those of its plain state: a ticket is named, a reference
 -- has executed, the ticket that references are squashed from, the fate that the marks of a stage say.
 -- Assumes nothing.
-use mathlib.Core.Path.{_≡_, refl, sym, ap, ap₂, _∙_}
+use mathlib.Core.Path.{_≡_, refl, sym, ap}
 use mathlib.Core.Bool.{Bool, true, false, cond, _&&_}
-use mathlib.Core.List.{List}
-use Prim.Native.Nat.{ℕ, zero, suc, _<_, _≤_}
-use native.Mathlib.Omega.{arith}
+use Prim.Native.Nat.{ℕ, zero, suc, _<_}
 use lib.Dec.{eqb, ltb}
 use lib.ListN.{length, getD}
-use borrow.Author.Tests.{ltb-true, ltb-false, lt-ltb, le-ltb}
+use borrow.Author.Tests.{ltb-true}
 use Rattle.marks.specs.Stages.{has}
-use Rattle.marks.specs.Circle.{stage, position}
-use Rattle.marks.proofs.Turns.{position-lt, stage-position}
+use Rattle.marks.specs.Circle.{stage}
+use Rattle.marks.proofs.Turns.{stage-position}
 use Rattle.table.specs.declared.Table.{Table}
 use Rattle.table.specs.declared.Ticket.{Ticket}
 use Rattle.table.specs.Limits.{rowsAll}
-use Rattle.table.specs.Reference.{Fate, waiting, other, loaded, stored, Ref, ref, numberOf, fateOf, at, State}
-use Rattle.table.specs.View.{stageOf, storeMark, loadMark, address, value, rowFate, markFate, fateAt, refAt, view}
+use Rattle.table.specs.Reference.{Fate, waiting, loaded, stored, numberOf, fateOf, at}
+use Rattle.table.specs.View.{stageOf, storeMark, loadMark, address, value, markFate, view}
 use Rattle.table.specs.Rules.{Rules}
 use Rattle.table.proofs.Fates.{length-refs, at-refs}
 use Rattle.buffer.specs.declared.Squashed.the-variants.{Nothing, From}

@@ -9,7 +9,7 @@ use lib.ListN.{length}
 use Rattle.marks.specs.Circle.{position}
 use Rattle.table.specs.declared.Ticket.{Ticket}
 use Rattle.table.specs.Limits.{sizesFit}
-use Rattle.table.specs.Reference.{Fate, waiting, other, loaded, stored, Ref, numberOf, fateOf, at, State}
+use Rattle.table.specs.Reference.{Fate, waiting, other, loaded, stored, numberOf, fateOf, at, State}
 use Rattle.lookup.specs.Outcome.{leaves}
 
 -- a condition of the table with its number

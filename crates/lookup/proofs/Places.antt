@@ -1,13 +1,12 @@
 -- The row that is found for an execution, and how many references it leaves, are those of specs/Outcome.antt: by cases on
 -- whether the address has a row. Then the row is good for the address among the references that stay.
 -- Assumes nothing.
-use mathlib.Core.Path.{_≡_, refl, sym, subst, _∙_}
-use mathlib.Core.Bool.{true, false}
+use mathlib.Core.Path.{_≡_, refl, sym, subst}
 use Prim.Native.Nat.{ℕ, zero, suc, _+_, _-_, _*_, _≤_, _<_}
 use native.Mathlib.Nat.{le-refl}
 use native.Mathlib.Omega.{arith}
-use lib.Dec.{eqb, eqb·suc-zero}
-use lib.ListN.{length, getD}
+use lib.Dec.{eqb·suc-zero}
+use lib.ListN.{getD}
 use Rattle.table.specs.declared.Table.{Table}
 use Rattle.table.specs.Bank.{bank}
 use Rattle.table.specs.Reference.{loaded, stored}

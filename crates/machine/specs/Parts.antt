@@ -1,9 +1,9 @@
 -- What the parts of a call compute, as the code does it, over the arrays lent or passed to them.
 -- Assumes nothing.
-use mathlib.Core.Bool.{Bool, true, false, cond, not, _&&_}
+use mathlib.Core.Bool.{Bool, cond, not, _&&_}
 use mathlib.Core.List.{List, [], _∷_}
 use mathlib.Core.Option.{Option, none, some}
-use Prim.Native.Nat.{ℕ, _+_, _-_, _*_}
+use Prim.Native.Nat.{ℕ, _-_, _*_}
 use lib.Dec.{eqb, ltb}
 use lib.ListN.{length, getD, set}
 use Rattle.marks.specs.Circle.{stage}
@@ -19,7 +19,7 @@ use Rattle.buffer.specs.Calls
 use Rattle.machine.specs.declared.Instruction.{Instruction}
 use Rattle.machine.specs.declared.Instruction.the-variants.{Add, Sum, Load, Store}
 use Rattle.machine.specs.declared.Fate.{Fate}
-use Rattle.machine.specs.declared.Fate.the-variants.{Waiting, Executed}
+use Rattle.machine.specs.declared.Fate.the-variants.{Executed}
 use Rattle.machine.specs.declared.Entry.{Entry}
 use Rattle.machine.specs.declared.Machine.{Machine}
 use Rattle.machine.specs.declared.Operand.{Operand}

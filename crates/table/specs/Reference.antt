@@ -1,6 +1,6 @@
 -- The plain state: what 01 says of a table, as a list of live references in program order, oldest first.
 -- Assumes nothing.
-use mathlib.Core.List.{List, [], _∷_}
+use mathlib.Core.List.{List}
 use Prim.Native.Nat.{ℕ}
 use lib.ListN.{getD}
 

@@ -26,7 +26,7 @@ use Rattle.lookup.specs.Rows.{touched}
 use Rattle.lookup.specs.Violation.{checked}
 use Rattle.lookup.proofs.Violations.{checked-after}
 use Rattle.lookup.proofs.Firsts.{never-stalls}
-use Rattle.buffer.specs.Refusals.{Check, when, refusal, wrongLength, faults}
+use Rattle.buffer.specs.Refusals.{when, refusal, faults}
 use Rattle.buffer.specs.Calls.{written}
 use Rattle.machine.specs.declared.Instruction.{Instruction}
 use Rattle.machine.specs.declared.Instruction.the-variants.{Add, Sum, Load, Store}
@@ -36,14 +36,12 @@ use Rattle.machine.specs.declared.Entry.{Entry}
 use Rattle.machine.specs.Program.{programFits, codeOf, instructionAt}
 use Rattle.machine.specs.Window.{entryAt, became, held, referenceBy, reference, outcome}
 use Rattle.machine.specs.Calls
-use Rattle.machine.specs.Calls.{Plain, Result, waits, dOf, sOf, immOf, same, like, programCheck, issues, coming}
+use Rattle.machine.specs.Calls.{Plain, waits, dOf, sOf, immOf, same, like, programCheck, issues, coming}
 use Rattle.machine.specs.Calls.{known, unknown, stay, executions, squashes, commits, openChecks, opened}
 use Rattle.machine.specs.Calls.{issueChecks, executeChecks, commitChecks}
-use Rattle.theorem.specs.Play.{counted, isRefused}
 use Rattle.theorem.proofs.Core.{issuing, executing, squashing, committing}
 use Rattle.theorem.proofs.Paired.{Each, each-next, each-take, each-drop, each-set, Fated, seen-paired, owed}
 use Rattle.theorem.proofs.Linked.{steps-quiet, judged-links, passes, program-passes, lent-passes}
-use Rattle.machine.proofs.Answering.{judged-accepted}
 pub use Rattle.theorem.proofs.Linked.{Linked, coreOf, Steps, stays, goes, steps-join, Links}
 
 -- ---- opening
@@ -296,11 +294,6 @@ module _ (program : List ℕ) (X : Plain) (memory : List ℕ) (linked : Linked p
       (ne-eqb (length (X .entries)) (X .buffer .stages) (λ full. omega (arith, size .some-stage)))
       (skips _ 6 0 (lt-leb (X .count) (X .next) left) refl)
 
-  pub issue-answered : length (X .entries) ≡ 0 → X .next < X .count → isRefused (issues program X memory .answer) ≡ false
-  issue-answered empty left =
-      ap (λ (r : Result). isRefused (r .answer))
-      (judged-accepted (refusal (issueChecks program X)) X memory [] _ (issue-accepted empty left))
-
   module _ (e : Entry) (es : List Entry) (is : X .entries ≡ e ∷ es) where
     pub execute-accepted : waits (e .fate) ≡ true → refusal (executeChecks program X memory 0) ≡ 0
     execute-accepted w =
@@ -318,11 +311,6 @@ module _ (program : List ℕ) (X : Plain) (memory : List ℕ) (linked : Linked p
         (referenceBy i (known (coming X memory 0)))))
         refl)))
 
-    pub execute-answered : waits (e .fate) ≡ true → isRefused (executions program X memory 0 .answer) ≡ false
-    execute-answered w =
-        ap (λ (r : Result). isRefused (r .answer))
-        (judged-accepted (refusal (executeChecks program X memory 0)) X memory [] _ (execute-accepted w))
-
     module _ (executed : waits (e .fate) ≡ false) (clean : faults (length memory) (reference e) ≡ false) where
       pub commit-accepted : refusal (commitChecks program X memory) ≡ 0
       commit-accepted =
@@ -333,13 +321,3 @@ module _ (program : List ℕ) (X : Plain) (memory : List ℕ) (linked : Linked p
           (skips _ 13 0
           (ap₂ (λ (k : ℕ) (y : Entry). faults k (reference y)) (sym (linked .lent)) oldest ∙ clean)
           refl))
-
-      pub commit-answered : isRefused (commits program X memory .answer) ≡ false
-      commit-answered =
-          ap (λ (r : Result). isRefused (r .answer))
-          (judged-accepted (refusal (commitChecks program X memory)) X memory [] _ commit-accepted)
-
-      pub commit-counted : counted (commits program X memory .answer) ≡ 1
-      commit-counted =
-          ap (λ (r : Result). counted (r .answer))
-          (judged-accepted (refusal (commitChecks program X memory)) X memory [] _ commit-accepted)

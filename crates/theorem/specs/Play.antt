@@ -7,7 +7,7 @@ use Prim.Native.Nat.{ℕ, _+_, _*_}
 use lib.Dec.{eqb}
 use lib.ListN.{length, take}
 use Rattle.machine.specs.Window.{entryAt}
-use Rattle.machine.specs.Calls.{Plain, Call, issue, execute, commit, Answer, refused, position, executed, done, committed, finished, Result, waits, respond}
+use Rattle.machine.specs.Calls.{Plain, Call, issue, execute, commit, Answer, refused, position, executed, done, committed, finished, waits, respond}
 
 -- what an answer adds to the record, with the list as the call left it
 abbrev pub recorded : Answer → List ℕ → List ℕ
