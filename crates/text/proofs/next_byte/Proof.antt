@@ -1,0 +1,60 @@
+-- `text::next_byte` meets its contract: a comma, a byte below the digits or above them, a digit.
+-- Assumes nothing.
+use mathlib.Core.Path.{sym, ap, _∙_}
+use Prim.Native.Nat.{ℕ}
+use native.Mathlib.Omega.{arith}
+use Rattle.text.specs.Fields.{byte}
+use Rattle.text.specs.Reader.{largest, shown, few}
+use Rattle.text.proofs.Reader.{below-digits, above-digits}
+use borrow.Author.Needs.{needs}
+use Rattle.text.proofs.next_byte.Statement.{statement}
+use Rattle.text.proofs.next_byte.Tie as tie
+
+close-field-requires : tie.Need-close-field-requires
+close-field-requires c κs = search needs
+
+returns : tie.Need-returns
+returns c =
+    let a = c .before .before .args in
+    c .close-field .ensures ∙ ap (λ (k : ℕ). few (byte largest (shown (a .n)) k)) (sym (c .before .if1 .taken))
+
+spoiled-requires : tie.Need-spoiled-requires
+spoiled-requires c κs = search needs
+
+returns-2 : tie.Need-returns-2
+returns-2 c =
+    let a = c .before .before .before .args in
+    c .spoiled .ensures ∙ below-digits (shown (a .n)) (a .b) (c .before .before .if1 .left) (c .before .if2 .taken)
+
+spoiled-requires-2 : tie.Need-spoiled-requires-2
+spoiled-requires-2 c κs = search needs
+
+returns-3 : tie.Need-returns-3
+returns-3 c =
+    let a = c .before .before .before .before .args in
+    c .spoiled2 .ensures ∙ above-digits (shown (a .n)) (a .b) (c .before .if3 .taken)
+
+sub-add-digit : tie.Need-sub-add-digit
+sub-add-digit c = search needs
+
+add-digit-requires : tie.Need-add-digit-requires
+add-digit-requires c κs = search needs
+
+returns-4 : tie.Need-returns-4
+returns-4 c =
+    let a = c .before .before .before .before .args in
+    c .add-digit .ensures ∙ ap (λ (k : ℕ). few (byte largest (shown (a .n)) k)) (omega arith)
+
+pub next-byte-spec : {M : Type 1} → statement M
+next-byte-spec =
+    tie.close
+    (tie.spec
+    close-field-requires
+    returns
+    spoiled-requires
+    returns-2
+    spoiled-requires-2
+    returns-3
+    sub-add-digit
+    add-digit-requires
+    returns-4)
