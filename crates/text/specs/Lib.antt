@@ -1,4 +1,5 @@
--- Text of lines: decimal numbers, and numbers parted by commas.
+-- Text of lines: decimal numbers, numbers parted by commas, and the lines.
 pub mod Decimal
 pub mod Fields
+pub mod Lines
 pub mod Reader

@@ -1,5 +1,6 @@
-// Text of lines: decimal numbers, and numbers parted by commas. Of the public functions `put_decimal` and
-// `read_fields` ask for slices that are long enough, and `next_byte` for nothing.
+// Text of lines: decimal numbers, numbers parted by commas, and a reader that hands out one line after another.
+// Of the public functions `put_decimal` and `read_fields` ask for slices that are long enough, and the others for
+// nothing.
 ghost use mathlib.Core.Bool.{_&&_};
 ghost use mathlib.Core.Path.{_≡_};
 ghost use Prim.Native.Nat.{_+_, _*_, _≤_, _<_};
@@ -8,6 +9,7 @@ ghost use lib.ListN.{length};
 ghost use lib.Seq.{sets, slice};
 ghost use Rattle.text.specs.Decimal.{decimal};
 ghost use Rattle.text.specs.Fields.{bad, byte, closed, fields};
+ghost use Rattle.text.specs.Lines.{lineAt};
 ghost use Rattle.text.specs.Reader.{largest, capacity, shown, few, fitting, told};
 
 // The fields of a line: the first `count` of `values`. While the line is read, `current` is the open
@@ -149,4 +151,63 @@ pub fn read_fields(s: &[u8], from: usize, to: usize) -> Numbers
         i += 1;
     }
     finish_line(n)
+}
+
+// What begins at an index of a text: nothing, a last line without line feed, from this index, or a line from
+// this index up to its line feed.
+pub enum Line {
+    End,
+    Unended(usize),
+    Whole(usize, usize),
+}
+
+// The line that begins at `at`.
+pub fn line_at(s: &[u8], at: usize) -> Line
+    ensures { λ r. ⌜ r ≡ lineAt (now (s .entry)) at ⌝ }
+{
+    if s.len() <= at {
+        return Line::End;
+    }
+    let mut i = at;
+    while i < s.len() {
+        if s[i] == 10 {
+            return Line::Whole(at, i);
+        }
+        i += 1;
+    }
+    Line::Unended(at)
+}
+
+// A reader over a lent text: the text, and where its next line begins.
+pub struct LineReader<'a> {
+    pub src: &'a [u8],
+    pub at: usize,
+}
+
+// A reader at the start of the text.
+pub fn read_from<'a>(src: &'a [u8]) -> LineReader<'a>
+    ensures { λ r. ⌜ (r .src ≡ src .entry) × (r .at ≡ 0) ⌝ }
+{
+    LineReader { src, at: 0 }
+}
+
+// The reader's next line.
+pub fn next_line<'a>(r: LineReader<'a>) -> Line
+    ensures { λ l. ⌜ l ≡ lineAt (now (r .entry .src)) (r .entry .at) ⌝ }
+{
+    line_at(r.src, r.at)
+}
+
+// The reader of the same text at another index.
+pub fn moved<'a>(r: LineReader<'a>, at: usize) -> LineReader<'a>
+    ensures { λ q. ⌜ (q .src ≡ r .entry .src) × (q .at ≡ at) ⌝ }
+{
+    LineReader { src: r.src, at }
+}
+
+// The first line of a text.
+pub fn first_line(s: &[u8]) -> Line
+    ensures { λ r. ⌜ r ≡ lineAt (now (s .entry)) 0 ⌝ }
+{
+    next_line(read_from(s))
 }
