@@ -30,8 +30,9 @@ fresh banks rows stages words =
       values = replicate 1024 0;
     }
 
--- The call c on table t and memory m said `said` and handed back table u and memory v. The place of a row in its bank is the
--- one free choice: u may be any table with this view that keeps the rules.
+-- The call c on table t and memory m said `said` and handed back table u and memory v. Of an accepted call u may
+-- be any table with this view that keeps the rules: the place of a row in its bank is free, and with it only what 01 leaves out
+-- of the comparison of states (values without a store mark, free rows, stages that are not live; table's specs/Same.antt).
 pub record Meets (t : Table) (c : Call) (m : List ℕ) (said : Answer) (u : Table) (v : List ℕ) : Type 0 where
   -- 2: the table breaks its own rules
   pub broken : (Rules t → ⊥) → (said ≡ refused 2) × (u ≡ t) × (v ≡ m)

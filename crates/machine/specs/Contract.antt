@@ -105,7 +105,8 @@ lentTo commit = []
 lentTo (finish k list) = list
 
 -- The call c with this program on machine m and memory w said `said` and handed back machine u, memory v and the list as
--- `list`. As in the buffer, the place of a row in its bank is the one free choice.
+-- `list`. As in the buffer, of an accepted call u may be any machine with this plain state that is sound: free are a row's
+-- place in its bank and what stands where nothing is live, entries of the window among it.
 pub record Meets (program : List ℕ) (m : Machine) (c : Call) (w : List ℕ) (said : Answer) (u : Machine) (v list : List ℕ) : Type 0 where
   -- 2: the table breaks its own rules, or window and table disagree
   pub broken : (Sound m → ⊥) → (said ≡ refused 2) × (u ≡ m) × (v ≡ w) × (list ≡ lentTo c)
