@@ -56,5 +56,5 @@ digits-length zero (suc k) n h = longer zero k n (λ t. absurd (omega arith))
 digits-length (suc m) (suc k) n h =
     longer (suc m) k n (λ t. digits-length m k (n / 10) (omega (arith, pow-suc 10 (suc m))))
 
-pub decimal-length : (n : ℕ) → n < 4294967296 → length (decimal n) ≤ 10
-decimal-length n h = digits-length 9 (suc n) n (omega arith)
+pub decimal-length : (n : ℕ) → n < 18446744073709551616 → length (decimal n) ≤ 20
+decimal-length n h = digits-length 19 (suc n) n (omega arith)

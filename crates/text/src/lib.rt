@@ -23,8 +23,8 @@ pub struct Numbers {
 }
 
 // Writes n in decimal at `at`, and returns where it ends.
-pub fn put_decimal(out: &mut [u8], at: usize, n: u32) -> usize
-    requires { ⌜ at + 10 ≤ length (now out) ⌝ }
+pub fn put_decimal(out: &mut [u8], at: usize, n: u64) -> usize
+    requires { ⌜ at + 20 ≤ length (now out) ⌝ }
     ensures ended { λ r. ⌜ r ≡ at + length (decimal n) ⌝ }
     ensures text { λ _. ⌜ now (out .exit) ≡ sets (now (out .entry)) at (decimal n) ⌝ }
 {
@@ -36,6 +36,20 @@ pub fn put_decimal(out: &mut [u8], at: usize, n: u32) -> usize
         out[end] = (48 + n % 10) as u8;
         end + 1
     }
+}
+
+// Writes the bytes of s at `at`, and returns where they end.
+pub fn put_text(out: &mut [u8], at: usize, s: &[u8]) -> usize
+    requires { ⌜ at + length (now s) ≤ length (now out) ⌝ }
+    ensures ended { λ r. ⌜ r ≡ at + length (now (s .entry)) ⌝ }
+    ensures text { λ _. ⌜ now (out .exit) ≡ sets (now (out .entry)) at (now (s .entry)) ⌝ }
+{
+    let mut i = 0;
+    while i < s.len() {
+        out[at + i] = s[i];
+        i += 1;
+    }
+    at + i
 }
 
 // What was read is of no use.

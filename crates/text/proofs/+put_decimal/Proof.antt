@@ -1,5 +1,5 @@
 -- The proof of the cycle of calls {put_decimal}. The measure is n, which falls to its tenth part. What the inner call
--- writes is the decimal of the tenth part, and the last digit is stored behind it. A u32 has at most 10 digits, so there
+-- writes is the decimal of the tenth part, and the last digit is stored behind it. A u64 has at most 20 digits, so there
 -- is room.
 -- Assumes nothing.
 use mathlib.Core.Path.{_≡_, sym, ap, _∙_}
@@ -40,8 +40,8 @@ put-more l place n end text h p = (
       ∙ ap (sets l place) (sym (decimal-more n h)),
 )
 
--- the last digit of a u32 has room
-room : (l : List ℕ) (place n end : ℕ) (text : List ℕ) → 10 ≤ n → n < 4294967296 → place + 10 ≤ length l
+-- the last digit of a u64 has room
+room : (l : List ℕ) (place n end : ℕ) (text : List ℕ) → 10 ≤ n → n < 18446744073709551616 → place + 20 ≤ length l
     → Put l place (n / 10) end text → (end < length text)
 room l place n end text h k r p =
     omega (arith, length-more n h, decimal-length n k, ap length (p .1), length-sets l place (decimal (n / 10)))

@@ -1,0 +1,99 @@
+-- `text::put_text`: after i turns the first i bytes are set at their place. A byte more is set behind them.
+-- Assumes nothing.
+use mathlib.Core.Path.{_≡_, refl, ap, sym, _∙_}
+use mathlib.Core.List.{List, [], _∷_}
+use Prim.Native.Nat.{ℕ, _+_, _-_, _≤_, _<_}
+use native.Mathlib.Numerals.{add-one}
+use native.Mathlib.Omega.{arith}
+use lib.ListN.{length, getD, set, take, length-set}
+use lib.Seq.{sets, length-sets, length-take-le, take-suc, take-all}
+use borrow.Author.Needs.{needs}
+use Rattle.text.proofs.Stores.{sets-append}
+use Rattle.text.proofs.put_text.Statement.{statement}
+use Rattle.text.proofs.put_text.Tie as tie
+
+one-more : (l s : List ℕ) (at i : ℕ) → i < length s
+    → set (sets l at (take i s)) (at + i) (getD s i 0) ≡ sets l at (take (i + 1) s)
+one-more l s at i h =
+    ap (λ (k : ℕ). set (sets l at (take i s)) (at + k) (getD s i 0)) (sym (length-take-le i s (omega arith)))
+    ∙ sym (sets-append l at (take i s) (getD s i 0 ∷ []))
+    ∙ ap (sets l at) (sym (take-suc s i 0 h) ∙ ap (λ (k : ℕ). take k s) (sym (add-one i)))
+
+abbrev Inv-loop : tie.InvT-loop
+Inv-loop out₀ at s i₀ out i = (i ≤ length s) × (out ≡ sets out₀ at (take i s))
+
+abbrev μ-loop : tie.MeasureT-loop
+μ-loop out₀ at s i₀ out i = length s - i
+
+-- src/lib.rt:48:5
+loop-holds : tie.Need-loop-holds Inv-loop μ-loop
+loop-holds c = search needs
+
+-- src/lib.rt:49:23
+shared-slice-read-out : tie.Need-shared-slice-read-out Inv-loop μ-loop
+shared-slice-read-out c = search needs
+
+-- src/lib.rt:49:13
+add-out : tie.Need-add-out Inv-loop μ-loop
+add-out c = search needs
+
+-- src/lib.rt:49:9
+slice-write-out : tie.Need-slice-write-out Inv-loop μ-loop
+slice-write-out c =
+    let a = c .before .before .before .args in
+    let l = c .before .before .loop in
+    omega (arith, ap length (l .inv .1), length-sets (a .out .now) (a .at) (take (l .i) (a .s .now)))
+
+-- src/lib.rt:50:9
+add-i : tie.Need-add-i Inv-loop μ-loop
+add-i c = search needs
+
+-- src/lib.rt:48:5
+loop-less : tie.Need-loop-less Inv-loop μ-loop
+loop-less c = search needs
+
+-- src/lib.rt:48:5
+loop-again : tie.Need-loop-again Inv-loop μ-loop
+loop-again c =
+    let a = c .before .before .before .args in
+    let l = c .before .before .loop in (
+      omega arith,
+      ap (λ (m : List ℕ). set m (a .at + l .i) (getD (a .s .now) (l .i) 0)) (l .inv .1) ∙ one-more (a .out .now) (a .s .now) (a .at) (l .i) (omega arith),
+    )
+
+-- src/lib.rt:52:5
+add-result : tie.Need-add-result Inv-loop μ-loop
+add-result c = search needs
+
+-- src/lib.rt:42:1
+same-length : tie.Need-same-length Inv-loop μ-loop
+same-length c =
+    let a = c .before .before .args in
+    let l = c .before .loop in
+    ap length (l .inv .1) ∙ length-sets (a .out .now) (a .at) (take (l .i) (a .s .now))
+
+-- src/lib.rt:42:1
+returns : tie.Need-returns Inv-loop μ-loop
+returns c =
+    let a = c .before .before .args in
+    let l = c .before .loop in (
+      omega arith,
+      l .inv .1 ∙ ap (sets (a .out .now) (a .at)) (take-all (l .i) (a .s .now) (omega arith)),
+    )
+
+pub put-text-spec : {M : Type 1} → statement M
+put-text-spec =
+    tie.close
+    (tie.spec
+    Inv-loop
+    μ-loop
+    loop-holds
+    shared-slice-read-out
+    add-out
+    slice-write-out
+    add-i
+    loop-less
+    loop-again
+    add-result
+    same-length
+    returns)
