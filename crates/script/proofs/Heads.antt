@@ -112,11 +112,6 @@ headed s banks rows stages words at h = go (lineAt s 0) (line-is s 0 (lineAt s 0
           behind = omega (arith, all .2);
         }
 
-pub script-headed : (s : List ℕ) (banks rows stages words at : ℕ) → headerOf s ≡ Present banks rows stages words at
-    → script (linesOf s)
-    ≡ record { banks = banks; rows = rows; stages = stages; words = words; body = bodyAt s at 2 [] }
-script-headed s banks rows stages words at h = headed s banks rows stages words at h .script-is
-
 pub script-unheaded : (s : List ℕ) → headerOf s ≡ Absent → script (linesOf s) ≡ unread
 script-unheaded s h = go (lineAt s 0) (line-is s 0 (lineAt s 0) refl) h
   where

@@ -16,6 +16,12 @@ abbrev pub turned : Player → Phase → ℕ → Machine → Player
 turned p phase commits u =
     record { phase = phase; cursor = p .cursor; line = p .line; commits = commits; machine = u }
 
+-- what `in_phase` promises: q is p in this phase
+abbrev pub Turned : Player → Phase → Player → Type 0
+Turned p phase q =
+    (q .phase ≡ phase) × (q .cursor ≡ p .cursor) × (q .line ≡ p .line) × (q .commits ≡ p .commits)
+    × (q .machine ≡ p .machine)
+
 same : (f g : Phase) (a b i j n m : ℕ) (x y : Machine) → f ≡ g → a ≡ b → i ≡ j → n ≡ m → x ≡ y
     → _≡_ {A = Player} (record { phase = f; cursor = a; line = i; commits = n; machine = x })
     (record { phase = g; cursor = b; line = j; commits = m; machine = y })

@@ -12,14 +12,13 @@ use mathlib.Core.Logic.{_⊎_, inl, inr}
 use mathlib.Core.Option.{none}
 use Prim.Native.Nat.{ℕ, suc, _+_, _-_, _≤_, _<_}
 use native.Mathlib.Omega.{arith}
-use lib.ListN.{length, length-append}
-use lib.Seq.{sets, slice, length-sets, drop-cons}
+use lib.ListN.{length}
+use lib.Seq.{slice, length-sets, drop-cons}
 use Rattle.machine.specs.declared.Machine.{Machine}
 use Rattle.theorem.specs.Play.{play}
 use Rattle.text.specs.declared.Line.the-variants.{End, Unended, Whole}
 use Rattle.text.specs.Lines.{Lines, lineAt}
 use Rattle.text.proofs.Splits.{line-is, line-end, line-unended, line-whole}
-use Rattle.text.proofs.Stores.{sets-append}
 use Rattle.script.specs.declared.Item.{Item}
 use Rattle.script.specs.declared.Phase.{Phase}
 use Rattle.script.specs.declared.Phase.the-variants.{Over, Bad, Stepping, Words}
@@ -45,22 +44,10 @@ use Rattle.script.specs.Playing.{
   Fills,
 }
 use Rattle.script.specs.Parts.{Goes}
+use Rattle.script.proofs.Writing.{writes-none, writes-then}
+use Rattle.script.proofs.Phases.{Turned}
 
 -- ---- pieces in a row
-
-writes-none : (out : List ℕ) (at : ℕ) → Writes out at [] out at
-writes-none out at = record { ended = omega arith; written = refl }
-
-writes-then : {out into last : List ℕ} {at mid end : ℕ} {xs ys : List ℕ}
-    → Writes out at xs into mid → Writes into mid ys last end → Writes out at (xs ++ ys) last end
-writes-then {out} {into} {last} {at} {mid} {end} {xs} {ys} a b =
-    record {
-      ended = omega (arith, a .ended, b .ended, length-append xs ys);
-      written =
-          b .written
-          ∙ ap₂ (λ (l : List ℕ) (i : ℕ). sets l i ys) (a .written) (a .ended)
-          ∙ sym (sets-append out at xs ys);
-    }
 
 pub tells-none : (text program : List ℕ) (p : Player) (memory out : List ℕ) (at : ℕ)
     → Tells text program p memory out at p memory out at
@@ -93,12 +80,6 @@ abbrev pub Stepped : List ℕ → List ℕ → Player → List ℕ → List ℕ 
 Stepped text program p memory out at q after into end =
     Tells text program p memory out at q after into end
     × ((end ≤ at + longest) × (weight text q after < weight text p memory))
-
--- the player in another phase
-abbrev pub Turned : Player → Phase → Player → Type 0
-Turned p h q =
-    (q .phase ≡ h) × (q .cursor ≡ p .cursor) × (q .line ≡ p .line) × (q .commits ≡ p .commits)
-    × (q .machine ≡ p .machine)
 
 -- the player past a line
 abbrev pub Past : Player → ℕ → Player → Type 0

@@ -10,7 +10,6 @@ use native.Mathlib.Omega.{arith}
 use lib.Dec.{eqb}
 use lib.ListN.{length}
 use Rattle.buffer.specs.Refusals.{refusal}
-use Rattle.machine.specs.declared.Machine.{Machine}
 use Rattle.machine.specs.Calls.{Plain, Call, issue, execute, squash, commit, Result, respond}
 use Rattle.machine.specs.Calls.{issueChecks, executeChecks, squashChecks}
 use Rattle.machine.specs.Contract.{plain, Sound}
@@ -26,7 +25,9 @@ use Rattle.script.specs.Language.{stepOf, Steps, stepping}
 use Rattle.script.specs.Output.{commitLines, told}
 use Rattle.script.specs.Playing.{standing, leftIn, due, Usable, InUse, rank, Writes, longest}
 use Rattle.script.specs.Parts.{Does, Commits, Goes}
+use Rattle.script.proofs.Writing.{writes-none}
 use Rattle.script.proofs.Telling.{told-before}
+use Rattle.script.proofs.Phases.{Turned, goes-turned}
 
 -- what was left before the step that a line of this number asks for
 abbrev askedBy : List ℕ → Player → List ℕ → ℕ → Option Call → Steps → List ℕ
@@ -40,10 +41,6 @@ asked program p memory number item = askedBy program p memory number (stepOf ite
 abbrev Taken : List ℕ → Player → List ℕ → ℕ → Item → List ℕ → ℕ → Player → List ℕ → List ℕ → ℕ → Type 0
 Taken program p memory number item out at =
     Goes program (asked program p memory number item) 4294967296 (length memory + 4294967300) p memory out at
-
--- nothing is written
-none-written : (out : List ℕ) (at : ℕ) → Writes out at [] out at
-none-written out at = record { ended = omega arith; written = refl }
 
 -- ---- calls
 
@@ -112,7 +109,7 @@ module _ (program : List ℕ) (p : Player) (memory : List ℕ) (number : ℕ) (i
       → Taken program p memory number item out at q memory out at
   unfolding commitLines
   quiet c asks does uncounted =
-      called c asks memory out at [] refl does (none-written out at) (omega arith)
+      called c asks memory out at [] refl does (writes-none out at) (omega arith)
       (λ sound few. omega (arith, uncounted, ap (λ (x : Played). x .commits) (does .does sound few)))
       refl
 
@@ -140,32 +137,18 @@ module _ (program : List ℕ) (p : Player) (memory : List ℕ) (number : ℕ) (i
 
 -- ---- a finish and a bad line: only the phase changes
 
--- q is p in another phase
-abbrev Rephased : Player → Phase → Player → Type 0
-Rephased p f q =
-    (q .phase ≡ f) × (q .cursor ≡ p .cursor) × (q .line ≡ p .line) × (q .commits ≡ p .commits) × (q .machine ≡ p .machine)
-
-same-player : (f g : Phase) (a b i j n m : ℕ) (x y : Machine) → f ≡ g → a ≡ b → i ≡ j → n ≡ m → x ≡ y
-    → _≡_ {A = Player} (record { phase = f; cursor = a; line = i; commits = n; machine = x })
-    (record { phase = g; cursor = b; line = j; commits = m; machine = y })
-same-player f g a b i j n m x y e₁ e₂ e₃ e₄ e₅ = cc
-
-rephased : (p : Player) (f : Phase) (q : Player) → Rephased p f q
-    → q ≡ record { phase = f; cursor = p .cursor; line = p .line; commits = p .commits; machine = p .machine }
-rephased p f q h = same-player _ _ _ _ _ _ _ _ _ _ (h .0) (h .1) (h .2) (h .3) (h .4)
-
 module _ (program : List ℕ) (p : Player) (memory : List ℕ) (number : ℕ) (item : Item) (out : List ℕ) (at : ℕ)
     (q : Player) where
-  turned : (f : Phase) → Rephased p f q → rank (length memory) f < length memory + 4294967300 → due f ≤ 4294967296
+  turned : (f : Phase) → Turned p f q → rank (length memory) f < length memory + 4294967300 → due f ≤ 4294967296
       → ((more : Steps) → asked program p memory number item more
       ≡ leftIn program f more (standing (p .machine) memory (p .commits)))
       → (Usable program (p .machine) memory → InUse f program (p .machine) memory)
       → Taken program p memory number item out at q memory out at
   turned f now falls share left used =
-      subst (λ (x : Player). Taken program p memory number item out at x memory out at) (sym (rephased p f q now))
+      goes-turned f (p .commits) (p .machine) now
       (record {
         piece = [];
-        writes = none-written out at;
+        writes = writes-none out at;
         short = omega arith;
         lent = refl;
         cursor = refl;
@@ -174,7 +157,7 @@ module _ (program : List ℕ) (p : Player) (memory : List ℕ) (number : ℕ) (i
         goes = λ u few. (left, used u, omega arith);
       })
 
-  pub bad-taken : stepOf item ≡ none → Rephased p (Bad number) q
+  pub bad-taken : stepOf item ≡ none → Turned p (Bad number) q
       → Taken program p memory number item out at q memory out at
   unfolding play commitLines
   bad-taken asks now =
@@ -182,7 +165,7 @@ module _ (program : List ℕ) (p : Player) (memory : List ℕ) (number : ℕ) (i
       (λ (more : Steps). ap (λ (step : Option Call). askedBy program p memory number step more) asks)
       (λ used. tt)
 
-  pub finish-taken : (k : ℕ) → item ≡ Finish k → k < 4294967296 → Rephased p (Finishing k) q
+  pub finish-taken : (k : ℕ) → item ≡ Finish k → k < 4294967296 → Turned p (Finishing k) q
       → Taken program p memory number item out at q memory out at
   finish-taken k is small now =
       turned (Finishing k) now (omega arith) (omega arith)

@@ -28,10 +28,6 @@ writes-then {out} {mid} {into} {xs} {ys} {at} {m} {e} f g =
 pub writes-none : (l : List ℕ) (a : ℕ) → Writes l a [] l a
 writes-none l a = record { ended = omega arith; written = refl }
 
--- what is written within k bytes is at most k bytes long
-pub writes-short : {out bytes into : List ℕ} {at e k : ℕ} → Writes out at bytes into e → e ≤ at + k → length bytes ≤ k
-writes-short w h = omega arith
-
 -- the length stays
 pub writes-length : {out bytes into : List ℕ} {at e : ℕ} → Writes out at bytes into e → length into ≡ length out
 writes-length {out} {bytes} {into} {at} w = ap length (w .written) ∙ length-sets out at bytes

@@ -1,0 +1,51 @@
+//! Demand 3, asserted of the player itself: its commits are the sequential run, and it never gets stuck.
+
+use crate::machine::{Commit, Machine};
+use crate::run::Run;
+use crate::window::{Instruction, Rules};
+
+/// Steps after which only every `SAMPLE`th state is asked for progress, to keep long scripts quick.
+const EVERY: u64 = 2000;
+const SAMPLE: u64 = 64;
+
+pub struct Check {
+    run: Run,
+    steps: u64,
+}
+
+impl Check {
+    pub fn new(words: u32) -> Self {
+        Check { run: Run::new(words), steps: 0 }
+    }
+
+    pub fn instruction(&mut self, instruction: Instruction) {
+        self.run.program.push(instruction);
+    }
+
+    pub fn committed(&mut self, commit: Commit) {
+        assert_eq!(self.run.step(), Some(commit), "the record is not that of the sequential run");
+    }
+
+    pub fn state<R: Rules>(&mut self, machine: &Machine<R>) {
+        assert_eq!(self.run.registers, machine.registers, "registers are not those of the sequential run");
+        assert_eq!(self.run.memory, machine.memory, "memory is not that of the sequential run");
+        self.steps += 1;
+        if self.steps <= EVERY || self.steps.is_multiple_of(SAMPLE) {
+            self.progress(machine.clone());
+        }
+    }
+
+    fn progress<R: Rules>(&self, mut machine: Machine<R>) {
+        let Some(next) = self.run.ahead() else {
+            assert_eq!(machine.advance(), None, "a commit after the end of the sequential run");
+            return;
+        };
+        if machine.window.live.is_empty() {
+            machine.issue().expect("an issue into an empty window");
+        }
+        if machine.window.live[0].waits() {
+            machine.execute(0).expect("an execute of the oldest");
+        }
+        assert_eq!(machine.commit(), Ok(next), "three calls do not commit the next instruction");
+    }
+}

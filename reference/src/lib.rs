@@ -1,0 +1,21 @@
+//! The reference player of scripts, the generator of scripts and the comparison with another player.
+
+pub mod check;
+pub mod compare;
+pub mod events;
+pub mod generator;
+pub mod machine;
+pub mod outside;
+pub mod player;
+pub mod random;
+pub mod run;
+pub mod shrink;
+pub mod spoil;
+pub mod text;
+pub mod watch;
+pub mod window;
+
+#[cfg(test)]
+mod mutants;
+#[cfg(test)]
+mod tests;

@@ -1,0 +1,165 @@
+//! The window machine: issue, execute, squash and commit over the plain list.
+
+use crate::window::{Code, Entry, Fate, Instruction, Rules, Sizes, Window};
+
+#[derive(Clone, Copy, PartialEq, Eq, Debug)]
+pub struct Commit {
+    pub index: usize,
+    pub code: Code,
+    /// The register, for S the address.
+    pub target: u32,
+    pub value: u32,
+}
+
+#[derive(Clone, Copy, PartialEq, Eq, Debug)]
+pub struct Executed {
+    /// Of a load, else 0.
+    pub value: u32,
+    pub squashed: Option<usize>,
+}
+
+#[derive(Clone)]
+pub struct Machine<R> {
+    rules: R,
+    pub program: Vec<Instruction>,
+    pub window: Window,
+    pub next: usize,
+    pub registers: [u32; 8],
+    pub memory: Vec<u32>,
+}
+
+impl<R: Rules> Machine<R> {
+    /// A machine without instructions; they are put to `program` before the first call.
+    pub fn new(rules: R, sizes: Sizes) -> Self {
+        let window = Window { sizes, live: Vec::new() };
+        let memory = vec![0; sizes.words as usize];
+        Machine { rules, program: Vec::new(), window, next: 0, registers: [0; 8], memory }
+    }
+
+    /// Answers the new position.
+    pub fn issue(&mut self) -> Result<usize, u32> {
+        if self.window.live.len() == self.window.sizes.stages as usize {
+            return Err(5);
+        }
+        let instruction = *self.program.get(self.next).ok_or(6u32)?;
+        let fate = self.rules.fresh(self.next);
+        self.window.live.push(Entry { index: self.next, instruction, fate });
+        self.next += 1;
+        Ok(self.window.live.len() - 1)
+    }
+
+    pub fn execute(&mut self, k: usize) -> Result<Executed, u32> {
+        let entry = *self.window.live.get(k).ok_or(7u32)?;
+        if !entry.waits() {
+            return Err(8);
+        }
+        let Instruction { code, d, s, imm } = entry.instruction;
+        let base = self.operand(k, s)?;
+        match code {
+            Code::A => Ok(self.other(k, base.wrapping_add(imm))),
+            Code::P => {
+                let sum = base.wrapping_add(self.operand(k, imm)?);
+                Ok(self.other(k, sum))
+            }
+            Code::L => self.load(k, base.wrapping_add(imm)),
+            Code::S => {
+                let word = self.operand(k, d)?;
+                self.store(k, base.wrapping_add(imm), word)
+            }
+        }
+    }
+
+    pub fn squash(&mut self, k: usize) -> Result<(), u32> {
+        if k >= self.window.live.len() {
+            return Err(7);
+        }
+        self.drop_from(k);
+        Ok(())
+    }
+
+    pub fn commit(&mut self) -> Result<Commit, u32> {
+        let oldest = *self.window.live.first().ok_or(11u32)?;
+        let Fate::Executed { value, address } = oldest.fate else { return Err(12) };
+        if address.is_some_and(|address| address >= self.window.sizes.words) {
+            return Err(13);
+        }
+        let Instruction { code, d, .. } = oldest.instruction;
+        let target = match address {
+            Some(address) if code == Code::S => {
+                self.memory[address as usize] = value;
+                address
+            }
+            _ => {
+                self.registers[d as usize] = value;
+                d
+            }
+        };
+        self.window.live.remove(0);
+        Ok(Commit { index: oldest.index, code, target, value })
+    }
+
+    /// One round of finish: takes the oldest to its commit, issuing when the window is empty. None at the
+    /// program's end and at a fault, which stays executed.
+    pub fn advance(&mut self) -> Option<Commit> {
+        if self.window.live.is_empty() {
+            self.issue().ok()?;
+        }
+        if self.window.live[0].waits() {
+            self.execute(0).ok()?;
+        }
+        self.commit().ok()
+    }
+
+    /// All is committed.
+    pub fn done(&self) -> bool {
+        self.window.live.is_empty() && self.next == self.program.len()
+    }
+
+    /// The oldest has executed at an address outside the memory.
+    pub fn faulted(&self) -> bool {
+        let mark = self.window.live.first().and_then(Entry::mark);
+        mark.is_some_and(|address| address >= self.window.sizes.words)
+    }
+
+    fn operand(&self, k: usize, register: u32) -> Result<u32, u32> {
+        let mut older = self.window.live[..k].iter().rev();
+        match older.find(|entry| entry.instruction.writes(register)) {
+            Some(writer) => writer.value().ok_or(9),
+            None => Ok(self.registers[register as usize]),
+        }
+    }
+
+    fn other(&mut self, k: usize, value: u32) -> Executed {
+        self.window.live[k].fate = Fate::Executed { value, address: None };
+        Executed { value: 0, squashed: None }
+    }
+
+    fn load(&mut self, k: usize, address: u32) -> Result<Executed, u32> {
+        let squashed = self.rules.room(&self.window, k, address)?;
+        let value = match self.rules.forward(&self.window, k, address) {
+            Some(store) => self.window.live[store].value().unwrap_or(0),
+            None => self.memory.get(address as usize).copied().unwrap_or(0),
+        };
+        self.mark(k, value, address, squashed);
+        Ok(Executed { value, squashed })
+    }
+
+    fn store(&mut self, k: usize, address: u32, value: u32) -> Result<Executed, u32> {
+        let evicted = self.rules.room(&self.window, k, address)?;
+        let squashed = evicted.or_else(|| self.rules.violation(&self.window, k, address, value));
+        self.mark(k, value, address, squashed);
+        Ok(Executed { value: 0, squashed })
+    }
+
+    fn mark(&mut self, k: usize, value: u32, address: u32, squashed: Option<usize>) {
+        if let Some(from) = squashed {
+            self.drop_from(from);
+        }
+        self.window.live[k].fate = Fate::Executed { value, address: Some(address) };
+    }
+
+    fn drop_from(&mut self, from: usize) {
+        self.next = self.window.live[from].index;
+        self.rules.squash(&mut self.window, from);
+    }
+}

@@ -1,0 +1,116 @@
+//! Scripts with a malformed line, or one outside the limits, at a random place.
+
+use crate::generator::Draft;
+use crate::random::Random;
+
+pub fn spoil(random: &mut Random, mut draft: Draft) -> Vec<u8> {
+    match random.below(10) {
+        0 => unended(random, &draft),
+        1 => {
+            misplaced(random, &mut draft);
+            draft.text()
+        }
+        2..=4 => {
+            beyond(random, &mut draft);
+            draft.text()
+        }
+        kind => {
+            let place = place(random, &draft);
+            let line = draft.lines[place].clone();
+            draft.lines[place] = if kind < 8 { numbers(random, &line) } else { bytes(random, &line) };
+            draft.text()
+        }
+    }
+}
+
+/// A line of a letter that is as likely as the other letters, although lines of it may be few.
+fn place(random: &mut Random, draft: &Draft) -> usize {
+    let letter = random.pick(b"NAPLSieqcx");
+    let of_it = |place: &usize| draft.lines[*place][0] == letter;
+    let places: Vec<usize> = (0..draft.lines.len()).filter(of_it).collect();
+    if places.is_empty() {
+        random.below(draft.lines.len())
+    } else {
+        random.pick(&places)
+    }
+}
+
+/// Cut before the last line feed, or anywhere.
+fn unended(random: &mut Random, draft: &Draft) -> Vec<u8> {
+    let mut text = draft.text();
+    let cut = random.below(text.len());
+    let last = text.len() - 1;
+    text.truncate(random.pick(&[cut, last]));
+    text
+}
+
+/// A good line where it must not stand, or an empty one.
+fn misplaced(random: &mut Random, draft: &mut Draft) {
+    let place = random.below(draft.lines.len() + 1);
+    let after = draft.steps + random.below(draft.lines.len() - draft.steps + 1);
+    match random.below(5) {
+        0 => draft.lines.insert(place, Vec::new()),
+        1 => draft.lines.insert(place.max(1), draft.lines[0].clone()),
+        2 => drop(draft.lines.remove(0)),
+        _ => draft.lines.insert(after, draft.lines[random.below(draft.steps)].clone()),
+    }
+}
+
+/// A size, a register or P's imm outside its limits. Some would be inside with their upper bits cut off.
+fn beyond(random: &mut Random, draft: &mut Draft) {
+    let outside = random.pick(&[8, 8, 8, 9, 256, 257, 65_537, u32::MAX]);
+    let place = 1 + random.below(draft.steps);
+    let line = match random.below(8) {
+        0 => format!("N,{},1,4,8", random.pick(&[0, 3, 3, 5, 6, 7, 9, 16, 16, 257, u32::MAX])),
+        1 => format!("N,1,{},4,8", random.pick(&[0, 9, 257, u32::MAX])),
+        2 => format!("N,1,1,{},8", random.pick(&[0, 0, 17, 17, 32, 257, u32::MAX])),
+        3 => format!("N,1,1,4,{}", random.pick(&[0, 4097, 65_537, u32::MAX])),
+        4 => format!("{},{outside},0,1", random.pick(&["A", "P", "L", "S"])),
+        5 => format!("{},0,{outside},1", random.pick(&["A", "P", "L", "S"])),
+        _ => format!("P,1,2,{outside}"),
+    };
+    if line.starts_with('N') {
+        draft.lines[0] = line.into();
+    } else {
+        draft.lines.insert(place, line.into());
+    }
+}
+
+/// Another field, one less, or a number written in a way that no number is.
+fn numbers(random: &mut Random, line: &[u8]) -> Vec<u8> {
+    let mut fields: Vec<Vec<u8>> = line.split(|&byte| byte == b',').map(<[u8]>::to_vec).collect();
+    let place = random.below(fields.len()).max(fields.len().min(2) - 1);
+    let field = fields[place].clone();
+    match random.below(10) {
+        0 => drop(fields.pop()),
+        1 => fields.push(b"0".to_vec()),
+        2 => fields.push(Vec::new()),
+        3 => fields[place].clear(),
+        4 => fields.insert(1, Vec::new()),
+        5 => fields[place] = [b"0", field.as_slice()].concat(),
+        6 => fields[place] = [random.pick(&[b"+", b"-"]).as_slice(), &field].concat(),
+        7 => fields[place] = [field.as_slice(), random.pick(&[b"a", b":", b"/", b"."])].concat(),
+        _ => {
+            // The last three are small numbers if a sum of 32 or 64 bits wraps.
+            let large = ["99999999999", "4294967296", "4294967297", "18446744073709551617"];
+            fields[place] = random.pick(&large).into();
+        }
+    }
+    fields.join(&b',')
+}
+
+/// Another letter, or a byte that no line has.
+fn bytes(random: &mut Random, line: &[u8]) -> Vec<u8> {
+    let mut line = line.to_vec();
+    let place = random.below(line.len() + 1);
+    let high = 128 + random.number(128) as u8;
+    match random.below(7) {
+        0 => line[0] = random.pick(b"BZbzMn0,\"#"),
+        1 => line[0] ^= 32,
+        2 => line.insert(1, line[0]),
+        3 => line.insert(place, high),
+        4 => line.push(b'\r'),
+        _ => line.insert(place, random.pick(b"\r  \t\t\0\0")),
+    }
+    line
+}

@@ -1,0 +1,256 @@
+//! The scope's sample and examples, the readings of a script's text, and the limits.
+
+use crate::events::Events;
+use crate::generator::generate;
+use crate::machine::{Executed, Machine};
+use crate::player::{play, play_counted};
+use crate::text::{parse, Line};
+use crate::window::{Sizes, Stated};
+
+/// Lines parted by blanks here.
+fn played(lines: &str) -> String {
+    let text: String = lines.split(' ').map(|line| format!("{line}\n")).collect();
+    text_played(text.as_bytes())
+}
+
+fn text_played(text: &[u8]) -> String {
+    String::from_utf8(play(text)).unwrap().trim_end().replace('\n', " ")
+}
+
+/// The examples' machine: `memory` holds 140 at 100, and the constants of the program are committed.
+fn machine(rows: u32, stages: u32, program: &str, constants: usize) -> Machine<Stated> {
+    let mut machine = Machine::new(Stated, Sizes { banks: 1, rows, stages, words: 200 });
+    machine.memory[100] = 140;
+    for line in program.split(' ') {
+        let Some(Line::Instruction(instruction)) = parse(line.as_bytes()) else { panic!("{line}") };
+        machine.program.push(instruction);
+    }
+    advance(&mut machine, constants);
+    while machine.issue().is_ok() {}
+    machine
+}
+
+fn advance(machine: &mut Machine<Stated>, count: usize) {
+    (0..count).for_each(|_| assert!(machine.advance().is_some()));
+}
+
+fn took(value: u32) -> Result<Executed, u32> {
+    Ok(Executed { value, squashed: None })
+}
+
+fn squashed_from(position: usize) -> Result<Executed, u32> {
+    Ok(Executed { value: 0, squashed: Some(position) })
+}
+
+#[test]
+fn sample() {
+    let output = played("N,1,2,4,8 A,1,0,5 S,1,0,3 L,2,0,3 i i i e,2 e,0 e,1 c c i e,0 c");
+    assert_eq!(output, "0,A,1,5 1,S,3,5 2,L,2,5 m,3,5 end,done,3");
+}
+
+#[test]
+fn table_1() {
+    let mut machine = machine(4, 4, "A,1,0,120 A,2,0,50 S,1,0,100 S,2,0,120 L,3,0,100 L,4,3,0", 2);
+    assert_eq!(machine.execute(2), took(140));
+    assert_eq!(machine.execute(1), took(0));
+    assert_eq!(machine.execute(3), took(0));
+    assert_eq!(machine.execute(0), squashed_from(2));
+    assert!(machine.commit().is_ok() && machine.commit().is_ok());
+    assert_eq!((machine.issue(), machine.issue()), (Ok(0), Ok(1)));
+    assert_eq!((machine.execute(0), machine.execute(1)), (took(120), took(50)));
+}
+
+#[test]
+fn table_1_as_a_script() {
+    let program = "N,1,4,4,200 A,1,0,140 S,1,0,100 A,1,0,120 A,2,0,50 S,1,0,100 S,2,0,120 L,3,0,100 L,4,3,0";
+    let steps = "x,4 i i i i e,2 e,1 e,3 e,0 c c c i i e,0 e,1 c c";
+    let commits = "0,A,1,140 1,S,100,140 2,A,1,120 3,A,2,50 4,S,100,120 5,S,120,50 6,L,3,120 7,L,4,50";
+    let end = "m,100,120 m,120,50 end,done,8";
+    assert_eq!(played(&format!("{program} {steps}")), format!("{commits} {end}"));
+}
+
+#[test]
+fn forwards() {
+    let mut older = machine(4, 4, "A,1,0,7 S,1,0,5 L,2,0,5", 1);
+    assert_eq!((older.execute(0), older.execute(1)), (took(0), took(7)));
+    let mut younger = machine(4, 4, "A,1,0,7 L,2,0,5 S,1,0,5", 1);
+    assert_eq!((younger.execute(1), younger.execute(0)), (took(0), took(0)));
+}
+
+#[test]
+fn store_between() {
+    let program = "A,1,0,7 S,1,0,5 S,1,0,5 L,2,0,5";
+    let mut between = machine(4, 4, program, 1);
+    assert_eq!((between.execute(1), between.execute(2), between.execute(0)), (took(0), took(7), took(0)));
+    let mut bare = machine(4, 4, program, 1);
+    assert_eq!((bare.execute(2), bare.execute(0)), (took(0), squashed_from(2)));
+}
+
+#[test]
+fn evictions() {
+    let mut one = machine(1, 4, "L,1,0,6 L,2,0,5", 0);
+    assert_eq!((one.execute(1), one.execute(0)), (took(0), squashed_from(1)));
+    let mut stalled = machine(1, 4, "L,1,0,5 L,2,0,6", 0);
+    assert_eq!((stalled.execute(0), stalled.execute(1)), (took(0), Err(10)));
+    let mut two = machine(2, 4, "L,1,0,6 L,2,0,5 L,3,0,6 L,4,0,7", 0);
+    assert_eq!((two.execute(1), two.execute(3), two.execute(0)), (took(0), took(0), squashed_from(3)));
+    assert_eq!((two.window.live.len(), two.window.live[1].waits()), (3, false));
+}
+
+#[test]
+fn row_with_an_older_mark_stays() {
+    let mut machine = machine(1, 4, "L,1,0,5 L,2,0,6 L,3,0,5", 0);
+    assert_eq!((machine.execute(0), machine.execute(2), machine.execute(1)), (took(0), took(0), Err(10)));
+}
+
+#[test]
+fn last_word_and_beyond() {
+    assert_eq!(played("N,1,4,4,200 L,1,0,199 i e,0 c"), "0,L,1,0 end,done,1");
+    let mut beyond = machine(4, 4, "L,1,0,200", 0);
+    assert_eq!((beyond.execute(0), beyond.commit()), (took(0), Err(13)));
+}
+
+#[test]
+fn forward_beyond_memory() {
+    let mut machine = machine(4, 4, "A,1,0,7 S,1,0,200 L,2,0,200", 1);
+    assert_eq!((machine.execute(0), machine.execute(1)), (took(0), took(7)));
+    machine.squash(0).unwrap();
+    while machine.issue().is_ok() {}
+    assert_eq!((machine.execute(1), machine.execute(0)), (took(0), squashed_from(1)));
+}
+
+#[test]
+fn refusals_of_issue_execute_and_squash() {
+    let mut machine = machine(4, 4, "A,1,0,1 A,2,1,1 A,3,0,1 A,4,0,1 A,5,0,1", 0);
+    assert_eq!(machine.issue(), Err(5));
+    assert_eq!((machine.execute(1), machine.execute(4)), (Err(9), Err(7)));
+    assert_eq!((machine.commit(), machine.squash(4)), (Err(12), Err(7)));
+    assert_eq!((machine.execute(0), machine.execute(0)), (took(0), Err(8)));
+    assert_eq!((machine.squash(0), machine.commit()), (Ok(()), Err(11)));
+    assert_eq!(machine.next, 0);
+    advance(&mut machine, 5);
+    assert_eq!(machine.issue(), Err(6));
+}
+
+#[test]
+fn forward_across_the_last_stage() {
+    let mut machine = machine(4, 4, "A,1,0,7 A,2,0,8 A,3,0,9 S,1,0,5 L,4,0,5 L,5,0,5", 0);
+    advance(&mut machine, 2);
+    while machine.issue().is_ok() {}
+    assert_eq!((machine.window.stage(1), machine.window.stage(2)), (3, 0));
+    assert_eq!((machine.execute(1), machine.execute(2)), (took(0), took(7)));
+}
+
+#[test]
+fn small_scripts() {
+    assert_eq!(played("N,1,1,1,1"), "end,done,0");
+    assert_eq!(played("N,1,1,1,1 A,1,0,1"), "end,open,0");
+    assert_eq!(played("N,8,8,16,4096 i e,0 q,0 c x,9"), "end,done,0");
+    assert_eq!(played("N,1,1,1,1 A,1,0,1 x,0"), "end,open,0");
+    assert_eq!(played("N,1,1,1,1 A,1,0,1 S,1,0,0 i i e,0 c i e,0 c"), "0,A,1,1 1,S,0,1 m,0,1 end,done,2");
+    assert_eq!(played("N,1,1,1,1 A,1,0,1 e,4294967295 q,4294967295 x,4294967295"), "0,A,1,1 end,done,1");
+}
+
+#[test]
+fn fates() {
+    let program = "N,1,1,2,4 A,1,0,3 L,2,1,1";
+    assert_eq!(played(&format!("{program} x,9")), "0,A,1,3 end,fault,1");
+    assert_eq!(played(&format!("{program} i i e,0 e,1 c")), "0,A,1,3 end,fault,1");
+    assert_eq!(played(&format!("{program} i i e,0 e,1")), "end,open,0");
+    assert_eq!(played(&format!("{program} x,1 i")), "0,A,1,3 end,open,1");
+    assert_eq!(played(&format!("{program} x,1 i e,0 c c")), "0,A,1,3 end,fault,1");
+    assert_eq!(played(&format!("{program} x,9 q,0")), "0,A,1,3 end,open,1");
+}
+
+#[test]
+fn finish_keeps_live_entries() {
+    let program = "N,1,1,4,4 A,1,0,1 A,2,0,2 A,3,0,3";
+    assert_eq!(played(&format!("{program} i i i e,2 e,1 x,1 c c c")), "0,A,1,1 1,A,2,2 2,A,3,3 end,done,3");
+    assert_eq!(played(&format!("{program} i i i e,2 x,2 c c")), "0,A,1,1 1,A,2,2 2,A,3,3 end,done,3");
+}
+
+#[test]
+fn sums_wrap_and_register_0_is_ordinary() {
+    let program = "N,1,1,2,8 A,0,0,4294967295 P,1,0,0 S,1,0,6 L,2,0,6";
+    let commits = "0,A,0,4294967295 1,P,1,4294967294 2,S,5,4294967294 3,L,2,4294967294";
+    assert_eq!(played(&format!("{program} x,4")), format!("{commits} m,5,4294967294 end,done,4"));
+}
+
+#[test]
+fn whole_texts() {
+    assert_eq!(text_played(b""), "bad,1");
+    assert_eq!(text_played(b"\n"), "bad,1");
+    assert_eq!(text_played(b"N,1,1,1,1"), "bad,1");
+    assert_eq!(text_played(b"N,1,1,1,1\n"), "end,done,0");
+    assert_eq!(text_played(b"N,1,1,1,1\n\n"), "bad,2");
+    assert_eq!(text_played(b"N,1,1,1,1\nA,1,0,1\nx,1\ni"), "0,A,1,1 bad,4");
+    assert_eq!(text_played(b"i\n"), "bad,1");
+    assert_eq!(text_played(b"N,1,1,1,1\r\n"), "bad,1");
+    assert_eq!(play(b"N,1,1,1,1\nS,1,0,0\nx,1\n?\n"), b"0,S,0,0\nbad,4\n");
+}
+
+/// Each as the fifth line, after a commit that stands printed.
+#[test]
+fn malformed_steps() {
+    let start = b"N,1,2,4,8\nA,1,0,5\nS,1,0,3\nx,2\n";
+    #[rustfmt::skip]
+    let lines: [&[u8]; 31] = [
+        b"", b"i,", b"i,0", b"e", b"e,", b"e,00", b"e,01", b"e,+1", b"e,-1", b"e, 1", b"e,1 ",
+        b" e,1", b"e,4294967296", b"e,18446744073709551616", b"e,1,", b"e,1,2", b"E,1", b"I", b"x",
+        b"x,", b"n,1,2,4,8", b"N,1,2,4,8", b"A,1,0,5", b"z", b"ii", b"i\r", b"i\0", b"\ti",
+        b"i\x80", b"\xff", b",",
+    ];
+    for line in lines {
+        let text = [start, line, b"\nx,9\n"].concat();
+        assert_eq!(text_played(&text), "0,A,1,5 1,S,3,5 bad,5", "{}", line.escape_ascii());
+    }
+}
+
+#[test]
+fn instruction_lines() {
+    let bad = ["A,8,0,0", "A,0,8,0", "P,0,0,8", "L,8,0,0", "S,0,4294967295,0", "A,1", "A,1,2,3,4", "A,,0,0"];
+    for line in bad {
+        assert_eq!(played(&format!("N,1,1,1,1 A,7,7,0 {line} x,1")), "bad,3", "{line}");
+    }
+    for line in ["A,7,7,4294967295", "P,7,7,7", "L,7,7,4294967295", "S,7,7,8", "A,0,0,0"] {
+        assert_eq!(played(&format!("N,1,1,1,1 A,7,7,0 {line}")), "end,open,0", "{line}");
+    }
+}
+
+#[test]
+fn sizes() {
+    for line in ["1,1,1,1", "2,1,1,1", "4,8,16,4096", "8,8,16,4096"] {
+        assert_eq!(played(&format!("N,{line}")), "end,done,0", "{line}");
+    }
+    let bad = ["0,1,1,1", "3,1,1,1", "16,1,1,1", "1,0,1,1", "1,9,1,1", "1,1,0,1", "1,1,17,1", "1,1,1,0"];
+    for line in bad.into_iter().chain(["1,1,1,4097", "4294967295,1,1,1", "1,1,1", "1,1,1,1,1", "01,1,1,1"]) {
+        assert_eq!(played(&format!("N,{line}")), "bad,1", "{line}");
+    }
+}
+
+#[test]
+fn longest_program() {
+    let longest = format!("N,1,1,1,1{}", " A,1,1,1".repeat(256));
+    assert!(played(&format!("{longest} x,300")).ends_with("255,A,1,256 end,done,256"));
+    assert_eq!(played(&format!("{longest} A,1,1,1 x,300")), "bad,258");
+}
+
+#[test]
+fn longest_input() {
+    let mut text = b"N,1,1,1,1\nA,1,0,1\nx,1\n".to_vec();
+    text.resize(65_534, b'\n');
+    (22..65_534).step_by(2).for_each(|place| text[place] = b'c');
+    text.extend(b"c\n");
+    assert_eq!((text.len(), text_played(&text).as_str()), (65_536, "0,A,1,1 end,done,1"));
+    text.push(b'\n');
+    assert_eq!(text_played(&text), "bad,0");
+}
+
+#[test]
+fn every_event_is_reached() {
+    let mut events = Events::default();
+    (0..3000).for_each(|seed| events.join(&play_counted(&generate(seed)).1));
+    for (name, count) in events.list() {
+        assert!(count >= 5, "{name}: {count}");
+    }
+}

@@ -1,0 +1,161 @@
+//! The live instructions as a plain list, oldest first, and the buffer's rules as questions to that list.
+
+#[derive(Clone, Copy, PartialEq, Eq, Debug)]
+pub struct Sizes {
+    pub banks: u32,
+    pub rows: u32,
+    pub stages: u32,
+    pub words: u32,
+}
+
+impl Sizes {
+    pub fn fit(&self) -> bool {
+        [1, 2, 4, 8].contains(&self.banks)
+            && (1..=8).contains(&self.rows)
+            && (1..=16).contains(&self.stages)
+            && (1..=4096).contains(&self.words)
+    }
+
+    pub fn bank(&self, address: u32) -> u32 {
+        address % 64 % 8 % self.banks
+    }
+}
+
+#[derive(Clone, Copy, PartialEq, Eq, Debug)]
+pub enum Code {
+    A,
+    P,
+    L,
+    S,
+}
+
+#[derive(Clone, Copy, PartialEq, Eq, Debug)]
+pub struct Instruction {
+    pub code: Code,
+    pub d: u32,
+    pub s: u32,
+    pub imm: u32,
+}
+
+impl Instruction {
+    pub fn fits(&self) -> bool {
+        self.d <= 7 && self.s <= 7 && (self.code != Code::P || self.imm <= 7)
+    }
+
+    pub fn writes(&self, register: u32) -> bool {
+        self.code != Code::S && self.d == register
+    }
+}
+
+/// What became of a live instruction; only loads and stores have an address.
+#[derive(Clone, Copy, PartialEq, Eq, Debug)]
+pub enum Fate {
+    Waiting,
+    Executed { value: u32, address: Option<u32> },
+}
+
+#[derive(Clone, Copy, PartialEq, Eq, Debug)]
+pub struct Entry {
+    pub index: usize,
+    pub instruction: Instruction,
+    pub fate: Fate,
+}
+
+impl Entry {
+    pub fn waits(&self) -> bool {
+        self.fate == Fate::Waiting
+    }
+
+    /// The address this one executed to: its mark.
+    pub fn mark(&self) -> Option<u32> {
+        match self.fate {
+            Fate::Executed { address, .. } => address,
+            Fate::Waiting => None,
+        }
+    }
+
+    pub fn value(&self) -> Option<u32> {
+        match self.fate {
+            Fate::Executed { value, .. } => Some(value),
+            Fate::Waiting => None,
+        }
+    }
+
+    pub fn is(&self, code: Code) -> bool {
+        self.instruction.code == code
+    }
+}
+
+/// A row in use: an address that live references executed to, and the position of the oldest of them.
+#[derive(Clone, Copy, PartialEq, Eq, Debug)]
+pub struct Row {
+    pub address: u32,
+    pub oldest: usize,
+}
+
+#[derive(Clone, PartialEq, Eq, Debug)]
+pub struct Window {
+    pub sizes: Sizes,
+    pub live: Vec<Entry>,
+}
+
+impl Window {
+    /// The stage of a position. Issue and commit both go through the stages one by one, so that an
+    /// instruction's stage is its index modulo the number of stages. No rule below asks for it.
+    pub fn stage(&self, position: usize) -> usize {
+        self.live[position].index % self.sizes.stages as usize
+    }
+
+    /// The rows in use of a bank.
+    pub fn rows(&self, bank: u32) -> Vec<Row> {
+        let mut rows: Vec<Row> = Vec::new();
+        for (oldest, entry) in self.live.iter().enumerate() {
+            let Some(address) = entry.mark() else { continue };
+            if self.sizes.bank(address) == bank && rows.iter().all(|row| row.address != address) {
+                rows.push(Row { address, oldest });
+            }
+        }
+        rows
+    }
+}
+
+/// The buffer's rules. A trait, so that the tests can put a wrong rule in the place of a right one.
+pub trait Rules: Clone {
+    /// The store whose word a load at position `k` takes: the youngest older one to this address.
+    fn forward(&self, window: &Window, k: usize, address: u32) -> Option<usize> {
+        let stores = |p: &usize| window.live[*p].is(Code::S) && window.live[*p].mark() == Some(address);
+        (0..k).rev().find(stores)
+    }
+
+    /// Where a store at position `k` squashes from. The value plays no part.
+    fn violation(&self, window: &Window, k: usize, address: u32, _value: u32) -> Option<usize> {
+        let first = (k + 1..window.live.len()).find(|&p| window.live[p].mark() == Some(address))?;
+        window.live[first].is(Code::L).then_some(first)
+    }
+
+    /// A row for position `k`: had or free (nothing to squash), by eviction (where to squash from), or none.
+    fn room(&self, window: &Window, k: usize, address: u32) -> Result<Option<usize>, u32> {
+        let rows = window.rows(window.sizes.bank(address));
+        if rows.iter().any(|row| row.address == address) || rows.len() < window.sizes.rows as usize {
+            return Ok(None);
+        }
+        match rows.iter().map(|row| row.oldest).filter(|&oldest| oldest > k).max() {
+            Some(oldest) => Ok(Some(oldest)),
+            None => Err(10),
+        }
+    }
+
+    fn squash(&mut self, window: &mut Window, from: usize) {
+        window.live.truncate(from);
+    }
+
+    fn fresh(&mut self, _index: usize) -> Fate {
+        Fate::Waiting
+    }
+}
+
+/// The rules as the scope states them.
+#[derive(Clone)]
+pub struct Stated;
+
+impl Rules for Stated {}
