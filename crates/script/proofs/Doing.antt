@@ -2,7 +2,7 @@
 -- are `respond`'s, so what `plays` records and counts is what the answer tells: nothing for an issue, an execute, a squash
 -- and a refusal, and four numbers for a commit.
 -- Assumes nothing.
-use mathlib.Core.Path.{_≡_, refl, ap}
+use mathlib.Core.Path.{_≡_, refl, ap, sym, subst}
 use mathlib.Core.List.{List, [], _∷_, append-nil}
 use Prim.Native.Nat.{ℕ, suc, _+_, _≤_, _<_}
 use native.Mathlib.Omega.{arith}
@@ -21,11 +21,7 @@ use Rattle.theorem.specs.Play.{recorded, counted}
 use Rattle.script.specs.declared.Player.{Player}
 use Rattle.script.specs.Output.{commitLine, commitLines}
 use Rattle.script.specs.Playing.{Writes, longest}
-use Rattle.script.specs.Parts.{Does, Commits}
-
--- a player after a call: another machine and number of commits
-abbrev pub holding : Player → Machine → ℕ → Player
-holding p m n = record { phase = p .phase; cursor = p .cursor; line = p .line; commits = n; machine = m }
+use Rattle.script.specs.Parts.{holding, Does, Commits}
 
 -- the answer tells of no commit
 pub record Quiet (said : Answer) : Type 0 where
@@ -75,11 +71,12 @@ quiet-does meets quiet = meets-does meets (quiet .nothing) (λ few. omega (arith
 
 module _ (program : List ℕ) (p : Player) (memory after out : List ℕ) (at : ℕ) (a : CommitAnswer) (m : Machine)
     (meets : Meets program (p .machine) commit memory (commitSays a) m after []) where
-  pub commit-refused : (k : ℕ) → a ≡ commit-answer.Refused k
-      → Commits program commit p memory out at (holding p m (p .commits)) after out at
+  pub commit-refused : (k : ℕ) (q : Player) → a ≡ commit-answer.Refused k → q ≡ holding p m (p .commits)
+      → Commits program commit p memory out at q after out at
   unfolding commitLines
-  commit-refused k is =
-      record {
+  commit-refused k q is held =
+      subst (λ (x : Player). Commits program commit p memory out at x after out at) (sym held)
+      (record {
         numbers = [];
         whole = refl;
         made = meets-does meets (ap (λ (b : CommitAnswer). recorded (commitSays b) []) is)
@@ -87,15 +84,17 @@ module _ (program : List ℕ) (p : Player) (memory after out : List ℕ) (at : �
         writes = record { ended = omega arith; written = refl };
         short = omega arith;
         most-one = omega arith;
-      }
+      })
 
-  pub commit-made : (i c r v n : ℕ) (into : List ℕ) (end : ℕ) → a ≡ commit-answer.Committed i c r v
+  pub commit-made : (i c r v n : ℕ) (into : List ℕ) (end : ℕ) (q : Player) → a ≡ commit-answer.Committed i c r v
+      → q ≡ holding p m n
       → (p .commits < 18446744073709551615 → n ≡ suc (p .commits)) × (n ≤ suc (p .commits))
       → Writes out at (commitLine i c r v) into end × (end ≤ at + longest)
-      → Commits program commit p memory out at (holding p m n) after into end
+      → Commits program commit p memory out at q after into end
   unfolding commitLines
-  commit-made i c r v n into end is one put =
-      record {
+  commit-made i c r v n into end q is held one put =
+      subst (λ (x : Player). Commits program commit p memory out at x after into end) (sym held)
+      (record {
         numbers = i ∷ c ∷ r ∷ v ∷ [];
         whole = refl;
         made = meets-does meets (ap (λ (b : CommitAnswer). recorded (commitSays b) []) is)
@@ -103,4 +102,4 @@ module _ (program : List ℕ) (p : Player) (memory after out : List ℕ) (at : �
         writes = rw append-nil (put .0);
         short = rw append-nil (omega (arith, put .0 .ended));
         most-one = one .1;
-      }
+      })

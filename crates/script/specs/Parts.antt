@@ -10,6 +10,7 @@ use lib.Seq.{slice}
 use Rattle.table.specs.Limits.{sizesFit}
 use Rattle.machine.specs.Program.{wellFormed}
 use Rattle.machine.specs.Calls.{Call}
+use Rattle.machine.specs.declared.Machine.{Machine}
 use Rattle.machine.specs.Contract.{plain, Sound}
 use Rattle.theorem.specs.Play.{Played, plays}
 use Rattle.text.specs.declared.Line.{Line}
@@ -75,6 +76,10 @@ pub record Loads (s : List ℕ) (from : ℕ) (into : List ℕ) (cursor line used
   pub places : used ≤ 1024
   pub within : from ≤ length s → cursor ≤ length s
   pub numbered : line + from ≤ cursor + 2
+
+-- a player after a call: another machine and number of commits
+abbrev pub holding : Player → Machine → ℕ → Player
+holding p m n = record { phase = p .phase; cursor = p .cursor; line = p .line; commits = n; machine = m }
 
 -- Player q is p after one call that recorded these numbers.
 pub record Does (program : List ℕ) (c : Call) (p : Player) (memory : List ℕ) (q : Player) (after numbers : List ℕ) : Type 0 where

@@ -20,7 +20,7 @@ ghost use Rattle.script.specs.Language.{alone, withOne, withThree, withF
 ghost use Rattle.script.specs.Output as output;
 ghost use Rattle.script.specs.Output.{number, letter, commitLine, wordLine, ending, endLine, badLine};
 ghost use Rattle.script.specs.Playing.{standing, leftIn, isOver, rank, weight, longest, Writes, Tells, Fills, wordsOf, Begins};
-ghost use Rattle.script.specs.Parts.{headerIn, headerOf, foundIn, foundAt, Loads, Does, Commits, Goes};
+ghost use Rattle.script.specs.Parts.{headerIn, headerOf, foundIn, foundAt, Loads, holding, Does, Commits, Goes};
 ghost use Rattle.script.specs.declared.Phase.the-variants as phase;
 ghost use Rattle.script.specs.declared.Ending.the-variants.{Open, Fault};
 
@@ -173,7 +173,7 @@ fn say_fields(b: u8, n: Numbers) -> Item
 }
 
 // What the line from `from` up to `to` says.
-pub fn read_item(s: &[u8], from: usize, to: usize) -> Item
+fn read_item(s: &[u8], from: usize, to: usize) -> Item
     requires { ⌜ to ≤ length (now s) ⌝ }
     ensures { λ r. ⌜ r ≡ said (slice from to (now (s .entry))) ⌝ }
 {
@@ -558,6 +558,16 @@ fn squash_from(p: Player, program: &[u32], k: u32) -> Player
     q
 }
 
+// The player with this machine and this number of commits.
+fn hold(p: Player, machine: Machine, commits: u64) -> Player
+    ensures { λ r. ⌜ r ≡ holding p machine commits ⌝ }
+{
+    let mut q = p;
+    q.machine = machine;
+    q.commits = commits;
+    q
+}
+
 // The player after a commit, which prints its line.
 fn commit_oldest(p: Player, program: &[u32], memory: &mut [u32], out: &mut [u8], at: usize) -> Piece
     requires { ⌜ at + longest ≤ length (now out) ⌝ }
@@ -565,18 +575,22 @@ fn commit_oldest(p: Player, program: &[u32], memory: &mut [u32], out: &mut [u8],
         (now (out .exit)) (r .end) ⌝ }
 {
     let m = p.machine;
+    let commits = p.commits;
+    let more = one_more(commits);
     let done = machine::commit(m, program, memory);
     let said = done.answer;
     let after = done.machine;
-    let commits = p.commits;
-    let mut q = p;
-    q.machine = after;
     match said {
-        machine::CommitAnswer::Refused(_) => Piece { player: q, end: at },
+        machine::CommitAnswer::Refused(_) => Piece {
+            player: hold(p, after, commits),
+            end: at,
+        },
         machine::CommitAnswer::Committed(i, code, r, v) => {
-            q.commits = one_more(commits);
             let end = put_commit(out, at, i, code, r, v);
-            Piece { player: q, end }
+            Piece {
+                player: hold(p, after, more),
+                end,
+            }
         }
     }
 }
