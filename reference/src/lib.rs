@@ -6,6 +6,7 @@ pub mod events;
 pub mod generator;
 pub mod machine;
 pub mod outside;
+pub mod pace;
 pub mod player;
 pub mod random;
 pub mod run;

@@ -1,6 +1,6 @@
 //! The program: plays a script, shows a generated one, and compares another player with this one.
 
-use reference::{compare, generator, player};
+use reference::{compare, generator, pace, player};
 use std::io::{Read, Write};
 use std::process::ExitCode;
 use std::time::{SystemTime, UNIX_EPOCH};
@@ -9,7 +9,8 @@ const USAGE: &str = "usage:
   reference play [FILE]                         plays a file or standard input
   reference script SEED                         prints the script of a seed
   reference differ PROGRAM COUNT [FIRST_SEED]   compares PROGRAM on COUNT scripts
-  reference fuzz PROGRAM SECONDS [SEED]         compares PROGRAM on fresh scripts for a time";
+  reference fuzz PROGRAM SECONDS [SEED]         compares PROGRAM on fresh scripts for a time
+  reference pace PROGRAM                        shows how fast PROGRAM and this player play";
 
 fn main() -> ExitCode {
     let arguments: Vec<String> = std::env::args().skip(1).collect();
@@ -36,6 +37,7 @@ fn run(arguments: &[&str]) -> Result<bool, String> {
         ["differ", program, count, first] => Ok(compare::differ(program, number(count)?, number(first)?)),
         ["fuzz", program, seconds] => Ok(compare::fuzz(program, number(seconds)?, fresh())),
         ["fuzz", program, seconds, seed] => Ok(compare::fuzz(program, number(seconds)?, number(seed)?)),
+        ["pace", program] => Ok(pace::pace(program)),
         _ => Err(USAGE.to_string()),
     }
 }

@@ -21,9 +21,7 @@ use Rattle.table.specs.Reference.{Fate, other, loaded, stored, fateOf, at, Stat
 use Rattle.table.specs.View.{stageOf, view}
 use Rattle.table.specs.Rules.{Rules}
 use Rattle.table.specs.Moves.{keeping, became}
-use Rattle.table.specs.Check.{lawful}
 use Rattle.table.proofs.Fates.{length-refs}
-use Rattle.table.proofs.Lawful.{lawful-rules}
 use Rattle.table.proofs.Owning.{RowFor, row-for-less}
 use Rattle.window.specs.Steps.{cut, noted, loadMarked, storeMarked}
 use Rattle.window.proofs.Lengths.{Lengths}
@@ -43,14 +41,13 @@ use Rattle.buffer.specs.Refusals.{refusal, place, names, hasExecuted, ex
 use Rattle.buffer.specs.Calls.{Call, executeLoad, executeStore, executeOther, squashFrom, execution, respond}
 use Rattle.buffer.specs.Contract.{Meets}
 use Rattle.buffer.specs.Parts.{namedBy, executeRefusal, cutFrom}
-use Rattle.buffer.proofs.Judging.{turned, judged-refused, judged-passed}
-use Rattle.buffer.proofs.Judging.{broken-meets, refused-meets, accepted-meets}
+use Rattle.buffer.proofs.Judging.{turned, judged-refused, judged-passed, refused-meets, accepted-meets}
 use Rattle.buffer.proofs.Tied.{named-names, executed-at, squash-from}
 
--- the code's refusal before a row is looked for, of a table that is lawful or not
-abbrev pub earlyBy : Bool → Table → Ticket → List ℕ → ℕ
-earlyBy b t τ m =
-    executeRefusal b (t .words) (length m)
+-- the code's refusal before a row is looked for
+abbrev pub earlyBy : Table → Ticket → List ℕ → ℕ
+earlyBy t τ m =
+    executeRefusal (t .words) (length m)
     (namedBy (t .oldest) (t .stages) (t .live) (t .numbers) (τ .stage) (τ .number))
     (has (t .executed) (τ .stage))
 
@@ -96,7 +93,7 @@ module _ (t : Table) (rules : Rules t) (τ : Ticket) (m : List ℕ) where
   here-at : τ .stage < t .stages → stageOf t (place (view t) τ) ≡ τ .stage
   here-at h = stage-position (t .oldest) (t .stages) (rules .start) (τ .stage) h
 
-  pub ready : earlyBy true t τ m ≡ 0 → Ready t τ m
+  pub ready : earlyBy t τ m ≡ 0 → Ready t τ m
   ready e =
       let w = none-holds (eqb (length m) (t .words)) (ltb (τ .stage) (t .stages)) (ltb (place (view t) τ) (t .live))
       (eqb (getD (t .numbers) (τ .stage) 0) (τ .number)) (has (t .executed) (τ .stage)) e in
@@ -121,7 +118,7 @@ module _ (t : Table) (rules : Rules t) (τ : Ticket) (m : List ℕ) where
       ∙ sym (executed-at t rules (place (view t) τ) (rw (length-refs t) at b))
 
   checks-early : (f : Fate) → refusal (executeChecks (view t) m τ f)
-      ≡ cond (eqb (earlyBy true t τ m) 0) (cond (eqb (leaves (view t) (place (view t) τ) f) 0) 10 0) (earlyBy true t τ m)
+      ≡ cond (eqb (earlyBy t τ m) 0) (cond (eqb (leaves (view t) (place (view t) τ) f) 0) 10 0) (earlyBy t τ m)
   checks-early f =
       chained (eqb (length m) (t .words))
       (namedBy (t .oldest) (t .stages) (t .live) (t .numbers) (τ .stage) (τ .number))
@@ -138,28 +135,30 @@ module _ (t : Table) (rules : Rules t) (τ : Ticket) (m : List ℕ) where
         (is ∙ judged-refused (refusal (executeChecks (view t) m τ f)) (view t) m _ (λ z. some (sym e ∙ z))
         ∙ ap (λ (n : ℕ). turned n (view t) m) e)
 
-    pub early : (earlyBy true t τ m ≡ 0 → ⊥) → Meets t c m (refused (earlyBy true t τ m)) t m
-    early some =
-        by-checks (earlyBy true t τ m)
+    -- the code's early refusal
+    pub turned-down : (k : ℕ) → k ≡ earlyBy t τ m → (k ≡ 0 → ⊥) → Meets t c m (refused k) t m
+    turned-down k e some =
+        by-checks k
         (checks-early f
-        ∙ ap (λ (b : Bool). cond b (cond (eqb (leaves (view t) (place (view t) τ) f) 0) 10 0) (earlyBy true t τ m))
-        (ne-eqb (earlyBy true t τ m) 0 some))
+        ∙ ap (λ (b : Bool). cond b (cond (eqb (leaves (view t) (place (view t) τ) f) 0) 10 0) (earlyBy t τ m))
+        (ne-eqb (earlyBy t τ m) 0 (λ z. some (e ∙ z)))
+        ∙ sym e)
         some
 
     -- where the code refuses nothing yet, what is left decides
-    left-decides : earlyBy true t τ m ≡ 0
+    left-decides : earlyBy t τ m ≡ 0
         → refusal (executeChecks (view t) m τ f) ≡ cond (eqb (leaves (view t) (place (view t) τ) f) 0) 10 0
     left-decides e =
         checks-early f
-        ∙ ap (λ (b : Bool). cond b (cond (eqb (leaves (view t) (place (view t) τ) f) 0) 10 0) (earlyBy true t τ m))
-        (eq-eqb (earlyBy true t τ m) 0 e)
+        ∙ ap (λ (b : Bool). cond b (cond (eqb (leaves (view t) (place (view t) τ) f) 0) 10 0) (earlyBy t τ m))
+        (eq-eqb (earlyBy t τ m) 0 e)
 
-    stalls : earlyBy true t τ m ≡ 0 → leaves (view t) (place (view t) τ) f ≡ 0 → Meets t c m (refused 10) t m
+    stalls : earlyBy t τ m ≡ 0 → leaves (view t) (place (view t) τ) f ≡ 0 → Meets t c m (refused 10) t m
     stalls e none =
         by-checks 10 (left-decides e ∙ ap (λ (b : Bool). cond b 10 0) (eq-eqb _ 0 none)) (λ z. omega arith)
 
     -- the first `left` references stay, and the executing one has its fate
-    meets : earlyBy true t τ m ≡ 0 → (left : ℕ) → (left ≡ 0 → ⊥) → left ≡ leaves (view t) (place (view t) τ) f
+    meets : earlyBy t τ m ≡ 0 → (left : ℕ) → (left ≡ 0 → ⊥) → left ≡ leaves (view t) (place (view t) τ) f
         → (w : ℕ) → w ≡ v → (u : Table) → view u ≡ became (keeping (view t) left) (place (view t) τ) f → Rules u
         → Meets t c m (executed w (cutFrom (t .oldest) (t .stages) (t .live) left (t .numbers))) u m
     meets e left some same w value u after lawful =
@@ -186,21 +185,21 @@ module _ (t : Table) (rules : Rules t) (τ : Ticket) (m : List ℕ) where
         row = cut-row t rules (found .left) a (found .row) (placed .within) (placed .owned);
       }
 
-  pub load-stalls : (a : ℕ) → earlyBy true t τ m ≡ 0 → loadAt t a (place (view t) τ) .left ≡ 0
+  pub load-stalls : (a : ℕ) → earlyBy t τ m ≡ 0 → loadAt t a (place (view t) τ) .left ≡ 0
       → Meets t (executeLoad τ a) m (refused 10) t m
   unfolding respond
   load-stalls a e none =
       stalls (executeLoad τ a) (loaded a) (forwarded (view t) m (place (view t) τ) a) refl e
       (sym (load-left t rules a (place (view t) τ) (ready e .live)) ∙ none)
 
-  pub store-stalls : (a v : ℕ) → earlyBy true t τ m ≡ 0 → storeAt t a (place (view t) τ) .left ≡ 0
+  pub store-stalls : (a v : ℕ) → earlyBy t τ m ≡ 0 → storeAt t a (place (view t) τ) .left ≡ 0
       → Meets t (executeStore τ a v) m (refused 10) t m
   unfolding respond
   store-stalls a v e none =
       stalls (executeStore τ a v) (stored a v) 0 refl e
       (sym (store-left t rules a (place (view t) τ) (ready e .live) v) ∙ none)
 
-  pub load-meets : (a : ℕ) → earlyBy true t τ m ≡ 0 → Lengths t → (loadAt t a (place (view t) τ) .left ≡ 0 → ⊥)
+  pub load-meets : (a : ℕ) → earlyBy t τ m ≡ 0 → Lengths t → (loadAt t a (place (view t) τ) .left ≡ 0 → ⊥)
       → Meets t (executeLoad τ a) m
       (executed
       (forward (t .oldest) (t .stages) (t .stores) (t .values) (loadAt t a (place (view t) τ) .row) (place (view t) τ)
@@ -227,7 +226,7 @@ module _ (t : Table) (rules : Rules t) (τ : Ticket) (m : List ℕ) where
       (subst (λ (s : ℕ). Rules (loadMarked (cut t left) row s a)) (now .here)
       (load-rules (cut t left) (u .rules) (u .lengths) p a row (placed .after) (now .idle) (u .row)))
 
-  pub store-meets : (a v : ℕ) → earlyBy true t τ m ≡ 0 → Lengths t → (storeAt t a (place (view t) τ) .left ≡ 0 → ⊥)
+  pub store-meets : (a v : ℕ) → earlyBy t τ m ≡ 0 → Lengths t → (storeAt t a (place (view t) τ) .left ≡ 0 → ⊥)
       → Meets t (executeStore τ a v) m
       (executed 0 (cutFrom (t .oldest) (t .stages) (t .live) (storeAt t a (place (view t) τ) .left) (t .numbers)))
       (storeMarked (cut t (storeAt t a (place (view t) τ) .left)) (storeAt t a (place (view t) τ) .row) (τ .stage) a v) m
@@ -248,7 +247,7 @@ module _ (t : Table) (rules : Rules t) (τ : Ticket) (m : List ℕ) where
       (subst (λ (s : ℕ). Rules (storeMarked (cut t left) row s a v)) (now .here)
       (store-rules (cut t left) (u .rules) (u .lengths) p a row v (placed .after) (now .idle) (u .row)))
 
-  pub other-meets : earlyBy true t τ m ≡ 0 → Meets t (executeOther τ) m (executed 0 Nothing) (noted t (τ .stage)) m
+  pub other-meets : earlyBy t τ m ≡ 0 → Meets t (executeOther τ) m (executed 0 Nothing) (noted t (τ .stage)) m
   unfolding respond
   other-meets e =
       let p = place (view t) τ in
@@ -263,21 +262,3 @@ module _ (t : Table) (rules : Rules t) (τ : Ticket) (m : List ℕ) where
       (noted-view t rules p (now .live) (now .idle))
       ∙ ap (λ (Q : State). became Q p other) (sym whole))
       (subst (λ (s : ℕ). Rules (noted t s)) (now .here) (noted-rules t rules p (now .live))))
-
-module _ (t : Table) (τ : Ticket) (m : List ℕ) where
-  -- the code's early refusal, of any table
-  pub turned-down : (c : Call) (f : Fate) (v : ℕ) → respond c (view t) m ≡ execution (view t) m τ f v → (k : ℕ)
-      → k ≡ earlyBy (lawful t) t τ m → (k ≡ 0 → ⊥) → Meets t c m (refused k) t m
-  turned-down c f v is k e some = go (lawful t) refl e
-    where
-      go : (b : Bool) → lawful t ≡ b → k ≡ earlyBy b t τ m → Meets t c m (refused k) t m
-      go true l j = rw j (early t (lawful-rules t l) τ m c f v is (λ z. some (j ∙ z)))
-      go false l j = rw j (broken-meets t c m l)
-
-  -- where the code refuses nothing yet, the table keeps its rules
-  pub passed : earlyBy (lawful t) t τ m ≡ 0 → Rules t × (earlyBy true t τ m ≡ 0)
-  passed e = go (lawful t) refl e
-    where
-      go : (b : Bool) → lawful t ≡ b → earlyBy b t τ m ≡ 0 → Rules t × (earlyBy true t τ m ≡ 0)
-      go true l j = (lawful-rules t l, j)
-      go false l j = absurd (omega arith)

@@ -15,10 +15,10 @@ abbrev pub namedBy : ℕ → ℕ → ℕ → List ℕ → ℕ → ℕ → Bool
 namedBy oldest stages live numbers s number =
     ltb s stages && (ltb (position oldest stages s) live && eqb (getD numbers s 0) number)
 
--- an execution's conditions before its row is looked for
-abbrev pub executeRefusal : Bool → ℕ → ℕ → Bool → Bool → ℕ
-executeRefusal lawful words lent isNamed isExecuted =
-    refusal (when (not lawful) 2 ∷ when (not (eqb lent words)) 3 ∷ when (not isNamed) 7 ∷ when isExecuted 8 ∷ [])
+-- an execution's conditions before its row is looked for, on a table that keeps its rules
+abbrev pub executeRefusal : ℕ → ℕ → Bool → Bool → ℕ
+executeRefusal words lent isNamed isExecuted =
+    refusal (when (not (eqb lent words)) 3 ∷ when (not isNamed) 7 ∷ when isExecuted 8 ∷ [])
 
 -- where references are squashed from when `left` of `live` stay
 abbrev pub cutFrom : ℕ → ℕ → ℕ → ℕ → List ℕ → Squashed

@@ -2,6 +2,9 @@
 //
 // No call requires anything: what it is given that breaks a rule it refuses, with the numbers of specs/Refusals.antt, and
 // hands the table back as it was passed. Each contract is `Meets` (or `Opens`) of specs/Contract.antt.
+//
+// A call is its step after a check of the table's own rules. The steps are for callers that have made that check: they
+// require the rules, and promise what their calls promise.
 use lookup::Mark;
 use table::Table;
 use table::Ticket;
@@ -16,7 +19,7 @@ ghost use Rattle.buffer.specs.Answers.{doneSays, ticketSays, executeSays
 ghost use Rattle.buffer.specs.Refusals.{faults};
 ghost use Rattle.buffer.specs.Calls.{issue, executeLoad, executeStore, executeOther, squash, commit, written};
 ghost use Rattle.buffer.specs.Contract.{Meets, Opens, fresh};
-ghost use Rattle.table.specs.Check.{lawfulBy};
+ghost use Rattle.table.specs.Rules.{Rules};
 ghost use Rattle.lookup.specs.Search.{markedFate};
 ghost use Rattle.buffer.specs.Parts.{namedBy, executeRefusal, cutFrom};
 
@@ -102,31 +105,15 @@ pub fn open(banks: usize, rows: usize, stages: usize, words: usize, memory: &[u3
     }
 }
 
-// A new youngest reference in the next stage.
-pub fn issue(t: Table) -> TicketResult
+// The step of `issue`, for a caller that has checked the table's rules.
+pub fn issue_step(t: Table) -> TicketResult
+    requires { ⌜ Rules t ⌝ }
     ensures { λ r. ⌜ ((m : List ℕ) → Meets t issue m (ticketSays (r .answer)) (r .table) m) ⌝ }
 {
     let stages = t.stages;
     let oldest = t.oldest;
     let live = t.live;
     let executed = t.executed;
-    if !table::keeps_rules(
-        t.banks,
-        t.rows,
-        stages,
-        t.words,
-        oldest,
-        live,
-        executed,
-        &t.addresses,
-        &t.loads,
-        &t.stores,
-    ) {
-        return TicketResult {
-            answer: TicketAnswer::Refused(2),
-            table: t,
-        };
-    }
     if live == stages {
         return TicketResult {
             answer: TicketAnswer::Refused(5),
@@ -144,6 +131,30 @@ pub fn issue(t: Table) -> TicketResult
         answer: TicketAnswer::Named(Ticket { stage: s, number }),
         table: next,
     }
+}
+
+// A new youngest reference in the next stage.
+pub fn issue(t: Table) -> TicketResult
+    ensures { λ r. ⌜ ((m : List ℕ) → Meets t issue m (ticketSays (r .answer)) (r .table) m) ⌝ }
+{
+    if !table::keeps_rules(
+        t.banks,
+        t.rows,
+        t.stages,
+        t.words,
+        t.oldest,
+        t.live,
+        t.executed,
+        &t.addresses,
+        &t.loads,
+        &t.stores,
+    ) {
+        return TicketResult {
+            answer: TicketAnswer::Refused(2),
+            table: t,
+        };
+    }
+    issue_step(t)
 }
 
 // Whether the ticket of this stage and number names a live reference.
@@ -166,44 +177,20 @@ fn named<'a>(
 
 // Why an execution with this ticket on a memory of this length is turned down before its row is looked for; 0: it is not.
 fn execution_refusal<'a>(
-    banks: usize,
-    rows: usize,
     stages: usize,
     words: usize,
     oldest: usize,
     live: usize,
     executed: u32,
     numbers: &'a [u32; 16],
-    addresses: &'a [u32; 64],
-    loads: &'a [u32; 64],
-    stores: &'a [u32; 64],
     s: usize,
     number: u32,
     words_lent: usize,
 ) -> u32
-    requires { ⌜ (length (now numbers) ≡ 16) × (length (now addresses) ≡ 64) × (length (now loads) ≡ 64) × (length (now stores) ≡ 64) ⌝ }
+    requires { ⌜ (oldest < stages) × (stages ≤ 16) × (length (now numbers) ≡ 16) ⌝ }
     ensures { λ r. ⌜ r
-        ≡ executeRefusal
-        (lawfulBy banks rows stages words oldest live executed (now (addresses .entry)) (now (loads .entry)) (now (stores .entry)))
-        words
-        «words_lent»
-        (namedBy oldest stages live (now (numbers .entry)) s number)
-        (has executed s) ⌝ }
+        ≡ executeRefusal words «words_lent» (namedBy oldest stages live (now (numbers .entry)) s number) (has executed s) ⌝ }
 {
-    if !table::keeps_rules(
-        banks,
-        rows,
-        stages,
-        words,
-        oldest,
-        live,
-        executed,
-        addresses,
-        loads,
-        stores,
-    ) {
-        return 2;
-    }
     if words_lent != words {
         return 3;
     }
@@ -237,8 +224,9 @@ fn squashed_from<'a>(
     Squashed::Nothing
 }
 
-// The reference that the ticket names executes as a load of `address`.
-pub fn execute_load(t: Table, ticket: Ticket, address: u32, memory: &[u32]) -> ExecuteResult
+// The step of `execute_load`, for a caller that has checked the table's rules.
+pub fn load_step(t: Table, ticket: Ticket, address: u32, memory: &[u32]) -> ExecuteResult
+    requires { ⌜ Rules t ⌝ }
     ensures { λ r. ⌜ Meets t (executeLoad ticket address) (now (memory .entry)) (executeSays (r .answer)) (r .table) (now (memory .entry)) ⌝ }
 {
     let stages = t.stages;
@@ -247,17 +235,12 @@ pub fn execute_load(t: Table, ticket: Ticket, address: u32, memory: &[u32]) -> E
     let executed = t.executed;
     let s = ticket.stage;
     let why = execution_refusal(
-        t.banks,
-        t.rows,
         stages,
         t.words,
         oldest,
         live,
         executed,
         &t.numbers,
-        &t.addresses,
-        &t.loads,
-        &t.stores,
         s,
         ticket.number,
         memory.len(),
@@ -314,14 +297,39 @@ pub fn execute_load(t: Table, ticket: Ticket, address: u32, memory: &[u32]) -> E
     }
 }
 
-// The reference that the ticket names executes as a store of `value` at `address`.
-pub fn execute_store(
+// The reference that the ticket names executes as a load of `address`.
+pub fn execute_load(t: Table, ticket: Ticket, address: u32, memory: &[u32]) -> ExecuteResult
+    ensures { λ r. ⌜ Meets t (executeLoad ticket address) (now (memory .entry)) (executeSays (r .answer)) (r .table) (now (memory .entry)) ⌝ }
+{
+    if !table::keeps_rules(
+        t.banks,
+        t.rows,
+        t.stages,
+        t.words,
+        t.oldest,
+        t.live,
+        t.executed,
+        &t.addresses,
+        &t.loads,
+        &t.stores,
+    ) {
+        return ExecuteResult {
+            answer: ExecuteAnswer::Refused(2),
+            table: t,
+        };
+    }
+    load_step(t, ticket, address, memory)
+}
+
+// The step of `execute_store`, for a caller that has checked the table's rules.
+pub fn store_step(
     t: Table,
     ticket: Ticket,
     address: u32,
     value: u32,
     memory: &[u32],
 ) -> ExecuteResult
+    requires { ⌜ Rules t ⌝ }
     ensures { λ r. ⌜ Meets t (executeStore ticket address value) (now (memory .entry)) (executeSays (r .answer)) (r .table)
         (now (memory .entry)) ⌝ }
 {
@@ -331,17 +339,12 @@ pub fn execute_store(
     let executed = t.executed;
     let s = ticket.stage;
     let why = execution_refusal(
-        t.banks,
-        t.rows,
         stages,
         t.words,
         oldest,
         live,
         executed,
         &t.numbers,
-        &t.addresses,
-        &t.loads,
-        &t.stores,
         s,
         ticket.number,
         memory.len(),
@@ -390,24 +393,51 @@ pub fn execute_store(
     }
 }
 
-// The reference that the ticket names executes without memory.
-pub fn execute_other(t: Table, ticket: Ticket, memory: &[u32]) -> ExecuteResult
-    ensures { λ r. ⌜ Meets t (executeOther ticket) (now (memory .entry)) (executeSays (r .answer)) (r .table) (now (memory .entry)) ⌝ }
+// The reference that the ticket names executes as a store of `value` at `address`.
+pub fn execute_store(
+    t: Table,
+    ticket: Ticket,
+    address: u32,
+    value: u32,
+    memory: &[u32],
+) -> ExecuteResult
+    ensures { λ r. ⌜ Meets t (executeStore ticket address value) (now (memory .entry)) (executeSays (r .answer)) (r .table)
+        (now (memory .entry)) ⌝ }
 {
-    let executed = t.executed;
-    let s = ticket.stage;
-    let why = execution_refusal(
+    if !table::keeps_rules(
         t.banks,
         t.rows,
         t.stages,
         t.words,
         t.oldest,
         t.live,
-        executed,
-        &t.numbers,
+        t.executed,
         &t.addresses,
         &t.loads,
         &t.stores,
+    ) {
+        return ExecuteResult {
+            answer: ExecuteAnswer::Refused(2),
+            table: t,
+        };
+    }
+    store_step(t, ticket, address, value, memory)
+}
+
+// The step of `execute_other`, for a caller that has checked the table's rules.
+pub fn other_step(t: Table, ticket: Ticket, memory: &[u32]) -> ExecuteResult
+    requires { ⌜ Rules t ⌝ }
+    ensures { λ r. ⌜ Meets t (executeOther ticket) (now (memory .entry)) (executeSays (r .answer)) (r .table) (now (memory .entry)) ⌝ }
+{
+    let executed = t.executed;
+    let s = ticket.stage;
+    let why = execution_refusal(
+        t.stages,
+        t.words,
+        t.oldest,
+        t.live,
+        executed,
+        &t.numbers,
         s,
         ticket.number,
         memory.len(),
@@ -426,31 +456,39 @@ pub fn execute_other(t: Table, ticket: Ticket, memory: &[u32]) -> ExecuteResult
     }
 }
 
-// Drops the reference that the ticket names and everything younger.
-pub fn squash(t: Table, ticket: Ticket) -> DoneResult
+// The reference that the ticket names executes without memory.
+pub fn execute_other(t: Table, ticket: Ticket, memory: &[u32]) -> ExecuteResult
+    ensures { λ r. ⌜ Meets t (executeOther ticket) (now (memory .entry)) (executeSays (r .answer)) (r .table) (now (memory .entry)) ⌝ }
+{
+    if !table::keeps_rules(
+        t.banks,
+        t.rows,
+        t.stages,
+        t.words,
+        t.oldest,
+        t.live,
+        t.executed,
+        &t.addresses,
+        &t.loads,
+        &t.stores,
+    ) {
+        return ExecuteResult {
+            answer: ExecuteAnswer::Refused(2),
+            table: t,
+        };
+    }
+    other_step(t, ticket, memory)
+}
+
+// The step of `squash`, for a caller that has checked the table's rules.
+pub fn squash_step(t: Table, ticket: Ticket) -> DoneResult
+    requires { ⌜ Rules t ⌝ }
     ensures { λ r. ⌜ ((m : List ℕ) → Meets t (squash ticket) m (doneSays (r .answer)) (r .table) m) ⌝ }
 {
     let stages = t.stages;
     let oldest = t.oldest;
     let live = t.live;
     let s = ticket.stage;
-    if !table::keeps_rules(
-        t.banks,
-        t.rows,
-        stages,
-        t.words,
-        oldest,
-        live,
-        t.executed,
-        &t.addresses,
-        &t.loads,
-        &t.stores,
-    ) {
-        return DoneResult {
-            answer: DoneAnswer::Refused(2),
-            table: t,
-        };
-    }
     if !named(oldest, stages, live, &t.numbers, s, ticket.number) {
         return DoneResult {
             answer: DoneAnswer::Refused(7),
@@ -466,6 +504,30 @@ pub fn squash(t: Table, ticket: Ticket) -> DoneResult
         answer: DoneAnswer::Done,
         table: next,
     }
+}
+
+// Drops the reference that the ticket names and everything younger.
+pub fn squash(t: Table, ticket: Ticket) -> DoneResult
+    ensures { λ r. ⌜ ((m : List ℕ) → Meets t (squash ticket) m (doneSays (r .answer)) (r .table) m) ⌝ }
+{
+    if !table::keeps_rules(
+        t.banks,
+        t.rows,
+        t.stages,
+        t.words,
+        t.oldest,
+        t.live,
+        t.executed,
+        &t.addresses,
+        &t.loads,
+        &t.stores,
+    ) {
+        return DoneResult {
+            answer: DoneAnswer::Refused(2),
+            table: t,
+        };
+    }
+    squash_step(t, ticket)
 }
 
 // Whether the mark's address is `words` or more.
@@ -489,8 +551,9 @@ fn write_back(memory: &mut [u32], mark: Mark)
     }
 }
 
-// Takes the oldest reference out of the window; a store's word goes to memory.
-pub fn commit(t: Table, memory: &mut [u32]) -> TicketResult
+// The step of `commit`, for a caller that has checked the table's rules.
+pub fn commit_step(t: Table, memory: &mut [u32]) -> TicketResult
+    requires { ⌜ Rules t ⌝ }
     ensures { λ r. ⌜ Meets t commit (now (memory .entry)) (ticketSays (r .answer)) (r .table) (now (memory .exit)) ⌝ }
 {
     let stages = t.stages;
@@ -498,23 +561,6 @@ pub fn commit(t: Table, memory: &mut [u32]) -> TicketResult
     let oldest = t.oldest;
     let live = t.live;
     let executed = t.executed;
-    if !table::keeps_rules(
-        t.banks,
-        t.rows,
-        stages,
-        words,
-        oldest,
-        live,
-        executed,
-        &t.addresses,
-        &t.loads,
-        &t.stores,
-    ) {
-        return TicketResult {
-            answer: TicketAnswer::Refused(2),
-            table: t,
-        };
-    }
     if memory.len() != words {
         return TicketResult {
             answer: TicketAnswer::Refused(3),
@@ -556,4 +602,28 @@ pub fn commit(t: Table, memory: &mut [u32]) -> TicketResult
         }),
         table: next,
     }
+}
+
+// Takes the oldest reference out of the window; a store's word goes to memory.
+pub fn commit(t: Table, memory: &mut [u32]) -> TicketResult
+    ensures { λ r. ⌜ Meets t commit (now (memory .entry)) (ticketSays (r .answer)) (r .table) (now (memory .exit)) ⌝ }
+{
+    if !table::keeps_rules(
+        t.banks,
+        t.rows,
+        t.stages,
+        t.words,
+        t.oldest,
+        t.live,
+        t.executed,
+        &t.addresses,
+        &t.loads,
+        &t.stores,
+    ) {
+        return TicketResult {
+            answer: TicketAnswer::Refused(2),
+            table: t,
+        };
+    }
+    commit_step(t, memory)
 }

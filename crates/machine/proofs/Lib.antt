@@ -1,6 +1,6 @@
 -- Sounding: the rules and the agreement as tests. Answering: how a contract is met, and what the verdict says. Reaching: what a
 -- machine comes to by its table's view. Opened, Moved, Committed: the calls but execute and finish. Operands, Formed,
--- Executions: execute. Preparing, Finishes: finish. Sentences: 01's sentence of an operand.
+-- Executions: execute. Passing, Preparing, Finishes: finish. Sentences: 01's sentence of an operand.
 pub mod Sounding
 pub mod Answering
 pub mod Reaching
@@ -10,6 +10,7 @@ pub mod Committed
 pub mod Operands
 pub mod Formed
 pub mod Executions
+pub mod Passing
 pub mod Preparing
 pub mod Finishes
 pub mod Sentences

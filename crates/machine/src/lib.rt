@@ -1,8 +1,8 @@
 // The window machine: small programs run out of order over the address resolution buffer.
 //
-// No call requires anything: what it is given that breaks a rule it refuses, with the numbers of specs/Calls.antt, and hands
-// everything back as it was passed. Each contract is `Meets` (or `Opens`) of specs/Contract.antt. The program is lent to each
-// call and checked there.
+// No public call requires anything: what it is given that breaks a rule it refuses, with the numbers of specs/Calls.antt, and
+// hands everything back as it was passed. Each contract is `Meets` (or `Opens`) of specs/Contract.antt. The program is lent to
+// each call. A call checks table, window, memory and program once, by `verdict`; the steps inside it require that they passed.
 use lookup::Mark;
 use table::Table;
 use table::Ticket;
@@ -21,7 +21,7 @@ ghost use Rattle.buffer.specs.Contract;
 ghost use Rattle.machine.specs.Program.{decoded, instructionAt, wellFormed, programFits, codeOf};
 ghost use Rattle.machine.specs.Window.{blankEntry, reference, held, with₂};
 ghost use Rattle.machine.specs.Calls.{refused, issue, execute, squash, commit, finish, dOf, sOf, immOf, same, like, waits, valueBy, addressBy, registersAfter, target, begun, ready};
-ghost use Rattle.machine.specs.Contract.{doneSays, issueSays, executeSays, commitSays, finishSays, agree, over, fresh, plain, Sound, Meets, Opens};
+ghost use Rattle.machine.specs.Contract.{doneSays, issueSays, executeSays, commitSays, finishSays, agree, over, fresh, plain, Meets, Opens};
 ghost use Rattle.machine.specs.Parts.{destination, writer, asNumber, asCall, fateAfter, actionOf, second, verdictOf, kindOf, placeOf, entriesOf, wantedBy, settled};
 ghost use Rattle.machine.specs.declared.Entry.{Entry};
 ghost use Rattle.marks.specs.Circle.{stage};
@@ -527,13 +527,14 @@ fn wanted_at(
 
 // The execution that an action asks of the buffer.
 fn dispatch(t: Table, ticket: Ticket, action: Action, memory: &[u32]) -> buffer::ExecuteResult
+    requires { ⌜ Rules t ⌝ }
     ensures { λ r. ⌜ Contract.Meets t (asCall action ticket) (now (memory .entry)) (Answers.executeSays (r .answer)) (r .table)
         (now (memory .entry)) ⌝ }
 {
     match action {
-        Action::Compute(_) => buffer::execute_other(t, ticket, memory),
-        Action::LoadAt(a) => buffer::execute_load(t, ticket, a, memory),
-        Action::StoreAt(a, v) => buffer::execute_store(t, ticket, a, v, memory),
+        Action::Compute(_) => buffer::other_step(t, ticket, memory),
+        Action::LoadAt(a) => buffer::load_step(t, ticket, a, memory),
+        Action::StoreAt(a, v) => buffer::store_step(t, ticket, a, v, memory),
     }
 }
 
@@ -621,8 +622,6 @@ pub fn issue(m: Machine, program: &[u32]) -> IssueResult
     ensures { λ r. ⌜ ((w : List ℕ) → Meets (now (program .entry)) m issue w (issueSays (r .answer)) (r .machine) w []) ⌝ }
 {
     let t = m.table;
-    let live = t.live;
-    let next = m.next;
     let why = verdict(m, program, t.words);
     if why != 0 {
         return IssueResult {
@@ -630,6 +629,17 @@ pub fn issue(m: Machine, program: &[u32]) -> IssueResult
             machine: m,
         };
     }
+    issue_passed(m, program)
+}
+
+// The same of a machine and a program that passed the verdict.
+fn issue_passed(m: Machine, program: &[u32]) -> IssueResult
+    requires { ⌜ verdictOf m (now program) (m .table .words) ≡ 0 ⌝ }
+    ensures { λ r. ⌜ ((w : List ℕ) → Meets (now (program .entry)) m issue w (issueSays (r .answer)) (r .machine) w []) ⌝ }
+{
+    let t = m.table;
+    let live = t.live;
+    let next = m.next;
     if live == t.stages {
         return IssueResult {
             answer: IssueAnswer::Refused(5),
@@ -643,7 +653,7 @@ pub fn issue(m: Machine, program: &[u32]) -> IssueResult
         };
     }
     let s = marks::stage_at(t.oldest, t.stages, live);
-    let issued = buffer::issue(t);
+    let issued = buffer::issue_step(t);
     let after = issued.table;
     let mut n = m;
     n.table = after;
@@ -671,6 +681,15 @@ pub fn execute(m: Machine, program: &[u32], p: usize, memory: &[u32]) -> Execute
             machine: m,
         };
     }
+    execute_passed(m, program, p, memory)
+}
+
+// The same of a machine, a program and a memory that passed the verdict.
+fn execute_passed(m: Machine, program: &[u32], p: usize, memory: &[u32]) -> ExecuteResult
+    requires { ⌜ verdictOf m (now program) (length (now memory)) ≡ 0 ⌝ }
+    ensures { λ r. ⌜ Meets (now (program .entry)) m (execute p) (now (memory .entry)) (executeSays (r .answer)) (r .machine)
+        (now (memory .entry)) [] ⌝ }
+{
     let t = m.table;
     let live = t.live;
     let oldest = t.oldest;
@@ -773,7 +792,7 @@ pub fn squash(m: Machine, program: &[u32], p: usize) -> DoneResult
     let window = m.window;
     let e = window[s];
     let number = t.numbers[s];
-    let squashed = buffer::squash(t, Ticket { stage: s, number });
+    let squashed = buffer::squash_step(t, Ticket { stage: s, number });
     let after = squashed.table;
     let mut n = m;
     n.table = after;
@@ -836,11 +855,20 @@ pub fn commit(m: Machine, program: &[u32], memory: &mut [u32]) -> CommitResult
             machine: m,
         };
     }
+    commit_passed(m, program, memory)
+}
+
+// The same of a machine, a program and a memory that passed the verdict.
+fn commit_passed(m: Machine, program: &[u32], memory: &mut [u32]) -> CommitResult
+    requires { ⌜ verdictOf m (now program) (length (now memory)) ≡ 0 ⌝ }
+    ensures { λ r. ⌜ Meets (now (program .entry)) m commit (now (memory .entry)) (commitSays (r .answer)) (r .machine)
+        (now (memory .exit)) [] ⌝ }
+{
     let t = m.table;
     let window = m.window;
     let oldest = t.oldest;
     let e = window[oldest];
-    let out = buffer::commit(t, memory);
+    let out = buffer::commit_step(t, memory);
     let said = out.answer;
     match said {
         buffer::TicketAnswer::Refused(k) => CommitResult {
@@ -866,21 +894,23 @@ pub fn commit(m: Machine, program: &[u32], memory: &mut [u32]) -> CommitResult
 
 // The oldest issued where the window is empty.
 fn begin(m: Machine, program: &[u32]) -> Machine
-    requires { ⌜ Sound m ⌝ }
-    ensures { λ r. ⌜ Sound r × ((w : List ℕ) → plain r ≡ begun (now (program .entry)) (plain m) w) ⌝ }
+    requires { ⌜ verdictOf m (now program) (m .table .words) ≡ 0 ⌝ }
+    ensures { λ r. ⌜ (verdictOf r (now (program .entry)) (m .table .words) ≡ 0)
+        × ((w : List ℕ) → plain r ≡ begun (now (program .entry)) (plain m) w) ⌝ }
 {
     let t = m.table;
     if t.live != 0 {
         return m;
     }
-    let issued = issue(m, program);
+    let issued = issue_passed(m, program);
     issued.machine
 }
 
 // The oldest on its way to its commit: issued where the window is empty, executed where it waits.
 fn make_ready(m: Machine, program: &[u32], memory: &[u32]) -> Machine
-    requires { ⌜ Sound m ⌝ }
-    ensures { λ r. ⌜ Sound r × (plain r ≡ ready (now (program .entry)) (plain m) (now (memory .entry))) ⌝ }
+    requires { ⌜ verdictOf m (now program) (length (now memory)) ≡ 0 ⌝ }
+    ensures { λ r. ⌜ (verdictOf r (now (program .entry)) (length (now (memory .entry))) ≡ 0)
+        × (plain r ≡ ready (now (program .entry)) (plain m) (now (memory .entry))) ⌝ }
 {
     let n = begin(m, program);
     let t = n.table;
@@ -888,7 +918,7 @@ fn make_ready(m: Machine, program: &[u32], memory: &[u32]) -> Machine
     let window = n.window;
     let e = window[oldest];
     if is_waiting(e) {
-        let ran = execute(n, program, 0, memory);
+        let ran = execute_passed(n, program, 0, memory);
         return ran.machine;
     }
     n
@@ -942,7 +972,7 @@ pub fn finish(
             };
         }
         let prepared = make_ready(state, program, memory);
-        let out = commit(prepared, program, memory);
+        let out = commit_passed(prepared, program, memory);
         let said = out.answer;
         let after = out.machine;
         state = after;

@@ -1,70 +1,12 @@
--- `buffer::commit` meets its contract. Each return is a law of proofs/Committing.antt on the table passed, given what the
--- tests before it said: the rules hold, memory has W words, a reference is live, the oldest has executed, it does not fault.
+-- `buffer::commit` meets its contract: broken rules are refused with 2 (broken-meets), and else its step ensures it.
 -- Assumes nothing.
-use mathlib.Core.Bool.{true, false}
-use mathlib.Core.Path.{_≡_, sym, ap, _∙_}
-use Prim.Native.Nat.{ℕ, _<_, _≤_}
-use native.Mathlib.Omega.{arith}
-use lib.ListN.{length}
+use mathlib.Core.Path.{sym, _∙_}
 use borrow.Author.Needs.{needs}
 use borrow.Author.Tests.{not-true, not-false}
-use Rattle.marks.proofs.Turns.{stage-lt}
-use Rattle.marks.specs.Stages.{has}
-use Rattle.table.specs.Rules.{Rules}
 use Rattle.table.proofs.Lawful.{lawful-rules}
-use Rattle.table.proofs.Sizes.{sizes}
-use Rattle.window.proofs.Lengths.{Lengths}
-use Rattle.lookup.specs.Search.{markedFate}
-use Rattle.buffer.specs.Refusals.{faults}
 use Rattle.buffer.proofs.Judging.{broken-meets}
-use Rattle.buffer.proofs.Committing.{
-  oldestFate,
-  length-refused,
-  empty-refused,
-  waiting-refused,
-  fault-refused,
-  commit-meets,
-}
 use Rattle.buffer.proofs.commit.Statement.{statement}
 use Rattle.buffer.proofs.commit.Tie as tie
-
-lengths : (c : tie.Start) → Lengths (c .args .t1)
-lengths c =
-    record {
-      numbers = search needs;
-      addresses = search needs;
-      loads = search needs;
-      stores = search needs;
-      values = search needs;
-    }
-
-rules-at : (c : tie.Else1) → Rules (c .before .before .before .before .before .before .before .args .t1)
-rules-at c = lawful-rules (c .before .before .before .before .before .before .before .args .t1) (sym (c .before .keeps-rules .ensures) ∙ not-false _ (c .if1 .left))
-
-most-stages : (c : tie.Else1) → c .before .before .before .before .before .before .before .args .t1 .stages ≤ 16
-most-stages c = sizes _ _ _ _ (rules-at c .sizes) .stages
-
-oldest-below : (c : tie.Else1) → c .before .before .before .before .before .before .before .args .t1 .oldest < 16
-oldest-below c = omega (arith, most-stages c, rules-at c .start)
-
-length-at : (c : tie.Else2) → length (c .before .before .before .before .before .before .before .before .args .memory .now) ≡ c .before .before .before .before .before .before .before .before .args .t1 .words
-length-at c = search needs
-
-live-at : (c : tie.Else3) → 0 < c .before .before .before .before .before .before .before .before .before .args .t1 .live
-live-at c = search needs
-
-executed-at : (c : tie.Else4) → has (c .before .before .before .before .before .before .before .before .before .before .before .args .t1 .executed) (c .before .before .before .before .before .before .before .before .before .before .before .args .t1 .oldest) ≡ true
-executed-at c = sym (c .before .contains .ensures) ∙ not-false _ (c .if4 .left)
-
-fate-at : (c : tie.After-mark-at) → markedFate (c .mark-at .result) ≡ oldestFate (c .before .before .before .before .before .before .before .before .before .before .before .before .before .before .before .before .before .args .t1)
-fate-at c = ap markedFate (c .mark-at .ensures)
-
-fault-at : (c : tie.After-mark-faults)
-    → c .mark-faults .result ≡ faults (c .before .before .before .before .before .before .before .before .before .before .before .before .before .before .before .before .before .before .args .t1 .words) (oldestFate (c .before .before .before .before .before .before .before .before .before .before .before .before .before .before .before .before .before .before .args .t1))
-fault-at c = c .mark-faults .ensures ∙ ap (faults (c .before .before .before .before .before .before .before .before .before .before .before .before .before .before .before .before .before .before .args .t1 .words)) (fate-at (c .before))
-
-faultless-at : (c : tie.Else5) → faults (c .before .before .before .before .before .before .before .before .before .before .before .before .before .before .before .before .before .before .before .args .t1 .words) (oldestFate (c .before .before .before .before .before .before .before .before .before .before .before .before .before .before .before .before .before .before .before .args .t1)) ≡ false
-faultless-at c = sym (fault-at (c .before)) ∙ c .if5 .left
 
 keeps-rules-requires : tie.Need-keeps-rules-requires
 keeps-rules-requires c κs = search needs
@@ -72,99 +14,15 @@ keeps-rules-requires c κs = search needs
 returns : tie.Need-returns
 returns c = broken-meets _ _ _ (sym (c .before .keeps-rules .ensures) ∙ not-true _ (c .if1 .taken))
 
-returns-2 : tie.Need-returns-2
-returns-2 c = length-refused _ (rules-at (c .before)) _ (c .if2 .taken)
-
-returns-3 : tie.Need-returns-3
-returns-3 c = empty-refused _ (rules-at (c .before .before)) _ (length-at (c .before)) (c .if3 .taken)
-
-contains-requires : tie.Need-contains-requires
-contains-requires c κs = omega (arith, oldest-below (c .before .before))
-
-returns-4 : tie.Need-returns-4
-returns-4 c = waiting-refused _ (rules-at (c .before .before .before .before)) _ (length-at (c .before .before .before)) (live-at (c .before .before)) (sym (c .before .contains .ensures) ∙ not-true _ (c .if4 .taken))
-
-mark-at-requires : tie.Need-mark-at-requires
-mark-at-requires c κs =
-    let l = lengths (c .before .before .before .before .before .before .before .before .before .before .before .before .before .before .before .before) in
-    ((oldest-below (c .before .before .before .before .before .before .before .before .before), l .addresses, l .loads), (l .stores, l .values))
-
-mark-faults-requires : tie.Need-mark-faults-requires
-mark-faults-requires c κs = search needs
-
-returns-5 : tie.Need-returns-5
-returns-5 c =
-    fault-refused _ (rules-at (c .before .before .before .before .before .before .before .before .before .before .before .before)) _ (length-at (c .before .before .before .before .before .before .before .before .before .before .before)) (live-at (c .before .before .before .before .before .before .before .before .before .before)) (executed-at (c .before .before .before .before .before .before .before .before))
-    (sym (fault-at (c .before)) ∙ c .if5 .taken)
-
-write-back-requires : tie.Need-write-back-requires
-write-back-requires c κs =
-    ap (λ (n : ℕ). faults n (markedFate (c .before .before .before .mark-at .result))) (length-at (c .before .before .before .before .before .before .before .before .before .before .before .before))
-    ∙ sym (c .before .before .mark-faults .ensures) ∙ c .before .if5 .left
-
-mul-number : tie.Need-mul-number
-mul-number c = omega (arith, oldest-below (c .before .before .before .before .before .before .before .before .before .before .before .before .before .before .before .before))
-
-element-copy-out-number : tie.Need-element-copy-out-number
-element-copy-out-number c = oldest-below (c .before .before .before .before .before .before .before .before .before .before .before .before .before .before .before .before)
-
-stage-at-requires : tie.Need-stage-at-requires
-stage-at-requires c κs = (rules-at (c .before .before .before .before .before .before .before .before .before .before .before .before .before .before .before .before .before) .start, omega (arith, rules-at (c .before .before .before .before .before .before .before .before .before .before .before .before .before .before .before .before .before) .start), omega (arith, most-stages (c .before .before .before .before .before .before .before .before .before .before .before .before .before .before .before .before .before)))
-
-sub-first-stages : tie.Need-sub-first-stages
-sub-first-stages c = search needs
-
-first-stages-requires : tie.Need-first-stages-requires
-first-stages-requires c κs =
-    let rules = rules-at (c .before .before .before .before .before .before .before .before .before .before .before .before .before .before .before .before .before .before) in
-    let first = stage-lt _ _ (rules .start) 1 (omega (arith, rules .start)) in
-    (rw (c .stage-at .ensures) first, omega (arith, rules .room), omega (arith, most-stages (c .before .before .before .before .before .before .before .before .before .before .before .before .before .before .before .before .before .before)))
-
-sub-next : tie.Need-sub-next
-sub-next c = search needs
-
-keep-requires : tie.Need-keep-requires
-keep-requires c κs = lengths (c .before .before .before .before .before .before .before .before .before .before .before .before .before .before .before .before .before .before .before .before .before .before .before .before .before .before .before) .loads
-
-keep-requires-2 : tie.Need-keep-requires-2
-keep-requires-2 c κs = lengths (c .before .before .before .before .before .before .before .before .before .before .before .before .before .before .before .before .before .before .before .before .before .before .before .before .before .before .before .before .before) .stores
+commit-step-requires : tie.Need-commit-step-requires
+commit-step-requires c κs =
+    lawful-rules _ (sym (c .before .before .keeps-rules .ensures) ∙ not-false _ (c .before .if1 .left))
 
 same-length : tie.Need-same-length
 same-length c = search needs
 
-returns-6 : tie.Need-returns-6
-returns-6 c =
-    rw (
-      c .keep2 .ensures,
-      c .before .before .keep .ensures,
-      c .before .before .before .before .first-stages .ensures,
-      c .before .before .before .before .before .stage-at .ensures,
-      c .before .before .before .before .before .before .before .before .before .write-back .ensures,
-      fate-at (c .before .before .before .before .before .before .before .before .before .before .before .before .before),
-    )
-    (commit-meets _ (rules-at (c .before .before .before .before .before .before .before .before .before .before .before .before .before .before .before .before .before .before .before .before .before .before .before)) _ (length-at (c .before .before .before .before .before .before .before .before .before .before .before .before .before .before .before .before .before .before .before .before .before .before)) (live-at (c .before .before .before .before .before .before .before .before .before .before .before .before .before .before .before .before .before .before .before .before .before)) (executed-at (c .before .before .before .before .before .before .before .before .before .before .before .before .before .before .before .before .before .before .before)) (faultless-at (c .before .before .before .before .before .before .before .before .before .before .before)))
+returns-2 : tie.Need-returns-2
+returns-2 c = search needs
 
 pub commit-spec : {M : Type 1} → statement M
-commit-spec =
-    tie.close
-    (tie.spec
-    keeps-rules-requires
-    returns
-    returns-2
-    returns-3
-    contains-requires
-    returns-4
-    mark-at-requires
-    mark-faults-requires
-    returns-5
-    write-back-requires
-    mul-number
-    element-copy-out-number
-    stage-at-requires
-    sub-first-stages
-    first-stages-requires
-    sub-next
-    keep-requires
-    keep-requires-2
-    same-length
-    returns-6)
+commit-spec = tie.close (tie.spec keeps-rules-requires returns commit-step-requires same-length returns-2)

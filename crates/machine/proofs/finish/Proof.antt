@@ -1,6 +1,6 @@
 -- `machine::finish` meets its contract. A verdict other than 0 is the refusal. The loop's invariant is Remains of
--- proofs/Finishes.antt, with a sound machine and a memory of the length lent; the measure is the number of commits left to
--- the limit. Each return is `remains-meets` with the reason why the rest stops. Assumes nothing.
+-- proofs/Finishes.antt, with a machine that passes the verdict and a memory of the length lent; the measure is the number of
+-- commits left to the limit. Each return is `remains-meets` with the reason why the rest stops. Assumes nothing.
 use mathlib.Core.Path.{_≡_, refl, sym, ap, _∙_}
 use mathlib.Core.Bool.{false}
 use Prim.Native.Nat.{_-_, _*_, _<_, _≤_}
@@ -9,7 +9,9 @@ use lib.ListN.{length}
 use borrow.Author.Needs.{needs}
 use Rattle.machine.specs.Calls.{finish, over}
 use Rattle.machine.specs.Contract.{commitSays, plain, Sound}
+use Rattle.machine.specs.Parts.{verdictOf}
 use Rattle.machine.proofs.Answering.{Passed, verdict-passes, verdict-turns}
+use Rattle.machine.proofs.Passing.{verdict-lent, commit-passes}
 use Rattle.machine.proofs.Finishes.{
   over-plain,
   finishes-limit,
@@ -27,7 +29,7 @@ use Rattle.machine.proofs.finish.Tie as tie
 
 abbrev Inv-loop : tie.InvT-loop
 Inv-loop program k memory₀ list₀ why limit state₀ n₀ memory list state n =
-    Sound state × (length memory ≡ length memory₀)
+    (verdictOf state program (length memory₀) ≡ 0) × (length memory ≡ length memory₀)
     × Remains program k (plain state₀) memory₀ list₀ (plain state) memory list n
 
 abbrev μ-loop : tie.MeasureT-loop
@@ -38,6 +40,13 @@ passed-at : (c : tie.Else1 Inv-loop μ-loop)
     → let a = c .before .before .before .before .before .args in
     Passed (a .m) (a .program .now) (length (a .memory .now))
 passed-at c = verdict-passes _ _ _ (sym (c .before .verdict .ensures) ∙ (search needs))
+
+-- the machine is sound at the loop's head, and where the oldest is prepared for its commit
+sound-at : (c : tie.At-loop Inv-loop μ-loop) → Sound (c .loop .state)
+sound-at c = verdict-passes _ _ _ (c .loop .inv .0) .sound
+
+prepared-at : (c : tie.After-make-ready Inv-loop μ-loop) → Sound (c .make-ready .result)
+prepared-at c = verdict-passes _ _ _ (c .make-ready .ensures .0) .sound
 
 -- in a turn: the limit is not reached, four places are left, and there is something to commit
 below-at : (c : tie.In-loop Inv-loop μ-loop)
@@ -64,7 +73,7 @@ returns c =
     verdict-turns _ _ (finish _ _) _ _ (sym (c .before .verdict .ensures)) (search needs)
 
 loop-holds : tie.Need-loop-holds Inv-loop μ-loop
-loop-holds c = (passed-at c .sound, refl, remains-all _ _ _ _ _)
+loop-holds c = (sym (c .before .verdict .ensures) ∙ (search needs), refl, remains-all _ _ _ _ _)
 
 mul-if2 : tie.Need-mul-if2 Inv-loop μ-loop
 mul-if2 c = search needs
@@ -83,7 +92,7 @@ returns-2 c =
     let l = c .before .before in
     remains-meets _ _ _ (l .loop .state) _ _ _ _ _ _ _ (passed-at (l .before)) (l .loop .inv .2)
     (finishes-short _ _ _ _ _ (omega (arith, c .if2 .taken, l .loop .inv .2 .size)))
-    (l .loop .inv .0)
+    (sound-at l)
 
 same-length-3 : tie.Need-same-length-3 Inv-loop μ-loop
 same-length-3 c = search needs
@@ -96,13 +105,15 @@ returns-3 c =
     let l = c .before .before .before .before .before .before in
     remains-meets _ _ _ (l .loop .state) _ _ _ _ _ _ _ (passed-at (l .before)) (l .loop .inv .2)
     (finishes-over _ _ _ _ _ (over-plain (l .loop .state) ∙ c .if3 .taken))
-    (l .loop .inv .0)
+    (sound-at l)
 
 make-ready-requires : tie.Need-make-ready-requires Inv-loop μ-loop
-make-ready-requires c κs = c .before .before .before .before .before .before .before .loop .inv .0
+make-ready-requires c κs =
+    let l = c .before .before .before .before .before .before .before in
+    verdict-lent (l .loop .state) _ _ _ (sym (l .loop .inv .1)) (l .loop .inv .0)
 
-commit-requires : tie.Need-commit-requires Inv-loop μ-loop
-commit-requires c κs = search needs
+commit-passed-requires : tie.Need-commit-passed-requires Inv-loop μ-loop
+commit-passed-requires c κs = c .before .make-ready .ensures .0
 
 enum-told : tie.Need-enum-told Inv-loop μ-loop
 enum-told c = search needs
@@ -127,13 +138,13 @@ returns-4 c =
     let l = room .before .before in
     remains-meets _ _ _ (l .loop .state) _ _ _ _ _ _ _ (passed-at (l .before)) (l .loop .inv .2)
     (turn-stops _ (l .loop .state) _ _ _ _ _ _ _ (below-at (room .before)) (room-at room) (more-at more)
-    (made .make-ready .ensures .0)
+    (prepared-at made)
     (made .make-ready .ensures .1)
     _
     _
     (ap commitSays (c .enum-told .given .1))
-    (done .commit .ensures))
-    (done .commit .ensures .sound (made .make-ready .ensures .0))
+    (done .commit-passed .ensures))
+    (done .commit-passed .ensures .sound (prepared-at made))
 
 enum-known-said : tie.Need-enum-known-said Inv-loop μ-loop
 enum-known-said c = search needs
@@ -169,12 +180,14 @@ loop-again c =
     let made = done .before .before in
     let more = made .before .before in
     let room = more .before .before .before .before in
-    let l = room .before .before in (
-      done .commit .ensures .sound (made .make-ready .ensures .0),
+    let l = room .before .before in
+    let args = l .before .before .before .before .before .before .args in (
+      verdict-lent (done .commit-passed .result .machine) (args .program .now) _ _ (l .loop .inv .1)
+          (commit-passes (made .make-ready .result) _ _ _ (made .make-ready .ensures .0) _ _ _ (done .commit-passed .ensures)),
       c .before .before .before .before .before .before .before .before .before .memory .given ∙ l .loop .inv .1,
       remains-goes _ _ _ _ _ _ _ _ _ (l .loop .inv .2) _ _ _ _ _ _ _ (below-at (room .before)) (room-at room)
           (turn-goes _ (l .loop .state) _ _ _ _ _ _ _ (below-at (room .before)) (room-at room) (more-at more)
-          (made .make-ready .ensures .0)
+          (prepared-at made)
           (made .make-ready .ensures .1)
           _
           _
@@ -182,7 +195,7 @@ loop-again c =
           _
           _
           (ap commitSays (c .before .before .before .before .before .said .given .1))
-          (done .commit .ensures))
+          (done .commit-passed .ensures))
           (c .before .before .put .ensures),
     )
 
@@ -197,7 +210,7 @@ returns-5 c =
     let l = c .before in
     remains-meets _ _ _ (l .loop .state) _ _ _ _ _ _ _ (passed-at (l .before)) (l .loop .inv .2)
     (finishes-limit _ _ _ _ _ (omega (arith, c .loop-test .left)))
-    (l .loop .inv .0)
+    (sound-at l)
 
 pub finish-spec : {M : Type 1} → statement M
 finish-spec =
@@ -217,7 +230,7 @@ finish-spec =
     same-length-4
     returns-3
     make-ready-requires
-    commit-requires
+    commit-passed-requires
     enum-told
     same-length-5
     same-length-6

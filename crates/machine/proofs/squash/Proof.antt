@@ -51,15 +51,15 @@ mul-number c = omega (arith, small-at (c .before .before))
 element-copy-out-number : tie.Need-element-copy-out-number
 element-copy-out-number c = small-at (c .before .before)
 
-squash-requires : tie.Need-squash-requires
-squash-requires c κs = search needs
+squash-step-requires : tie.Need-squash-step-requires
+squash-step-requires c κs = rules-at (c .before .before .before .before)
 
 returns-3 : tie.Need-returns-3
 returns-3 c w =
     let staged = c .before .before .before .before .before in
     rw (staged .stage-at .ensures)
     (squash-meets _ _ (passed-at (staged .before .before)) w _ _ _
-    (rw (staged .stage-at .ensures) at (c .before .squash .ensures w))
+    (rw (staged .stage-at .ensures) at (c .before .squash-step .ensures w))
     (omega (arith, staged .before .if2 .left)))
 
 pub squash-spec : {M : Type 1} → statement M
@@ -74,5 +74,5 @@ squash-spec =
     array-copy-out-e
     mul-number
     element-copy-out-number
-    squash-requires
+    squash-step-requires
     returns-3)

@@ -1,0 +1,795 @@
+// The address resolution buffer, the window machine and the benchmark's mixes in C, in place.
+//
+// Each call makes every check of its rows in 01's table once, in their order, and then changes the state
+// where it stands. Positions are read off a mark word that is turned so that bit p is position p.
+#include "inplace.h"
+
+#include <string.h>
+
+static const uint8_t homes[64] = {
+    0, 1, 2, 3, 4, 5, 6, 7, 0, 1, 2, 3, 4, 5, 6, 7, 0, 1, 2, 3, 4, 5, 6, 7, 0, 1, 2, 3, 4, 5, 6, 7,
+    0, 1, 2, 3, 4, 5, 6, 7, 0, 1, 2, 3, 4, 5, 6, 7, 0, 1, 2, 3, 4, 5, 6, 7, 0, 1, 2, 3, 4, 5, 6, 7,
+};
+
+// What the check of the rules learns on its way: the stages with a load or a store mark, and each marked
+// stage's row.
+struct marked {
+    uint32_t loads, stores;
+    uint8_t rows[16];
+};
+
+static size_t bank_of(size_t banks, uint32_t address)
+{
+    return homes[address % 64] & (banks - 1);
+}
+
+static bool sizes_fit(struct sizes z)
+{
+    return (z.banks == 1 || z.banks == 2 || z.banks == 4 || z.banks == 8) && z.rows - 1 < 8 &&
+           z.stages - 1 < 16 && z.words - 1 < 4096;
+}
+
+static size_t stage_at(const struct table *t, size_t position)
+{
+    size_t sum = t->oldest + position;
+    return sum < t->stages ? sum : sum - t->stages;
+}
+
+static size_t position_of(const struct table *t, size_t stage)
+{
+    return stage >= t->oldest ? stage - t->oldest : stage + t->stages - t->oldest;
+}
+
+// The stages at the first `count` positions.
+static uint32_t first_stages(const struct table *t, size_t count)
+{
+    uint32_t set = ((UINT32_C(1) << count) - 1) << t->oldest;
+    return (set | set >> t->stages) & ((UINT32_C(1) << t->stages) - 1);
+}
+
+// A mark word with bit p for position p.
+static uint32_t turned(const struct table *t, uint32_t set)
+{
+    return (set >> t->oldest | set << (t->stages - t->oldest)) & ((UINT32_C(1) << t->stages) - 1);
+}
+
+static uint32_t marks_of(const struct table *t, size_t r)
+{
+    return t->loads[r] | t->stores[r];
+}
+
+// Whether the address of row r stands in no marked row before it in its bank.
+static bool address_alone(const struct table *t, size_t first, size_t r)
+{
+    for (size_t k = first; k < r; k++)
+        if (t->addresses[k] == t->addresses[r] && marks_of(t, k))
+            return false;
+    return true;
+}
+
+// The table's own rules. Where `found` is given and they hold, it says where the marks are.
+static inline bool keeps_rules(const struct table *t, struct marked *found)
+{
+    if (!sizes_fit((struct sizes){t->banks, t->rows, t->stages, t->words}) || t->live > t->stages ||
+        t->oldest >= t->stages)
+        return false;
+    uint32_t free = ~(t->executed & first_stages(t, t->live)), loads = 0, stores = 0;
+    for (size_t b = 0; b < t->banks; b++) {
+        for (size_t r = b * 8; r < b * 8 + t->rows; r++) {
+            uint32_t marks = marks_of(t, r);
+            if (!marks)
+                continue;
+            if ((marks & free) || (t->loads[r] & t->stores[r]) || bank_of(t->banks, t->addresses[r]) != b ||
+                !address_alone(t, b * 8, r))
+                return false;
+            free |= marks;
+            loads |= t->loads[r];
+            stores |= t->stores[r];
+            if (found)
+                for (uint32_t rest = marks; rest; rest &= rest - 1)
+                    found->rows[__builtin_ctz(rest)] = r;
+        }
+    }
+    if (found) {
+        found->loads = loads;
+        found->stores = stores;
+    }
+    return true;
+}
+
+// The steps of the calls, after their checks.
+
+static void make_empty(struct table *t, struct sizes sizes)
+{
+    memset(t, 0, sizeof *t);
+    t->banks = sizes.banks;
+    t->rows = sizes.rows;
+    t->stages = sizes.stages;
+    t->words = sizes.words;
+}
+
+static size_t issue_step(struct table *t)
+{
+    size_t s = stage_at(t, t->live);
+    t->numbers[s] = t->next++;
+    t->executed &= first_stages(t, t->live);
+    t->live++;
+    return s;
+}
+
+// Keeps the first `left` live references, and the marks of these alone.
+static void cut(struct table *t, size_t left)
+{
+    if (left >= t->live)
+        return;
+    uint32_t stay = first_stages(t, left);
+    for (size_t b = 0; b < t->banks; b++)
+        for (size_t r = b * 8; r < b * 8 + t->rows; r++) {
+            t->loads[r] &= stay;
+            t->stores[r] &= stay;
+        }
+    t->live = left;
+}
+
+// A place for an execution: the row, and how many references stay; none where there is no row.
+struct place {
+    size_t row, left;
+};
+
+// The last free row is taken, as in Rattle: so the spoiled mixes change the same rows in both.
+static struct place take_row(const struct table *t, size_t bank, size_t position)
+{
+    size_t best = 0, mark = 0;
+    for (size_t r = bank * 8 + t->rows; r-- > bank * 8;) {
+        uint32_t marks = marks_of(t, r);
+        if (!marks)
+            return (struct place){r, t->live};
+        size_t oldest = __builtin_ctz(turned(t, marks));
+        if (oldest >= mark) {
+            mark = oldest;
+            best = r;
+        }
+    }
+    return mark > position ? (struct place){best, mark} : (struct place){0, 0};
+}
+
+// The row of the address, 64 where it has none.
+static size_t row_of(const struct table *t, size_t bank, uint32_t address)
+{
+    for (size_t r = bank * 8; r < bank * 8 + t->rows; r++)
+        if (t->addresses[r] == address && marks_of(t, r))
+            return r;
+    return 64;
+}
+
+// Where a squash from position `left` on begins, which is to be read before it.
+static void tell_squash(const struct table *t, size_t left, struct outcome *out)
+{
+    out->squashed = left < t->live;
+    if (out->squashed) {
+        size_t s = stage_at(t, left);
+        out->from = (struct ticket){s, t->numbers[s]};
+    }
+}
+
+static uint32_t forwarded(const struct table *t, size_t r, size_t position, uint32_t address,
+                          struct memory memory)
+{
+    uint32_t older = turned(t, t->stores[r]) & ((UINT32_C(1) << position) - 1);
+    if (older)
+        return t->values[r * 16 + stage_at(t, 31 - __builtin_clz(older))];
+    return address < memory.length ? memory.words[address] : 0;
+}
+
+static unsigned load_step(struct table *t, size_t s, uint32_t address, struct memory memory,
+                          struct outcome *out)
+{
+    size_t position = position_of(t, s), bank = bank_of(t->banks, address);
+    struct place place = {row_of(t, bank, address), t->live};
+    if (place.row == 64)
+        place = take_row(t, bank, position);
+    if (place.left == 0)
+        return 10;
+    out->value = forwarded(t, place.row, position, address, memory);
+    tell_squash(t, place.left, out);
+    cut(t, place.left);
+    t->executed |= UINT32_C(1) << s;
+    t->addresses[place.row] = address;
+    t->loads[place.row] |= UINT32_C(1) << s;
+    return 0;
+}
+
+static unsigned store_step(struct table *t, size_t s, uint32_t address, uint32_t value, struct outcome *out)
+{
+    size_t position = position_of(t, s), bank = bank_of(t->banks, address);
+    struct place place = {row_of(t, bank, address), t->live};
+    if (place.row == 64) {
+        place = take_row(t, bank, position);
+        if (place.left == 0)
+            return 10;
+    } else {
+        uint32_t younger = turned(t, marks_of(t, place.row)) >> position >> 1;
+        if (younger) {
+            size_t met = position + 1 + __builtin_ctz(younger);
+            if (t->loads[place.row] >> stage_at(t, met) & 1)
+                place.left = met;
+        }
+    }
+    out->value = 0;
+    tell_squash(t, place.left, out);
+    cut(t, place.left);
+    t->executed |= UINT32_C(1) << s;
+    t->addresses[place.row] = address;
+    t->stores[place.row] |= UINT32_C(1) << s;
+    t->values[place.row * 16 + s] = value;
+    return 0;
+}
+
+// The oldest leaves the window, whose mark is in row r, 64 where it has none.
+static void commit_step(struct table *t, size_t r)
+{
+    if (r < 64) {
+        t->loads[r] &= ~(UINT32_C(1) << t->oldest);
+        t->stores[r] &= ~(UINT32_C(1) << t->oldest);
+    }
+    t->oldest = stage_at(t, 1);
+    t->live--;
+}
+
+// The buffer's calls.
+
+unsigned buffer_open(struct table *t, struct sizes sizes, struct memory memory)
+{
+    unsigned why = !sizes_fit(sizes) ? 1 : memory.length != sizes.words ? 3 : 0;
+    make_empty(t, why ? (struct sizes){0, 0, 0, 0} : sizes);
+    return why;
+}
+
+unsigned buffer_issue(struct table *t, struct ticket *ticket)
+{
+    if (!keeps_rules(t, NULL))
+        return 2;
+    if (t->live == t->stages)
+        return 5;
+    size_t s = issue_step(t);
+    *ticket = (struct ticket){s, t->numbers[s]};
+    return 0;
+}
+
+static bool named(const struct table *t, struct ticket ticket)
+{
+    return ticket.stage < t->stages && position_of(t, ticket.stage) < t->live &&
+           t->numbers[ticket.stage] == ticket.number;
+}
+
+static unsigned execute_refusal(const struct table *t, struct ticket ticket, size_t length)
+{
+    if (!keeps_rules(t, NULL))
+        return 2;
+    if (length != t->words)
+        return 3;
+    if (!named(t, ticket))
+        return 7;
+    if (t->executed >> ticket.stage & 1)
+        return 8;
+    return 0;
+}
+
+unsigned buffer_load(struct table *t, struct ticket ticket, uint32_t address, struct memory memory,
+                     struct outcome *out)
+{
+    unsigned why = execute_refusal(t, ticket, memory.length);
+    return why ? why : load_step(t, ticket.stage, address, memory, out);
+}
+
+unsigned buffer_store(struct table *t, struct ticket ticket, uint32_t address, uint32_t value,
+                      struct memory memory, struct outcome *out)
+{
+    unsigned why = execute_refusal(t, ticket, memory.length);
+    return why ? why : store_step(t, ticket.stage, address, value, out);
+}
+
+unsigned buffer_other(struct table *t, struct ticket ticket, struct memory memory, struct outcome *out)
+{
+    unsigned why = execute_refusal(t, ticket, memory.length);
+    if (why)
+        return why;
+    t->executed |= UINT32_C(1) << ticket.stage;
+    out->value = 0;
+    out->squashed = false;
+    return 0;
+}
+
+unsigned buffer_squash(struct table *t, struct ticket ticket)
+{
+    if (!keeps_rules(t, NULL))
+        return 2;
+    if (!named(t, ticket))
+        return 7;
+    cut(t, position_of(t, ticket.stage));
+    return 0;
+}
+
+// The row with a mark of the stage, 64 where there is none.
+static size_t marked_row(const struct table *t, size_t s)
+{
+    for (size_t b = 0; b < t->banks; b++)
+        for (size_t r = b * 8; r < b * 8 + t->rows; r++)
+            if (marks_of(t, r) >> s & 1)
+                return r;
+    return 64;
+}
+
+unsigned buffer_commit(struct table *t, struct memory memory, struct ticket *ticket)
+{
+    if (!keeps_rules(t, NULL))
+        return 2;
+    if (memory.length != t->words)
+        return 3;
+    if (t->live == 0)
+        return 11;
+    size_t s = t->oldest;
+    if (!(t->executed >> s & 1))
+        return 12;
+    size_t r = marked_row(t, s);
+    if (r < 64) {
+        if (t->addresses[r] >= t->words)
+            return 13;
+        if (t->stores[r] >> s & 1)
+            memory.words[t->addresses[r]] = t->values[r * 16 + s];
+    }
+    *ticket = (struct ticket){s, t->numbers[s]};
+    commit_step(t, r);
+    return 0;
+}
+
+// The machine's calls.
+
+static bool program_fits(struct lent program)
+{
+    if (program.length % 4)
+        return false;
+    uint32_t bad = 0;
+    for (const uint32_t *i = program.words; i < program.words + program.length; i += 4)
+        bad |= (i[0] - 1 > 3) | (i[1] > 7) | (i[2] > 7) | ((i[0] == 2) & (i[3] > 7));
+    return !bad;
+}
+
+static bool window_agrees(const struct machine *m, const struct marked *found)
+{
+    const struct table *t = &m->table;
+    for (size_t p = 0; p < t->live; p++) {
+        size_t s = stage_at(t, p);
+        const struct entry *e = &m->window[s];
+        if (e->executed != (t->executed >> s & 1))
+            return false;
+        if (!e->executed)
+            continue;
+        if ((e->code == 3) != (found->loads >> s & 1) || (e->code == 4) != (found->stores >> s & 1))
+            return false;
+        if (e->code >= 3 && t->addresses[found->rows[s]] != e->address)
+            return false;
+    }
+    return true;
+}
+
+static bool entries_fit(const struct machine *m, struct lent program)
+{
+    for (size_t p = 0; p < m->table.live; p++) {
+        const struct entry *e = &m->window[stage_at(&m->table, p)];
+        if (e->index >= m->count || memcmp(&e->code, program.words + e->index * 4, 4 * sizeof(uint32_t)))
+            return false;
+    }
+    return true;
+}
+
+// Which of the conditions 2, 3 and 4 holds first; 0: none. A call that is lent no memory passes the table's
+// own length.
+static inline unsigned verdict(const struct machine *m, struct lent program, size_t length,
+                               struct marked *found)
+{
+    if (!keeps_rules(&m->table, found) || !window_agrees(m, found))
+        return 2;
+    if (length != m->table.words)
+        return 3;
+    if (!program_fits(program) || program.length != 4 * (size_t)m->count || !entries_fit(m, program))
+        return 4;
+    return 0;
+}
+
+// What a register holds for the entry at this position; false where its writer has not executed.
+static bool operand(const struct machine *m, uint32_t k, size_t position, uint32_t *value)
+{
+    while (position > 0) {
+        const struct entry *e = &m->window[stage_at(&m->table, --position)];
+        if (e->code != 4 && e->d == k) {
+            *value = e->value;
+            return e->executed;
+        }
+    }
+    *value = m->registers[k];
+    return true;
+}
+
+static void issue_next(struct machine *m, struct lent program)
+{
+    size_t s = issue_step(&m->table);
+    struct entry *e = &m->window[s];
+    memcpy(&e->code, program.words + m->next * 4, 4 * sizeof(uint32_t));
+    e->index = m->next++;
+    e->executed = false;
+}
+
+// The waiting entry at this position executes.
+static unsigned execute_at(struct machine *m, size_t position, struct memory memory, struct result *out)
+{
+    struct table *t = &m->table;
+    size_t s = stage_at(t, position), live = t->live;
+    struct entry *e = &m->window[s];
+    struct outcome outcome = {0, false, {0, 0}};
+    uint32_t x, y = 0;
+    if (!operand(m, e->s, position, &x) || (e->code == 2 && !operand(m, e->imm, position, &y)) ||
+        (e->code == 4 && !operand(m, e->d, position, &y)))
+        return 9;
+    unsigned why = 0;
+    if (e->code <= 2) {
+        e->value = e->code == 1 ? x + e->imm : x + y;
+        e->address = 0;
+        t->executed |= UINT32_C(1) << s;
+    } else {
+        uint32_t address = x + e->imm;
+        why = e->code == 3 ? load_step(t, s, address, memory, &outcome)
+                           : store_step(t, s, address, y, &outcome);
+        if (why)
+            return why;
+        e->value = e->code == 3 ? outcome.value : y;
+        e->address = address;
+    }
+    e->executed = true;
+    out->value = outcome.value;
+    out->squashed = t->live < live;
+    if (out->squashed) {
+        out->from = t->live;
+        m->next = m->window[stage_at(t, t->live)].index;
+    }
+    return 0;
+}
+
+// The oldest, which has executed, commits; 13 where its address is past the memory. Its mark is in row r, and
+// the word that a store writes is that row's, as in Rattle (docs/DECISIONS.md).
+static unsigned commit_oldest(struct machine *m, size_t r, struct memory memory, uint32_t record[4])
+{
+    const struct entry *e = &m->window[m->table.oldest];
+    if (e->code >= 3 && e->address >= m->table.words)
+        return 13;
+    if (e->code == 4)
+        memory.words[e->address] = m->table.values[r * 16 + m->table.oldest];
+    else
+        m->registers[e->d] = e->value;
+    record[0] = e->index;
+    record[1] = e->code;
+    record[2] = e->code == 4 ? e->address : e->d;
+    record[3] = e->value;
+    commit_step(&m->table, r);
+    return 0;
+}
+
+unsigned machine_open(struct machine *m, struct sizes sizes, struct lent program, struct memory memory)
+{
+    memset(m, 0, sizeof *m);
+    if (!sizes_fit(sizes) || program.length > 1024)
+        return 1;
+    if (memory.length != sizes.words)
+        return 3;
+    if (!program_fits(program))
+        return 4;
+    make_empty(&m->table, sizes);
+    m->count = program.length / 4;
+    return 0;
+}
+
+unsigned machine_issue(struct machine *m, struct lent program, size_t *position)
+{
+    struct marked found;
+    unsigned why = verdict(m, program, m->table.words, &found);
+    if (why)
+        return why;
+    if (m->table.live == m->table.stages)
+        return 5;
+    if (m->next >= m->count)
+        return 6;
+    *position = m->table.live;
+    issue_next(m, program);
+    return 0;
+}
+
+unsigned machine_execute(struct machine *m, struct lent program, size_t position, struct memory memory,
+                         struct result *out)
+{
+    struct marked found;
+    unsigned why = verdict(m, program, memory.length, &found);
+    if (why)
+        return why;
+    if (position >= m->table.live)
+        return 7;
+    if (m->window[stage_at(&m->table, position)].executed)
+        return 8;
+    return execute_at(m, position, memory, out);
+}
+
+unsigned machine_squash(struct machine *m, struct lent program, size_t position)
+{
+    struct marked found;
+    unsigned why = verdict(m, program, m->table.words, &found);
+    if (why)
+        return why;
+    if (position >= m->table.live)
+        return 7;
+    m->next = m->window[stage_at(&m->table, position)].index;
+    cut(&m->table, position);
+    return 0;
+}
+
+unsigned machine_commit(struct machine *m, struct lent program, struct memory memory, uint32_t record[4])
+{
+    struct marked found;
+    unsigned why = verdict(m, program, memory.length, &found);
+    if (why)
+        return why;
+    if (m->table.live == 0)
+        return 11;
+    const struct entry *e = &m->window[m->table.oldest];
+    if (!e->executed)
+        return 12;
+    return commit_oldest(m, e->code >= 3 ? found.rows[m->table.oldest] : 64, memory, record);
+}
+
+unsigned machine_finish(struct machine *m, struct lent program, uint32_t limit, struct memory memory,
+                        struct memory list, size_t *commits)
+{
+    struct marked found;
+    struct table *t = &m->table;
+    unsigned why = verdict(m, program, memory.length, &found);
+    if (why)
+        return why;
+    size_t n = 0;
+    for (; n < limit && list.length - n * 4 >= 4; n++) {
+        struct result ran;
+        if (t->live == 0) {
+            if (m->next >= m->count)
+                break;
+            issue_next(m, program);
+        }
+        const struct entry *e = &m->window[t->oldest];
+        // the oldest has its operands, and a row is free or evicted for it
+        if (!e->executed)
+            execute_at(m, 0, memory, &ran);
+        size_t r = e->code >= 3 ? row_of(t, bank_of(t->banks, e->address), e->address) : 64;
+        if (commit_oldest(m, r, memory, list.words + n * 4))
+            break;
+    }
+    *commits = n;
+    return 0;
+}
+
+// The mixes: see crates/mixes/src/lib.rt for the same.
+
+static uint64_t advance(uint64_t seed)
+{
+    return seed % 2147483648 * 1103515245 + 12345;
+}
+
+static size_t bits(uint64_t seed)
+{
+    return seed / 65536 % 32768;
+}
+
+static uint64_t with(uint64_t sum, uint64_t x)
+{
+    return (sum << 1) + (sum >> 63) + x;
+}
+
+static uint64_t with_ticket(uint64_t sum, struct ticket ticket)
+{
+    return with(with(sum, ticket.stage), ticket.number);
+}
+
+// The checksum with an answer: a refusal's number, or 100 and what the answer carries.
+static uint64_t with_done(uint64_t sum, unsigned why)
+{
+    return with(sum, why ? why : 100);
+}
+
+static uint64_t with_named(uint64_t sum, unsigned why, const struct ticket *ticket)
+{
+    return why ? with(sum, why) : with_ticket(with(sum, 100), *ticket);
+}
+
+static uint64_t with_executed(uint64_t sum, unsigned why, const struct outcome *out)
+{
+    if (why)
+        return with(sum, why);
+    sum = with(with(sum, 100), out->value);
+    return out->squashed ? with_ticket(sum, out->from) : sum;
+}
+
+static size_t stage_drawn(const struct table *t, size_t drawn)
+{
+    if (t->stages == 0)
+        return 0;
+    if (t->live == 0)
+        return t->oldest % 16;
+    size_t s = (t->oldest + drawn % t->live) % t->stages % 16;
+    return t->executed >> s & 1 ? t->oldest % 16 : s;
+}
+
+static struct ticket ticket_drawn(const struct table *t, size_t drawn)
+{
+    size_t s = stage_drawn(t, drawn / 16);
+    return (struct ticket){s, t->numbers[s] + (drawn % 16 == 0)};
+}
+
+static uint32_t address_drawn(size_t drawn)
+{
+    return (drawn & drawn / 16) % 16 * 5;
+}
+
+static void spoil(struct table *t, size_t what, size_t x)
+{
+    size_t r = x % 64;
+    uint32_t bit = UINT32_C(1) << (x / 64 % 16);
+    bool outside = t->banks <= r / 8 || t->rows <= r % 8;
+    switch (what) {
+    case 0: t->banks += x % 8; break;
+    case 1: t->rows += x % 8; break;
+    case 2: t->stages += x % 16; break;
+    case 3: t->words += x; break;
+    case 4: t->oldest += x % 16; break;
+    case 5: t->live = x % 20; break;
+    case 6: t->executed ^= bit; break;
+    case 7: t->loads[r] ^= outside ? 0 : bit; break;
+    case 8: t->stores[r] = outside ? t->stores[r] : x < 16384 ? t->stores[r] ^ bit : marks_of(t, r); break;
+    default: t->addresses[r] = outside ? t->addresses[r] : address_drawn(x / 64);
+    }
+}
+
+uint64_t inplace_buffer(struct sizes sizes, uint32_t calls, uint64_t seed, struct spoiling spoiling,
+                        struct memory memory)
+{
+    struct table t;
+    uint64_t sum = with_done(0, buffer_open(&t, sizes, memory)), second = seed;
+    while (calls-- > 0) {
+        struct ticket ticket;
+        struct outcome out;
+        unsigned why;
+        uint64_t first = advance(second);
+        second = advance(first);
+        if (calls == spoiling.when) {
+            spoil(&t, spoiling.part, spoiling.by);
+            continue;
+        }
+        size_t kind = bits(first) % 32;
+        if (kind < 20) {
+            why = kind < 12 ? buffer_issue(&t, &ticket) : buffer_commit(&t, memory, &ticket);
+            sum = with_named(sum, why, &ticket);
+            continue;
+        }
+        ticket = ticket_drawn(&t, bits(first) / 32);
+        uint32_t address = address_drawn(bits(second));
+        if (kind == 31) {
+            sum = with_done(sum, buffer_squash(&t, ticket));
+            continue;
+        }
+        if (kind < 25)
+            why = buffer_load(&t, ticket, address, memory, &out);
+        else if (kind < 30)
+            why = buffer_store(&t, ticket, address, bits(second), memory, &out);
+        else
+            why = buffer_other(&t, ticket, memory, &out);
+        sum = with_executed(sum, why, &out);
+    }
+    return sum;
+}
+
+static size_t position_drawn(const struct table *t, size_t drawn)
+{
+    if (t->stages == 0 || t->live == 0)
+        return 0;
+    size_t p = drawn % t->live;
+    return t->executed >> ((t->oldest + p) % t->stages % 16) & 1 ? 0 : p;
+}
+
+static void spoil_entry(struct entry *e, size_t what, size_t x)
+{
+    uint32_t address = address_drawn(x);
+    switch (what) {
+    case 0:
+        e->index++;
+        break;
+    case 1:
+        e->executed = false;
+        break;
+    case 2:
+        e->executed = true;
+        e->value = 1;
+        e->address = address;
+        break;
+    default:
+        e->code = 3;
+        e->d = 2;
+        e->s = 0;
+        e->imm = address;
+    }
+}
+
+static void spoil_machine(struct machine *m, size_t what, size_t x)
+{
+    if (what < 10)
+        spoil(&m->table, what, x);
+    else if (what == 10)
+        m->count++;
+    else
+        spoil_entry(&m->window[x / 128 % 16], x % 4, x);
+}
+
+uint64_t inplace_machine(struct sizes sizes, uint32_t calls, uint64_t seed, struct spoiling spoiling,
+                         struct lent program, struct memory memory)
+{
+    struct machine m;
+    uint64_t sum = with_done(0, machine_open(&m, sizes, program, memory)), draw = seed;
+    while (calls-- > 0) {
+        unsigned why;
+        draw = advance(draw);
+        if (calls == spoiling.when) {
+            spoil_machine(&m, spoiling.part, spoiling.by);
+            continue;
+        }
+        if (m.table.live == 0 && m.count <= m.next) {
+            sum = with_done(sum, machine_open(&m, sizes, program, memory));
+            continue;
+        }
+        size_t kind = bits(draw) % 32;
+        if (kind < 12) {
+            size_t position;
+            why = machine_issue(&m, program, &position);
+            sum = why ? with(sum, why) : with(with(sum, 100), position);
+            continue;
+        }
+        if (kind < 20) {
+            uint32_t record[4];
+            why = machine_commit(&m, program, memory, record);
+            sum = why ? with(sum, why)
+                      : with(with(with(with(sum, record[0]), record[1]), record[2]), record[3]);
+            continue;
+        }
+        size_t p = position_drawn(&m.table, bits(draw) / 32);
+        if (kind == 31) {
+            sum = with_done(sum, machine_squash(&m, program, p));
+            continue;
+        }
+        struct result out;
+        why = machine_execute(&m, program, p, memory, &out);
+        if (why) {
+            sum = with(sum, why);
+            continue;
+        }
+        sum = with(with(sum, 100), out.value);
+        if (out.squashed)
+            sum = with(sum, out.from);
+    }
+    return sum;
+}
+
+uint64_t inplace_finish(struct sizes sizes, uint32_t runs, uint32_t limit, struct lent program,
+                        struct memory memory, struct memory list)
+{
+    uint64_t sum = 0;
+    for (; runs > 0; runs--) {
+        struct machine m;
+        size_t commits;
+        sum = with_done(sum, machine_open(&m, sizes, program, memory));
+        unsigned why = machine_finish(&m, program, limit, memory, list, &commits);
+        sum = why ? with(sum, why) : with(with(sum, 100), commits);
+    }
+    return sum;
+}

@@ -1,0 +1,195 @@
+-- `buffer::commit_step` meets its contract. Each return is a law of proofs/Committing.antt on the table passed, given what
+-- the tests before it said: memory has W words, a reference is live, the oldest has executed, it does not fault.
+-- Assumes nothing.
+use mathlib.Core.Bool.{true, false}
+use mathlib.Core.Path.{_≡_, sym, ap, _∙_}
+use Prim.Native.Nat.{ℕ, _<_, _≤_}
+use native.Mathlib.Omega.{arith}
+use lib.ListN.{length}
+use borrow.Author.Needs.{needs}
+use borrow.Author.Tests.{not-true, not-false}
+use Rattle.marks.proofs.Turns.{stage-lt}
+use Rattle.marks.specs.Stages.{has}
+use Rattle.table.specs.declared.Table.{Table}
+use Rattle.table.proofs.Sizes.{sizes}
+use Rattle.window.proofs.Lengths.{Lengths}
+use Rattle.lookup.specs.Search.{markedFate}
+use Rattle.buffer.specs.Refusals.{faults}
+use Rattle.buffer.proofs.Committing.{
+  oldestFate,
+  length-refused,
+  empty-refused,
+  waiting-refused,
+  fault-refused,
+  commit-meets,
+}
+use Rattle.buffer.proofs.commit_step.Statement.{statement}
+use Rattle.buffer.proofs.commit_step.Tie as tie
+
+abbrev table : tie.Start → Table
+table c = c .args .t1
+
+-- from where a test was passed back to where the one before it was, and to the entry
+abbrev entry : tie.Else1 → tie.Start
+entry c = c .before .before
+
+abbrev lent : tie.Else2 → tie.Else1
+lent c = c .before
+
+abbrev live : tie.Else3 → tie.Else2
+live c = c .before .before
+
+abbrev executed : tie.Else4 → tie.Else3
+executed c = c .before .before .before .before .before .before .before .before
+
+-- from after the oldest's mark was read back to where it was found to have executed
+abbrev marked : tie.After-mark-at → tie.Else3
+marked c = c .before .before .before .before .before .before
+
+lengths : (c : tie.Start) → Lengths (table c)
+lengths c =
+    record {
+      numbers = search needs;
+      addresses = search needs;
+      loads = search needs;
+      stores = search needs;
+      values = search needs;
+    }
+
+most-stages : (c : tie.Start) → table c .stages ≤ 16
+most-stages c = sizes _ _ _ _ (c .pre .sizes) .stages
+
+oldest-below : (c : tie.Start) → table c .oldest < 16
+oldest-below c = omega (arith, most-stages c, c .pre .start)
+
+length-at : (c : tie.Else1) → length (entry c .args .memory .now) ≡ table (entry c) .words
+length-at c = search needs
+
+live-at : (c : tie.Else2) → 0 < table (entry (lent c)) .live
+live-at c = search needs
+
+executed-at : (c : tie.Else3) → let t = table (entry (lent (live c))) in has (t .executed) (t .oldest) ≡ true
+executed-at c = sym (c .before .contains .ensures) ∙ not-false _ (c .if3 .left)
+
+fate-at : (c : tie.After-mark-at)
+    → markedFate (c .mark-at .result) ≡ oldestFate (table (entry (lent (live (marked c)))))
+fate-at c = ap markedFate (c .mark-at .ensures)
+
+fault-at : (c : tie.After-mark-faults) → let t = table (entry (lent (live (marked (c .before))))) in
+    c .mark-faults .result ≡ faults (t .words) (oldestFate t)
+fault-at c =
+    let t = table (entry (lent (live (marked (c .before))))) in
+    c .mark-faults .ensures ∙ ap (faults (t .words)) (fate-at (c .before))
+
+faultless-at : (c : tie.Else4) → let t = table (entry (lent (live (executed c)))) in
+    faults (t .words) (oldestFate t) ≡ false
+faultless-at c = sym (fault-at (c .before)) ∙ c .if4 .left
+
+returns : tie.Need-returns
+returns c = length-refused _ (c .before .before .pre) _ (c .if1 .taken)
+
+returns-2 : tie.Need-returns-2
+returns-2 c = empty-refused _ (c .before .before .before .pre) _ (length-at (c .before)) (c .if2 .taken)
+
+contains-requires : tie.Need-contains-requires
+contains-requires c κs = omega (arith, oldest-below (c .before .before .before))
+
+returns-3 : tie.Need-returns-3
+returns-3 c =
+    let l = c .before .before in
+    waiting-refused _ (entry (lent l) .pre) _ (length-at (lent l)) (live-at l)
+    (sym (c .before .contains .ensures) ∙ not-true _ (c .if3 .taken))
+
+mark-at-requires : tie.Need-mark-at-requires
+mark-at-requires c κs =
+    let start = entry (lent (live (c .before .before .before .before .before))) in
+    let l = lengths start in
+    ((oldest-below start, l .addresses, l .loads), (l .stores, l .values))
+
+mark-faults-requires : tie.Need-mark-faults-requires
+mark-faults-requires c κs = search needs
+
+returns-4 : tie.Need-returns-4
+returns-4 c =
+    let e = marked (c .before .before) in
+    fault-refused _ (entry (lent (live e)) .pre) _ (length-at (lent (live e))) (live-at (live e)) (executed-at e)
+    (sym (fault-at (c .before)) ∙ c .if4 .taken)
+
+write-back-requires : tie.Need-write-back-requires
+write-back-requires c κs =
+    ap (λ (n : ℕ). faults n (markedFate (c .before .before .before .mark-at .result)))
+    (length-at (lent (live (executed (c .before)))))
+    ∙ sym (c .before .before .mark-faults .ensures) ∙ c .before .if4 .left
+
+mul-number : tie.Need-mul-number
+mul-number c = omega (arith, oldest-below (entry (lent (live (executed (c .before .before .before .before))))))
+
+element-copy-out-number : tie.Need-element-copy-out-number
+element-copy-out-number c = oldest-below (entry (lent (live (executed (c .before .before .before .before)))))
+
+stage-at-requires : tie.Need-stage-at-requires
+stage-at-requires c κs =
+    let start = entry (lent (live (executed (c .before .before .before .before .before)))) in
+    (start .pre .start, omega (arith, start .pre .start), omega (arith, most-stages start))
+
+sub-first-stages : tie.Need-sub-first-stages
+sub-first-stages c = search needs
+
+first-stages-requires : tie.Need-first-stages-requires
+first-stages-requires c κs =
+    let start = entry (lent (live (executed (c .before .before .before .before .before .before)))) in
+    let rules = start .pre in
+    let first = stage-lt _ _ (rules .start) 1 (omega (arith, rules .start)) in
+    (rw (c .stage-at .ensures) first, omega (arith, rules .room), omega (arith, most-stages start))
+
+sub-next : tie.Need-sub-next
+sub-next c = search needs
+
+keep-requires : tie.Need-keep-requires
+keep-requires c κs =
+    lengths (entry (lent (live (executed (c .before .before .before .before .before .before .before .before))))) .loads
+
+keep-requires-2 : tie.Need-keep-requires-2
+keep-requires-2 c κs =
+    let s = c .before .before .before .before .before .before .before .before .before .before in lengths (entry (lent (live (executed s)))) .stores
+
+same-length : tie.Need-same-length
+same-length c = search needs
+
+returns-5 : tie.Need-returns-5
+returns-5 c =
+    let s = c .before .before .before .before .before .before .before .before .before .before .before in
+    let e = executed s in
+    rw (
+      c .keep2 .ensures,
+      c .before .before .keep .ensures,
+      c .before .before .before .before .first-stages .ensures,
+      c .before .before .before .before .before .stage-at .ensures,
+      c .before .before .before .before .before .before .before .before .before .write-back .ensures,
+      fate-at (s .before .before),
+    )
+    (commit-meets _ (entry (lent (live e)) .pre) _ (length-at (lent (live e))) (live-at (live e)) (executed-at e)
+    (faultless-at s))
+
+pub commit-step-spec : {M : Type 1} → statement M
+commit-step-spec =
+    tie.close
+    (tie.spec
+    returns
+    returns-2
+    contains-requires
+    returns-3
+    mark-at-requires
+    mark-faults-requires
+    returns-4
+    write-back-requires
+    mul-number
+    element-copy-out-number
+    stage-at-requires
+    sub-first-stages
+    first-stages-requires
+    sub-next
+    keep-requires
+    keep-requires-2
+    same-length
+    returns-5)

@@ -1,0 +1,1 @@
+-- Proofs of the mixes: each loop counts down.

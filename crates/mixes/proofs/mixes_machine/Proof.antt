@@ -1,0 +1,156 @@
+-- `mixes::mixes_machine` is safe and ends. The lent memory keeps its length from turn to turn, which is what
+-- a lent slice owes; the measure is the number of turns that are left. Assumes nothing.
+use mathlib.Core.Path.{_≡_, refl}
+use native.Mathlib.Omega.{arith}
+use lib.ListN.{length}
+use borrow.Author.Needs.{needs}
+use Rattle.mixes.proofs.mixes_machine.Statement.{statement}
+use Rattle.mixes.proofs.mixes_machine.Tie as tie
+
+abbrev Inv-loop : tie.InvT-loop
+Inv-loop banks rows stages words calls seed when part by program memory₀ m₀ sum₀ draw₀ left₀ memory m sum draw left =
+    length memory ≡ length memory₀
+
+abbrev μ-loop : tie.MeasureT-loop
+μ-loop banks rows stages words calls seed when part by program memory₀ m₀ sum₀ draw₀ left₀ memory m sum draw left = left
+
+open-requires : tie.Need-open-requires Inv-loop μ-loop
+open-requires c κs = tt
+
+with-opened-requires : tie.Need-with-opened-requires Inv-loop μ-loop
+with-opened-requires c κs = tt
+
+loop-holds : tie.Need-loop-holds Inv-loop μ-loop
+loop-holds c = refl
+
+sub-left : tie.Need-sub-left Inv-loop μ-loop
+sub-left c = omega arith
+
+advance-requires : tie.Need-advance-requires Inv-loop μ-loop
+advance-requires c κs = tt
+
+spoil-machine-requires : tie.Need-spoil-machine-requires Inv-loop μ-loop
+spoil-machine-requires c κs = tt
+
+loop-less : tie.Need-loop-less Inv-loop μ-loop
+loop-less c = omega arith
+
+loop-again : tie.Need-loop-again Inv-loop μ-loop
+loop-again c = search needs
+
+open-requires-2 : tie.Need-open-requires-2 Inv-loop μ-loop
+open-requires-2 c κs = tt
+
+with-opened-requires-2 : tie.Need-with-opened-requires-2 Inv-loop μ-loop
+with-opened-requires-2 c κs = tt
+
+loop-less-2 : tie.Need-loop-less-2 Inv-loop μ-loop
+loop-less-2 c = omega arith
+
+loop-again-2 : tie.Need-loop-again-2 Inv-loop μ-loop
+loop-again-2 c = search needs
+
+bits-requires : tie.Need-bits-requires Inv-loop μ-loop
+bits-requires c κs = tt
+
+issue-requires : tie.Need-issue-requires Inv-loop μ-loop
+issue-requires c κs = tt
+
+with-issued-requires : tie.Need-with-issued-requires Inv-loop μ-loop
+with-issued-requires c κs = tt
+
+loop-less-3 : tie.Need-loop-less-3 Inv-loop μ-loop
+loop-less-3 c = omega arith
+
+loop-again-3 : tie.Need-loop-again-3 Inv-loop μ-loop
+loop-again-3 c = search needs
+
+commit-requires : tie.Need-commit-requires Inv-loop μ-loop
+commit-requires c κs = tt
+
+with-committed-requires : tie.Need-with-committed-requires Inv-loop μ-loop
+with-committed-requires c κs = tt
+
+loop-less-4 : tie.Need-loop-less-4 Inv-loop μ-loop
+loop-less-4 c = omega arith
+
+loop-again-4 : tie.Need-loop-again-4 Inv-loop μ-loop
+loop-again-4 c = search needs
+
+bits-requires-2 : tie.Need-bits-requires-2 Inv-loop μ-loop
+bits-requires-2 c κs = tt
+
+position-drawn-requires : tie.Need-position-drawn-requires Inv-loop μ-loop
+position-drawn-requires c κs = tt
+
+execute-requires : tie.Need-execute-requires Inv-loop μ-loop
+execute-requires c κs = tt
+
+with-ran-requires : tie.Need-with-ran-requires Inv-loop μ-loop
+with-ran-requires c κs = tt
+
+loop-less-5 : tie.Need-loop-less-5 Inv-loop μ-loop
+loop-less-5 c = omega arith
+
+loop-again-5 : tie.Need-loop-again-5 Inv-loop μ-loop
+loop-again-5 c =
+    let called = c .before .before .before .before .before .before .before .before in
+    called .before .before .before .before .before .before .before .before .before .loop .inv
+
+squash-requires : tie.Need-squash-requires Inv-loop μ-loop
+squash-requires c κs = tt
+
+with-opened-requires-3 : tie.Need-with-opened-requires-3 Inv-loop μ-loop
+with-opened-requires-3 c κs = tt
+
+loop-less-6 : tie.Need-loop-less-6 Inv-loop μ-loop
+loop-less-6 c = omega arith
+
+loop-again-6 : tie.Need-loop-again-6 Inv-loop μ-loop
+loop-again-6 c = search needs
+
+same-length : tie.Need-same-length Inv-loop μ-loop
+same-length c = search needs
+
+returns : tie.Need-returns Inv-loop μ-loop
+returns c = tt
+
+pub mixes-machine-spec : {M : Type 1} → statement M
+mixes-machine-spec =
+    tie.close
+    (tie.spec
+    Inv-loop
+    μ-loop
+    open-requires
+    with-opened-requires
+    loop-holds
+    sub-left
+    advance-requires
+    spoil-machine-requires
+    loop-less
+    loop-again
+    open-requires-2
+    with-opened-requires-2
+    loop-less-2
+    loop-again-2
+    bits-requires
+    issue-requires
+    with-issued-requires
+    loop-less-3
+    loop-again-3
+    commit-requires
+    with-committed-requires
+    loop-less-4
+    loop-again-4
+    bits-requires-2
+    position-drawn-requires
+    execute-requires
+    with-ran-requires
+    loop-less-5
+    loop-again-5
+    squash-requires
+    with-opened-requires-3
+    loop-less-6
+    loop-again-6
+    same-length
+    returns)

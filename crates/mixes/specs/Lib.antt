@@ -1,0 +1,1 @@
+-- Nothing: the mixes have no contracts.
