@@ -1,7 +1,8 @@
--- Sounding: the rules and the agreement as tests. Answering: how a contract is met, and what the verdict says. Reaching: what a
+-- Sounding: the rules and the agreement as tests. Agreeing: the code's test of the agreement. Answering: how a contract is met, and what the verdict says. Reaching: what a
 -- machine comes to by its table's view. Opened, Moved, Committed: the calls but execute and finish. Operands, Formed,
 -- Executions: execute. Passing, Preparing, Finishes: finish. Sentences: 01's sentence of an operand.
 pub mod Sounding
+pub mod Agreeing
 pub mod Answering
 pub mod Reaching
 pub mod Opened

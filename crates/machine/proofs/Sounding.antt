@@ -1,16 +1,13 @@
 -- A machine is sound exactly where its tests pass: the table's own rules, and the agreement of window and table at every
--- live position. The fates that are compared are those of the view, which the table's marks give (view-fate); two fates
--- agree where their kinds and their addresses are equal (agree-kinds), which is how the code compares them.
+-- live position. The fates that are compared are those of the view, which the table's marks give (view-fate).
 -- Assumes nothing.
 use mathlib.Core.Bool.{true, false, _&&_, true≢false, and-eq-true-iff}
-use mathlib.Core.Path.{_≡_, refl, sym, ap, ap₂, _∙_}
+use mathlib.Core.Path.{_≡_, sym, ap, ap₂, _∙_}
 use Prim.Native.Nat.{ℕ, _<_}
-use lib.Dec.{eqb}
 use lib.ListN.{length}
 use Rattle.marks.proofs.Counts.{every-at, every-from}
 use Rattle.table.specs.declared.Table.{Table}
-use Rattle.table.specs.Reference
-use Rattle.table.specs.Reference.{waiting, other, loaded, stored, fateOf, at}
+use Rattle.table.specs.Reference.{fateOf, at}
 use Rattle.table.specs.View.{stageOf, fateAt, view}
 use Rattle.table.specs.Check.{lawful}
 use Rattle.table.proofs.Lists.{length-tabulate, at-tabulate}
@@ -19,7 +16,7 @@ use Rattle.table.proofs.Lawful.{lawful-rules, rules-lawful}
 use Rattle.machine.specs.declared.Machine.{Machine}
 use Rattle.machine.specs.Window.{blankEntry, entryAt, reference}
 use Rattle.machine.specs.Contract.{entryOf, plain, agree, Sound}
-use Rattle.machine.specs.Parts.{kindOf, placeOf, agreeing}
+use Rattle.machine.specs.Parts.{agreeing}
 
 -- the entries of the plain state, by position
 pub length-entries : (m : Machine) → length (plain m .entries) ≡ m .table .live
@@ -31,24 +28,6 @@ entry-at m p h = at-tabulate (entryOf m) (m .table .live) p blankEntry h
 -- the fate of a live reference is what the table's marks say of its stage
 pub view-fate : (t : Table) (p : ℕ) → p < t .live → fateOf (at (view t .refs) p) ≡ fateAt t (stageOf t p)
 view-fate t p h = ap fateOf (at-refs t p h)
-
-pub agree-kinds : (f g : Reference.Fate) → agree f g ≡ (eqb (kindOf f) (kindOf g) && eqb (placeOf f) (placeOf g))
-agree-kinds waiting waiting = refl
-agree-kinds waiting other = refl
-agree-kinds waiting (loaded b) = refl
-agree-kinds waiting (stored b w) = refl
-agree-kinds other waiting = refl
-agree-kinds other other = refl
-agree-kinds other (loaded b) = refl
-agree-kinds other (stored b w) = refl
-agree-kinds (loaded a) waiting = refl
-agree-kinds (loaded a) other = refl
-agree-kinds (loaded a) (loaded b) = refl
-agree-kinds (loaded a) (stored b w) = refl
-agree-kinds (stored a v) waiting = refl
-agree-kinds (stored a v) other = refl
-agree-kinds (stored a v) (loaded b) = refl
-agree-kinds (stored a v) (stored b w) = refl
 
 module _ (m : Machine) where
   pub sound-tests : Sound m → (lawful (m .table) && agreeing m (m .table .live)) ≡ true

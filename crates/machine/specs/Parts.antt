@@ -1,18 +1,22 @@
 -- What the parts of a call compute, as the code does it, over the arrays lent or passed to them.
 -- Assumes nothing.
-use mathlib.Core.Bool.{Bool, cond, not, _&&_}
+use mathlib.Core.Bool.{Bool, true, cond, not, _&&_}
 use mathlib.Core.List.{List, [], _∷_}
 use mathlib.Core.Option.{Option, none, some}
-use Prim.Native.Nat.{ℕ, _-_, _*_}
+use Prim.Native.Nat.{ℕ, zero, suc, _+_, _*_}
 use lib.Dec.{eqb, ltb}
+use lib.Bits.{bitOr}
 use lib.ListN.{length, getD, set}
+use Rattle.marks.specs.Stages.{has}
 use Rattle.marks.specs.Circle.{stage}
 use Rattle.marks.specs.Counting.{every}
 use Rattle.table.specs.declared.Ticket.{Ticket}
 use Rattle.table.specs.Reference
 use Rattle.table.specs.Reference.{waiting, other, loaded, stored}
 use Rattle.table.specs.View.{fateAt, stageOf, tabulate}
-use Rattle.table.specs.Check.{lawful}
+use Rattle.table.specs.Limits.{rowsMost, rowsAll}
+use Rattle.table.specs.Bank.{bank}
+use Rattle.table.specs.Check.{marksOf, lawful}
 use Rattle.lookup.specs.Search.{find}
 use Rattle.buffer.specs.Refusals.{refusal, when}
 use Rattle.buffer.specs.Calls
@@ -93,6 +97,39 @@ placeOf waiting = 0
 placeOf other = 0
 placeOf (loaded a) = a
 placeOf (stored a v) = a
+
+-- the union of the sets f i, over the i below n that pass the test
+unfoldable pub union : (ℕ → Bool) → (ℕ → ℕ) → ℕ → ℕ
+union test f zero = 0
+union test f (suc n) = cond (test n) (bitOr (union test f n) (f n)) (union test f n)
+
+-- the stages that bear a mark in some row
+abbrev pub markedStages : List ℕ → List ℕ → ℕ
+markedStages loads stores = union (λ (r : ℕ). true) (marksOf loads stores) rowsAll
+
+-- the stages that bear a mark of one kind in a row of bank b with address a
+abbrev pub marksAt : List ℕ → List ℕ → ℕ → ℕ → ℕ
+marksAt addresses marks b a =
+    union (λ (i : ℕ). eqb (getD addresses (b * rowsMost + i) 0) a) (λ (i : ℕ). getD marks (b * rowsMost + i) 0) rowsMost
+
+-- An entry with this kind and address agrees with the marks of stage s, where `marked` are the stages with a mark. A row
+-- of the address lies in its bank, so no other is read.
+abbrev pub agreesBy : ℕ → ℕ → ℕ → List ℕ → List ℕ → List ℕ → ℕ → ℕ → ℕ → Bool
+agreesBy banks executed marked addresses loads stores kind place s =
+    cond (eqb kind 3) (not (has executed s))
+    (cond (eqb kind 0) (has executed s && not (has marked s))
+    (cond (eqb kind 1) (has (marksAt addresses loads (bank banks place) place) s)
+    (has (marksAt addresses stores (bank banks place) place) s)))
+
+-- the same of the entries at the first k positions
+abbrev pub agreeingBy : ℕ → ℕ → ℕ → ℕ → List ℕ → List ℕ → List ℕ → List Entry → ℕ → Bool
+agreeingBy banks oldest stages executed addresses loads stores window k =
+    every
+    (λ (p : ℕ).
+    let f = reference (getD window (stage oldest stages p) blankEntry) in
+    agreesBy banks executed (markedStages loads stores) addresses loads stores (kindOf f) (placeOf f)
+    (stage oldest stages p))
+    k
 
 -- the entries at the first k positions of a window by stage
 abbrev pub entriesOf : List Entry → ℕ → ℕ → ℕ → List Entry

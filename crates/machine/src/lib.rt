@@ -3,11 +3,10 @@
 // No public call requires anything: what it is given that breaks a rule it refuses, with the numbers of specs/Calls.antt, and
 // hands everything back as it was passed. Each contract is `Meets` (or `Opens`) of specs/Contract.antt. The program is lent to
 // each call. A call checks table, window, memory and program once, by `verdict`; the steps inside it require that they passed.
-use lookup::Mark;
 use table::Table;
 use table::Ticket;
 ghost use mathlib.Core.Path.{_≡_};
-ghost use mathlib.Core.Bool.{true, false, cond};
+ghost use mathlib.Core.Bool.{true, false};
 ghost use mathlib.Core.List.{List, [], _∷_, map};
 ghost use mathlib.Core.Option.{some};
 ghost use Prim.Native.Nat.{ℕ, _+_, _*_, _/_, _≤_, _<_};
@@ -15,19 +14,16 @@ ghost use lib.ListN.{length, getD};
 ghost use lib.Seq.{sets};
 ghost use Rattle.table.specs.Rules.{Rules};
 ghost use Rattle.table.specs.Reference.{at};
-ghost use Rattle.table.specs.View.{stageOf, fateAt};
 ghost use Rattle.buffer.specs.Answers;
 ghost use Rattle.buffer.specs.Contract;
 ghost use Rattle.machine.specs.Program.{decoded, instructionAt, wellFormed, programFits, codeOf};
 ghost use Rattle.machine.specs.Window.{blankEntry, reference, held, with₂};
 ghost use Rattle.machine.specs.Calls.{refused, issue, execute, squash, commit, finish, dOf, sOf, immOf, same, like, waits, valueBy, addressBy, registersAfter, target, begun, ready};
-ghost use Rattle.machine.specs.Contract.{doneSays, issueSays, executeSays, commitSays, finishSays, agree, over, fresh, plain, Meets, Opens};
-ghost use Rattle.machine.specs.Parts.{destination, writer, asNumber, asCall, fateAfter, actionOf, second, verdictOf, kindOf, placeOf, entriesOf, wantedBy, settled};
+ghost use Rattle.machine.specs.Contract.{doneSays, issueSays, executeSays, commitSays, finishSays, over, fresh, plain, Meets, Opens};
+ghost use Rattle.machine.specs.Parts.{destination, writer, asNumber, asCall, fateAfter, actionOf, second, verdictOf, kindOf, placeOf, markedStages, marksAt, agreesBy, agreeingBy, entriesOf, wantedBy, settled};
 ghost use Rattle.machine.specs.declared.Entry.{Entry};
 ghost use Rattle.marks.specs.Circle.{stage};
 ghost use Rattle.marks.specs.Counting.{every};
-ghost use Rattle.table.specs.Reference.{waiting};
-ghost use Rattle.lookup.specs.Search.{markedFate};
 
 // An instruction: codes 1 (A), 2 (P), 3 (L) and 4 (S), each with d, s and imm.
 pub enum Instruction {
@@ -165,7 +161,7 @@ fn instruction_at(program: &[u32], i: usize) -> Instruction
 }
 
 // Whether these four numbers are an instruction.
-fn well_formed(code: u32, d: u32, s: u32, imm: u32) -> bool
+pub fn well_formed(code: u32, d: u32, s: u32, imm: u32) -> bool
     ensures { λ r. ⌜ r ≡ wellFormed code d s imm ⌝ }
 {
     ((1 <= code) & (code <= 4)) & ((d <= 7) & (s <= 7)) & (!(code == 2) | (imm <= 7))
@@ -314,53 +310,105 @@ fn entry_place(e: Entry) -> u32
     }
 }
 
-// The same of what the table's marks say of a stage.
-fn mark_kind(executed: bool, mark: Mark) -> u32
-    ensures { λ r. ⌜ r ≡ kindOf (cond executed (markedFate mark) waiting) ⌝ }
+// The stages that bear a mark in some row.
+fn marked_stages<'a>(loads: &'a [u32; 64], stores: &'a [u32; 64]) -> u32
+    requires { ⌜ (length (now loads) ≡ 64) × (length (now stores) ≡ 64) ⌝ }
+    ensures { λ r. ⌜ r ≡ markedStages (now (loads .entry)) (now (stores .entry)) ⌝ }
 {
-    if !executed {
-        return 3;
+    let mut all: u32 = 0;
+    let mut r = 0;
+    while r < 64 {
+        all = all | (loads[r] | stores[r]);
+        r += 1;
     }
-    match mark {
-        Mark::Absent => 0,
-        Mark::Load(_) => 1,
-        Mark::Store(_, _) => 2,
-    }
+    all
 }
 
-fn mark_place(executed: bool, mark: Mark) -> u32
-    ensures { λ r. ⌜ r ≡ placeOf (cond executed (markedFate mark) waiting) ⌝ }
+// The stages that bear a mark of one kind in a row of bank `b` with address `a`. Every row of the bank is read: an early exit
+// would be a branch to guess.
+fn marks_of<'a>(addresses: &'a [u32; 64], marks: &'a [u32; 64], b: usize, a: u32) -> u32
+    requires { ⌜ (b < 8) × (length (now addresses) ≡ 64) × (length (now marks) ≡ 64) ⌝ }
+    ensures { λ r. ⌜ r ≡ marksAt (now (addresses .entry)) (now (marks .entry)) b a ⌝ }
 {
-    if !executed {
-        return 0;
+    let mut all: u32 = 0;
+    let mut i = 0;
+    while i < 8 {
+        let r = b * 8 + i;
+        if addresses[r] == a {
+            all = all | marks[r];
+        }
+        i += 1;
     }
-    match mark {
-        Mark::Absent => 0,
-        Mark::Load(a) => a,
-        Mark::Store(a, _) => a,
+    all
+}
+
+// Whether an entry of this kind and address agrees with what the table's marks say of its stage `s`.
+fn stage_agrees<'a>(
+    banks: usize,
+    executed: u32,
+    marked: u32,
+    addresses: &'a [u32; 64],
+    loads: &'a [u32; 64],
+    stores: &'a [u32; 64],
+    kind: u32,
+    place: u32,
+    s: usize,
+) -> bool
+    requires { ⌜ (0 < banks) × (banks ≤ 8) × (s < 16) ⌝ }
+    requires { ⌜ (length (now addresses) ≡ 64) × (length (now loads) ≡ 64) × (length (now stores) ≡ 64) ⌝ }
+    ensures { λ r. ⌜ r
+        ≡ agreesBy banks executed marked (now (addresses .entry)) (now (loads .entry)) (now (stores .entry)) kind place s ⌝ }
+{
+    if kind == 3 {
+        return !marks::contains(executed, s);
     }
+    if kind == 0 {
+        return marks::contains(executed, s) & !marks::contains(marked, s);
+    }
+    let b = table::bank_of(banks, place);
+    if kind == 1 {
+        return marks::contains(marks_of(addresses, loads, b, place), s);
+    }
+    marks::contains(marks_of(addresses, stores, b, place), s)
 }
 
 // Whether window and table agree on the live stages: executed or not, at which address and with which mark.
-fn window_agrees(t: Table, window: [Entry; 16]) -> bool
-    requires { ⌜ Rules t ⌝ }
+fn window_agrees<'a>(
+    banks: usize,
+    oldest: usize,
+    stages: usize,
+    live: usize,
+    executed: u32,
+    addresses: &'a [u32; 64],
+    loads: &'a [u32; 64],
+    stores: &'a [u32; 64],
+    window: [Entry; 16],
+) -> bool
+    requires { ⌜ (0 < banks) × (banks ≤ 8) × (oldest < stages) × (live ≤ stages) × (stages ≤ 16) ⌝ }
+    requires { ⌜ (length (now addresses) ≡ 64) × (length (now loads) ≡ 64) × (length (now stores) ≡ 64) ⌝ }
     ensures { λ r. ⌜ r
-        ≡ every (λ (p : ℕ). agree (reference (getD window (stageOf t p) blankEntry)) (fateAt t (stageOf t p))) (t .live) ⌝ }
+        ≡ agreeingBy banks oldest stages executed (now (addresses .entry)) (now (loads .entry)) (now (stores .entry)) window live ⌝ }
 {
-    let oldest = t.oldest;
-    let stages = t.stages;
-    let live = t.live;
-    let executed = t.executed;
+    let marked = marked_stages(loads, stores);
     let mut same = true;
     let mut p = 0;
     while p < live {
         let s = marks::stage_at(oldest, stages, p);
         let e = window[s];
-        let mark = lookup::mark_at(&t.addresses, &t.loads, &t.stores, &t.values, s);
-        let done = marks::contains(executed, s);
+        let kind = entry_kind(e);
+        let place = entry_place(e);
         same = same
-            & (entry_kind(e) == mark_kind(done, mark))
-            & (entry_place(e) == mark_place(done, mark));
+            & stage_agrees(
+                banks,
+                executed,
+                marked,
+                addresses,
+                loads,
+                stores,
+                kind,
+                place,
+                s,
+            );
         p += 1;
     }
     same
@@ -370,30 +418,42 @@ fn window_agrees(t: Table, window: [Entry; 16]) -> bool
 fn verdict(m: Machine, program: &[u32], lent: usize) -> u32
     ensures { λ r. ⌜ r ≡ verdictOf m (now (program .entry)) lent ⌝ }
 {
-    let t = m.table;
-    let oldest = t.oldest;
-    let stages = t.stages;
-    let live = t.live;
+    let banks = m.table.banks;
+    let stages = m.table.stages;
+    let words = m.table.words;
+    let oldest = m.table.oldest;
+    let live = m.table.live;
+    let executed = m.table.executed;
     let window = m.window;
     let count = m.count;
     if !table::keeps_rules(
-        t.banks,
-        t.rows,
+        banks,
+        m.table.rows,
         stages,
-        t.words,
+        words,
         oldest,
         live,
-        t.executed,
-        &t.addresses,
-        &t.loads,
-        &t.stores,
+        executed,
+        &m.table.addresses,
+        &m.table.loads,
+        &m.table.stores,
     ) {
         return 2;
     }
-    if !window_agrees(t, window) {
+    if !window_agrees(
+        banks,
+        oldest,
+        stages,
+        live,
+        executed,
+        &m.table.addresses,
+        &m.table.loads,
+        &m.table.stores,
+        window,
+    ) {
         return 2;
     }
-    if lent != t.words {
+    if lent != words {
         return 3;
     }
     if !program_fits(program) {

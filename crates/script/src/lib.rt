@@ -14,7 +14,6 @@ ghost use lib.ListN.{length, replicate, take, drop};
 ghost use lib.Seq.{sets, slice};
 ghost use Rattle.text.specs.Reader.{told};
 ghost use Rattle.machine.specs.Calls.{issue, execute, squash, commit, finish};
-ghost use Rattle.machine.specs.Program.{wellFormed};
 ghost use Rattle.machine.specs.Contract.{plain, Sound, fresh};
 ghost use Rattle.script.specs.Language.{alone, withOne, withThree, withFour, lettered, said, stepOf, Steps, before, stepping};
 ghost use Rattle.script.specs.Output as output;
@@ -243,13 +242,6 @@ pub fn words_of(s: &[u8]) -> usize
     }
 }
 
-// Whether these four numbers are an instruction.
-fn well_formed(code: u32, d: u32, s: u32, imm: u32) -> bool
-    ensures { λ r. ⌜ r ≡ wellFormed code d s imm ⌝ }
-{
-    ((1 <= code) & (code <= 4)) & ((d <= 7) & (s <= 7)) & (!(code == 2) | (imm <= 7))
-}
-
 // The instruction that this item is, where the next line begins at `at`.
 fn take_operation(item: Item, at: usize) -> Found
     ensures { λ r. ⌜ r ≡ foundIn item at ⌝ }
@@ -258,7 +250,7 @@ fn take_operation(item: Item, at: usize) -> Found
         Item::Malformed => Found::Nothing,
         Item::Sizes(_, _, _, _) => Found::Nothing,
         Item::Operation(code, d, s, imm) => {
-            if well_formed(code, d, s, imm) {
+            if machine::well_formed(code, d, s, imm) {
                 return Found::Four(code, d, s, imm, at);
             }
             Found::Nothing

@@ -34,7 +34,7 @@ pub struct Ticket {
 }
 
 // The home (bank hash) of an address, at its remainder by 64.
-const HOMES: [usize; 64] = [
+const HOMES: [u8; 64] = [
     0,
     1,
     2,
@@ -107,7 +107,7 @@ pub fn bank_of(banks: usize, address: u32) -> usize
     ensures { λ r. ⌜ r ≡ bank banks address ⌝ }
 {
     let home = HOMES[(address % 64) as usize];
-    home % banks
+    (home as usize) % banks
 }
 
 // Whether the sizes lie in their limits.

@@ -1,153 +1,102 @@
--- `machine::window_agrees` meets its contract. The loop's invariant: `same` is the test over the p positions passed. At
--- a position the code compares kinds and addresses of the entry and of what the table's marks say of its stage, which is
--- how two fates agree (agrees-step). The measure is the number of positions left. Assumes nothing.
-use mathlib.Core.Bool.{Bool, cond, _&&_, and-assoc}
+-- `machine::window_agrees` meets its contract. The loop's invariant: `same` is the test over the p positions passed. The
+-- measure is the number of positions left. Assumes nothing.
+use mathlib.Core.Bool.{Bool, _&&_}
 use mathlib.Core.List.{List}
 use mathlib.Core.Path.{_≡_, refl, sym, ap, ap₂, _∙_}
 use Prim.Native.Nat.{ℕ, _-_, _≤_, _<_}
 use native.Mathlib.Numerals.{add-one}
 use native.Mathlib.Omega.{arith}
-use lib.Dec.{eqb}
 use lib.ListN.{getD}
 use borrow.Author.Needs.{needs}
+use Rattle.marks.specs.Circle.{stage}
 use Rattle.marks.specs.Counting.{every}
-use Rattle.marks.specs.Stages.{has}
-use Rattle.table.specs.declared.Table.{Table}
-use Rattle.table.specs.Reference
-use Rattle.table.specs.Reference.{waiting}
-use Rattle.table.specs.View.{stageOf, fateAt}
-use Rattle.table.proofs.Sizes.{sizes}
-use Rattle.window.proofs.Lengths.{Lengths, stage-small}
-use Rattle.lookup.specs.declared.Mark.{Mark}
-use Rattle.lookup.specs.Search.{markOf, markedFate}
-use Rattle.lookup.proofs.Telling.{marks-fate}
+use Rattle.marks.proofs.Turns.{stage-lt}
 use Rattle.machine.specs.declared.Entry.{Entry}
 use Rattle.machine.specs.Window.{blankEntry, reference}
-use Rattle.machine.specs.Contract.{agree}
-use Rattle.machine.specs.Parts.{kindOf, placeOf}
-use Rattle.machine.proofs.Sounding.{agree-kinds}
+use Rattle.machine.specs.Parts.{kindOf, placeOf, markedStages, agreesBy}
 use Rattle.machine.proofs.window_agrees.Statement.{statement}
 use Rattle.machine.proofs.window_agrees.Tie as tie
 
 -- the test of stage s
-abbrev agreesAt : Table → List Entry → ℕ → Bool
-agreesAt t window s = agree (reference (getD window s blankEntry)) (fateAt t s)
+abbrev agreesAt : ℕ → ℕ → List ℕ → List ℕ → List ℕ → List Entry → ℕ → Bool
+agreesAt banks executed addresses loads stores window s =
+    let f = reference (getD window s blankEntry) in
+    agreesBy banks executed (markedStages loads stores) addresses loads stores (kindOf f) (placeOf f) s
 
 abbrev Inv-loop : tie.InvT-loop
-Inv-loop t window oldest stages live executed same₀ p₀ same p =
-    (p ≤ t .live) × (same ≡ every (λ (q : ℕ). agreesAt t window (stageOf t q)) p)
+Inv-loop banks oldest stages live executed addresses loads stores window marked same₀ p₀ same p =
+    (p ≤ live)
+    × (same ≡ every (λ (q : ℕ). agreesAt banks executed addresses loads stores window (stage oldest stages q)) p)
 
 abbrev μ-loop : tie.MeasureT-loop
-μ-loop t window oldest stages live executed same₀ p₀ same p = t .live - p
+μ-loop banks oldest stages live executed addresses loads stores window marked same₀ p₀ same p = live - p
 
--- what the code's numbers say of an entry and of a stage
-agrees-step : (t : Table) (s : ℕ) (f : Reference.Fate) (mark : Mark) (done same : Bool) (ek mk ep mp : ℕ)
-    → mark ≡ markOf (t .addresses) (t .loads) (t .stores) (t .values) s 64 → done ≡ has (t .executed) s
-    → ek ≡ kindOf f → mk ≡ kindOf (cond done (markedFate mark) waiting)
-    → ep ≡ placeOf f → mp ≡ placeOf (cond done (markedFate mark) waiting)
-    → (same && eqb ek mk && eqb ep mp) ≡ (same && agree f (fateAt t s))
-agrees-step t s f mark done same ek mk ep mp marked executed ek-is mk-is ep-is mp-is =
-    let said : cond done (markedFate mark) waiting ≡ fateAt t s =
-    ap₂ (λ (b : Bool) (g : Reference.Fate). cond b g waiting) executed (ap markedFate marked ∙ marks-fate t s 64) in
-    and-assoc same (eqb ek mk) (eqb ep mp)
-    ∙ ap (λ (b : Bool). same && b)
-    (ap₂ _&&_ (ap₂ eqb ek-is (mk-is ∙ ap kindOf said)) (ap₂ eqb ep-is (mp-is ∙ ap placeOf said))
-    ∙ sym (agree-kinds f (fateAt t s)))
-
-lengths : (c : tie.Start Inv-loop μ-loop) → Lengths (c .args .t1)
-lengths c =
-    record {
-      numbers = search needs;
-      addresses = search needs;
-      loads = search needs;
-      stores = search needs;
-      values = search needs;
-    }
+marked-stages-requires : tie.Need-marked-stages-requires Inv-loop μ-loop
+marked-stages-requires c κs = (c .pre .1 .1, c .pre .1 .2)
 
 loop-holds : tie.Need-loop-holds Inv-loop μ-loop
 unfolding every
 loop-holds c = (omega arith, refl)
 
-most-at : (c : tie.Start Inv-loop μ-loop) → c .args .t1 .stages ≤ 16
-most-at c = sizes _ _ _ _ (c .pre .sizes) .stages
-
 stage-at-requires : tie.Need-stage-at-requires Inv-loop μ-loop
-stage-at-requires c κs =
-    let rules = c .before .before .pre in
-    let room = rules .room in
-    (rules .start, omega (arith, c .loop-test .taken), omega (arith, most-at (c .before .before)))
+stage-at-requires c κs = omega arith
 
 -- the stage at a live position is one of the sixteen
 stage-below : (c : tie.After-stage-at Inv-loop μ-loop) → c .stage-at .result < 16
 stage-below c =
-    let start = c .before .before .before in
-    rw (c .stage-at .ensures)
-    (stage-small (start .args .t1) (start .pre) (c .before .before .loop .p) (omega (arith, c .before .loop-test .taken)))
+    let start = c .before .before .before .before .pre .0 .2 in
+    omega (arith, stage-lt _ _ start (c .before .before .loop .p) (omega arith))
 
 mul-e : tie.Need-mul-e Inv-loop μ-loop
 mul-e c = omega (arith, stage-below c)
 
 array-copy-out-e : tie.Need-array-copy-out-e Inv-loop μ-loop
-array-copy-out-e c = stage-below c
-
-mark-at-requires : tie.Need-mark-at-requires Inv-loop μ-loop
-mark-at-requires c κs =
-    let staged = c .before .before .before .before .before .before in
-    let l = lengths (staged .before .before .before) in
-    ((stage-below staged, l .addresses, l .loads), (l .stores, l .values))
-
-contains-requires : tie.Need-contains-requires Inv-loop μ-loop
-contains-requires c κs = omega (arith, stage-below (c .before .before .before .before .before .before .before))
+array-copy-out-e c = omega (arith, stage-below c)
 
 entry-kind-requires : tie.Need-entry-kind-requires Inv-loop μ-loop
 entry-kind-requires c κs = search needs
 
-mark-kind-requires : tie.Need-mark-kind-requires Inv-loop μ-loop
-mark-kind-requires c κs = search needs
-
 entry-place-requires : tie.Need-entry-place-requires Inv-loop μ-loop
 entry-place-requires c κs = search needs
 
-mark-place-requires : tie.Need-mark-place-requires Inv-loop μ-loop
-mark-place-requires c κs = search needs
+stage-agrees-requires : tie.Need-stage-agrees-requires Inv-loop μ-loop
+stage-agrees-requires c κs =
+    let pre = c .before .before .before .before .before .before .before .pre in
+    ((pre .0 .0, pre .0 .1, stage-below (c .before .before .before)), pre .1)
 
 add-p : tie.Need-add-p Inv-loop μ-loop
-add-p c =
-    let in-loop = c .before .before .before .before .before .before .before .before .before .before .before .before .before in
-    let room = in-loop .before .before .pre .room in
-    omega (arith, in-loop .loop-test .taken, most-at (in-loop .before .before))
+add-p c = omega arith
 
 loop-less : tie.Need-loop-less Inv-loop μ-loop
-loop-less c =
-    let in-loop = c .before .before .before .before .before .before .before .before .before .before .before .before .before in
-    omega (arith, in-loop .loop-test .taken)
+loop-less c = omega arith
 
 loop-again : tie.Need-loop-again Inv-loop μ-loop
 unfolding every
 loop-again c =
-    let told = c .before .before .before .before .before in
-    let staged = told .before .before .before .before .before .before .before in
-    let at = staged .before .before .loop in
-    let t = staged .before .before .before .args .t1 in
-    let window = staged .before .before .before .args .t2 in
-    let s = staged .stage-at .result in
-    let entry-kind = c .before .before .before .entry-kind in
-    let mark-kind = c .before .before .mark-kind in
-    let entry-place = c .before .entry-place in
-    let contains = c .before .before .before .before .contains in (
-      omega (arith, staged .before .loop-test .taken),
-      agrees-step t s (reference (getD window s blankEntry)) (told .mark-at .result) (contains .result) (at .same)
-          (entry-kind .result) (mark-kind .result) (entry-place .result) (c .mark-place .result) (told .mark-at .ensures)
-          (contains .ensures) (entry-kind .ensures) (mark-kind .ensures) (entry-place .ensures) (c .mark-place .ensures)
-          ∙ ap₂ _&&_ (at .inv .1) (ap (agreesAt t window) (staged .stage-at .ensures))
-          ∙ ap (every (λ (q : ℕ). agreesAt t window (stageOf t q))) (sym (add-one (at .p))),
+    let at = c .before .before .before .before .before .before .loop in
+    let args = c .before .before .before .before .before .before .before .before .args in
+    let loads = args .loads .now in
+    let stores = args .stores .now in
+    let by : ℕ → ℕ → ℕ → ℕ → Bool = λ marked kind place s.
+    agreesBy (args .banks) (args .executed) marked (args .addresses .now) loads stores kind place s in
+    let s = c .before .before .before .before .stage-at .result in
+    let kind = c .before .before .entry-kind in
+    let place = c .before .entry-place in
+    let all = markedStages loads stores in
+    let here = agreesAt (args .banks) (args .executed) (args .addresses .now) loads stores (args .t9) in
+    let test : ℕ → Bool = λ q. here (stage (args .oldest) (args .stages) q) in
+    let said =
+    c .stage-agrees .ensures
+    ∙ ap (λ (w : ℕ). by w (kind .result) (place .result) s)
+    (c .before .before .before .before .before .before .before .marked-stages .ensures)
+    ∙ ap₂ (λ (k a : ℕ). by all k a s) (kind .ensures) (place .ensures)
+    ∙ ap here (c .before .before .before .before .stage-at .ensures) in (
+      omega arith,
+      ap₂ _&&_ {v = test (at .p)} (at .inv .1) said ∙ ap (every test) (sym (add-one (at .p))),
     )
 
 returns : tie.Need-returns Inv-loop μ-loop
-returns c =
-    let args = c .before .before .args in
-    c .before .loop .inv .1
-    ∙ ap (every (λ (q : ℕ). agreesAt (args .t1) (args .t2) (stageOf (args .t1) q))) (omega arith)
+returns c = c .before .loop .inv .1 ∙ ap (every _) (omega arith)
 
 pub window-agrees-spec : {M : Type 1} → statement M
 window-agrees-spec =
@@ -155,16 +104,14 @@ window-agrees-spec =
     (tie.spec
     Inv-loop
     μ-loop
+    marked-stages-requires
     loop-holds
     stage-at-requires
     mul-e
     array-copy-out-e
-    mark-at-requires
-    contains-requires
     entry-kind-requires
-    mark-kind-requires
     entry-place-requires
-    mark-place-requires
+    stage-agrees-requires
     add-p
     loop-less
     loop-again

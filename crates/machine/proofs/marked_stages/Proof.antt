@@ -1,0 +1,70 @@
+-- `machine::marked_stages` meets its contract. The loop's invariant: `all` is the union over the r rows passed.
+-- Assumes nothing.
+use mathlib.Core.Bool.{true}
+use mathlib.Core.Path.{_≡_, refl, sym, ap, _∙_}
+use Prim.Native.Nat.{ℕ, _-_, _≤_}
+use native.Mathlib.Numerals.{add-one}
+use native.Mathlib.Omega.{arith}
+use lib.Bits.{bitOr}
+use Rattle.table.specs.Check.{marksOf}
+use Rattle.machine.specs.Parts.{union}
+use Rattle.machine.proofs.marked_stages.Statement.{statement}
+use Rattle.machine.proofs.marked_stages.Tie as tie
+
+abbrev Inv-loop : tie.InvT-loop
+Inv-loop loads stores all₀ r₀ all r = (r ≤ 64) × (all ≡ union (λ (q : ℕ). true) (marksOf loads stores) r)
+
+abbrev μ-loop : tie.MeasureT-loop
+μ-loop loads stores all₀ r₀ all r = 64 - r
+
+loop-holds : tie.Need-loop-holds Inv-loop μ-loop
+unfolding union
+loop-holds c = (omega arith, refl)
+
+mul-all : tie.Need-mul-all Inv-loop μ-loop
+mul-all c = omega arith
+
+element-copy-out-all : tie.Need-element-copy-out-all Inv-loop μ-loop
+element-copy-out-all c = omega arith
+
+mul-all-2 : tie.Need-mul-all-2 Inv-loop μ-loop
+mul-all-2 c = omega arith
+
+element-copy-out-all-2 : tie.Need-element-copy-out-all-2 Inv-loop μ-loop
+element-copy-out-all-2 c = omega arith
+
+add-r : tie.Need-add-r Inv-loop μ-loop
+add-r c = omega arith
+
+loop-less : tie.Need-loop-less Inv-loop μ-loop
+loop-less c = omega arith
+
+loop-again : tie.Need-loop-again Inv-loop μ-loop
+unfolding union
+loop-again c =
+    let at = c .before .before .before .loop in
+    let args = c .before .before .before .before .args in
+    let marks = marksOf (args .loads .now) (args .stores .now) in (
+      omega arith,
+      ap (λ (w : ℕ). bitOr w (marks (at .r))) (at .inv .1)
+          ∙ ap (union (λ (q : ℕ). true) marks) (sym (add-one (at .r))),
+    )
+
+returns : tie.Need-returns Inv-loop μ-loop
+returns c = c .before .loop .inv .1 ∙ ap (union _ _) (omega arith)
+
+pub marked-stages-spec : {M : Type 1} → statement M
+marked-stages-spec =
+    tie.close
+    (tie.spec
+    Inv-loop
+    μ-loop
+    loop-holds
+    mul-all
+    element-copy-out-all
+    mul-all-2
+    element-copy-out-all-2
+    add-r
+    loop-less
+    loop-again
+    returns)
