@@ -531,7 +531,7 @@ pub fn squash(t: Table, ticket: Ticket) -> DoneResult
 }
 
 // Whether the mark's address is `words` or more.
-fn mark_faults(mark: Mark, words: usize) -> bool
+pub fn mark_faults(mark: Mark, words: usize) -> bool
     ensures { λ r. ⌜ r ≡ faults words (markedFate mark) ⌝ }
 {
     match mark {
@@ -542,7 +542,7 @@ fn mark_faults(mark: Mark, words: usize) -> bool
 }
 
 // Writes a store's word to memory.
-fn write_back(memory: &mut [u32], mark: Mark)
+pub fn write_back(memory: &mut [u32], mark: Mark)
     requires { ⌜ faults (length (now memory)) (markedFate mark) ≡ false ⌝ }
     ensures { λ r. ⌜ now (memory .exit) ≡ written (now (memory .entry)) (markedFate mark) ⌝ }
 {

@@ -3,17 +3,21 @@
 -- buffer's checks only the stall is left (buffer-responds), and the machine's definition stalls with it, since it
 -- asks the same of the buffer (responds). Without a stall the buffer's table has the references that stay, the
 -- executing one with its new fate, and the machine's window differs at that one stage: so the entries are those of
--- the definition (new-entries), and agree with the table (new-sound). Assumes nothing.
+-- the definition (new-entries), and agree with the table (new-sound). The code changes the machine in place: its table
+-- is that of the buffer's step on this ticket, which none of the early checks refuses (early), so that the laws of the
+-- step say what it meets (compute-meets, load-meets, store-meets). Assumes nothing.
 use mathlib.Core.Bool.{Bool, true, false, cond, not, _&&_}
 use mathlib.Core.List.{List, [], _∷_}
 use mathlib.Core.Option.{Option, none, some}
 use mathlib.Core.Path.{_≡_, refl, sym, ap, ap₂, subst, _∙_}
 use Prim.Native.Nat.{ℕ, _≤_, _<_}
+use native.Mathlib.Nat.{le-refl}
 use native.Mathlib.Omega.{arith}
 use lib.Dec.{eqb, leb, ltb}
 use lib.ListN.{length, getD, take, set, length-set}
 use lib.Seq.{length-take-le, getD-take, getD-set-same, getD-set-other}
-use borrow.Author.Tests.{eq-eqb, eqb-true, eqb-false, le-leb, lt-leb, lt-ltb, ltb-true}
+use borrow.Author.Tests.{eq-eqb, eqb-true, eqb-false, le-leb, lt-leb, lt-ltb, le-ltb, ltb-true}
+use Rattle.marks.specs.Stages.{has}
 use Rattle.marks.specs.Circle.{stage}
 use Rattle.marks.proofs.Turns.{stage-lt, position-stage, stage-injective}
 use Rattle.table.specs.declared.Table.{Table}
@@ -25,9 +29,13 @@ use Rattle.table.specs.Rules.{Rules}
 use Rattle.table.proofs.Sizes.{sizes}
 use Rattle.table.proofs.Lists.{tabulate-take, tabulate-set}
 use Rattle.table.proofs.Fates.{length-refs, at-refs}
+use Rattle.window.specs.Steps.{cut, noted, loadMarked, storeMarked}
+use Rattle.window.proofs.Lengths.{Lengths}
+use Rattle.lookup.specs.declared.Place.{Place}
 use Rattle.lookup.specs.Forwarding.{forwarded}
+use Rattle.lookup.specs.Search.{forward}
 use Rattle.lookup.specs.Outcome.{leaves, executes}
-use Rattle.lookup.proofs.Places.{load-left, load-placed, store-left, store-placed}
+use Rattle.lookup.proofs.Places.{loadAt, storeAt, load-left, load-placed, store-left, store-placed}
 use Rattle.buffer.specs.declared.ExecuteAnswer as buffer-answer
 use Rattle.buffer.specs.declared.ExecuteAnswer.the-variants as buffer-answers
 use Rattle.buffer.specs.Answers
@@ -35,6 +43,12 @@ use Rattle.buffer.specs.Refusals.{when, refusal, wrongLength, place, names, has
 use Rattle.buffer.specs.Calls
 use Rattle.buffer.specs.Calls.{squashFrom}
 use Rattle.buffer.specs.Contract
+use Rattle.buffer.specs.Parts.{namedBy, cutFrom}
+use Rattle.buffer.specs.declared.Squashed as buffer-kind
+use Rattle.buffer.specs.declared.Squashed.the-variants as buffer-squashed
+use Rattle.buffer.proofs.Tied.{named-names, executed-at}
+use Rattle.buffer.proofs.Executing
+use Rattle.buffer.proofs.Executing.{earlyBy, other-meets}
 use Rattle.machine.specs.declared.Instruction.{Instruction}
 use Rattle.machine.specs.declared.Fate.{Fate}
 use Rattle.machine.specs.declared.Fate.the-variants.{Waiting, Executed}
@@ -42,6 +56,7 @@ use Rattle.machine.specs.declared.Entry.{Entry}
 use Rattle.machine.specs.declared.Machine.{Machine}
 use Rattle.machine.specs.declared.Action.{Action}
 use Rattle.machine.specs.declared.Action.the-variants as action
+use Rattle.machine.specs.declared.Squashed.{Squashed}
 use Rattle.machine.specs.declared.Squashed.the-variants as squashed
 use Rattle.machine.specs.Window.{blankEntry, entryAt, became, held, referenceBy, reference, with₂, outcome}
 use Rattle.machine.specs.Calls.{Plain, execute, refused, executed, Result, sOf, waits, judged, respond}
@@ -106,6 +121,10 @@ number-passed a b c d e f g = rw (e, f, g)
 buffer-passed : (a b c d : Bool) → a ≡ true → b ≡ true → c ≡ false
     → refusal (when (not a) 3 ∷ when (not b) 7 ∷ when c 8 ∷ when d 10 ∷ []) ≡ cond d 10 0
 buffer-passed a b c d e f g = rw (e, f, g)
+
+early-passed : (a b c : Bool) → a ≡ true → b ≡ true → c ≡ false
+    → refusal (when (not a) 3 ∷ when (not b) 7 ∷ when c 8 ∷ []) ≡ 0
+early-passed a b c e f g = rw (e, f, g)
 
 squash-said : (b : Bool) (k : ℕ) → squashSays (cond b (squashed.From k) squashed.Nothing) ≡ cond b (some k) none
 squash-said true k = refl
@@ -291,6 +310,16 @@ module _ (m : Machine) (program w : List ℕ) (p : ℕ) (passed : Passed m progr
             (agree-waiting there
             (ap (λ (f : Reference.Fate). agree f there) (sym (waits-waiting (own .instruction) (own .fate) idle))
             ∙ passed .sound .agrees p live))
+
+        -- of the buffer's conditions before it looks for a row none holds
+        early : earlyBy (m .table) ticket w ≡ 0
+        early =
+            let t = m .table in
+            let rules = passed .sound .rules in
+            early-passed (eqb (length w) (t .words))
+            (namedBy (t .oldest) (t .stages) (t .live) (t .numbers) (ticket .stage) (ticket .number))
+            (has (t .executed) (ticket .stage)) (eq-eqb (length w) (t .words) (passed .words))
+            (named-names t rules ticket ∙ named) (sym (executed-at t rules p live) ∙ waits-too)
 
         abbrev buffered : Calls.Result
         buffered =
@@ -479,3 +508,100 @@ module _ (m : Machine) (program w : List ℕ) (p : ℕ) (passed : Passed m progr
                 [])
                 same
                 (accepted full after (met .rules (passed .sound .rules)) e s)
+
+      -- the machine with this table, the entry at stage s with this fate, and this index to go on with
+      abbrev ended : Table → ℕ → Fate → ℕ → Machine
+      ended after s f n =
+          record {
+            table = after;
+            window = set (m .window) s (became (getD (m .window) s blankEntry) f);
+            registers = m .registers;
+            count = m .count;
+            next = n;
+          }
+
+      -- a value alone: the stage is noted as executed
+      pub compute-meets : length (m .window) ≡ 16 → (x : ℕ) → asked ≡ some (action.Compute x)
+          → (s : ℕ) → s ≡ stageOf (m .table) p → (after : Table) → after ≡ noted (m .table) s
+          → Meets program m (execute p) w (executed 0 none) (ended after s (Executed x 0) (m .next)) w []
+      compute-meets full x ready s hs after ha =
+          let t = m .table in
+          let o = stageOf t p in
+          rw (ha, hs)
+          (subst
+          (λ (b : Bool).
+          Meets program m (execute p) w (executed 0 (squashSays (cond b (squashed.From (t .live)) squashed.Nothing)))
+          (ended (noted t o) o (Executed x 0) (cond b (entryOf m (t .live) .index) (m .next)))
+          w
+          [])
+          (le-ltb (t .live) (t .live) (le-refl (t .live)))
+          (settled-meets (action.Compute x) ready full (noted t o) (buffer-answers.Executed 0 buffer-squashed.Nothing)
+          (other-meets t (passed .sound .rules) (ticket (action.Compute x) ready) w (early (action.Compute x) ready))))
+
+      -- refusal 10 of a load and of a store: no row is to be had
+      pub load-stalled : (a : ℕ) → asked ≡ some (action.LoadAt a) → (q : Place) → q ≡ loadAt (m .table) a p
+          → q .left ≡ 0 → Meets program m (execute p) w (refused 10) m w []
+      load-stalled a ready q hq e =
+          stall-refused (action.LoadAt a) ready
+          (eq-eqb _ 0
+          (sym (load-left (m .table) (passed .sound .rules) a p live) ∙ ap (λ (k : Place). k .left) (sym hq) ∙ e))
+
+      pub store-stalled : (a v : ℕ) → asked ≡ some (action.StoreAt a v) → (q : Place) → q ≡ storeAt (m .table) a p
+          → q .left ≡ 0 → Meets program m (execute p) w (refused 10) m w []
+      store-stalled a v ready q hq e =
+          stall-refused (action.StoreAt a v) ready
+          (eq-eqb _ 0
+          (sym (store-left (m .table) (passed .sound .rules) a p live v) ∙ ap (λ (k : Place). k .left) (sym hq) ∙ e))
+
+      -- a load: the table is cut, and its mark set in the row found
+      pub load-meets : length (m .window) ≡ 16 → Lengths (m .table) → (a : ℕ) → asked ≡ some (action.LoadAt a)
+          → (s : ℕ) → s ≡ stageOf (m .table) p → (q : Place) → q ≡ loadAt (m .table) a p → (q .left ≡ 0 → ⊥)
+          → (v : ℕ)
+          → let t = m .table in
+          v ≡ forward (t .oldest) (t .stages) (t .stores) (t .values) (q .row) p (getD w a 0)
+          → (after : Table) → after ≡ loadMarked (cut (m .table) (q .left)) (q .row) s a
+          → (gone : Squashed) → gone ≡ cond (ltb (q .left) (m .table .live)) (squashed.From (q .left)) squashed.Nothing
+          → (n : ℕ) → n ≡ cond (ltb (q .left) (m .table .live)) (entryOf m (q .left) .index) (m .next)
+          → Meets program m (execute p) w (executed v (squashSays gone)) (ended after s (Executed v a) n) w []
+      load-meets full lengths a ready s hs q hq stays v hv after ha gone hg n hn =
+          let t = m .table in
+          let act = action.LoadAt a in
+          let τ = ticket act ready in
+          let read : ℕ → ℕ = λ j.
+          forward (t .oldest) (t .stages) (t .stores) (t .values) (loadAt t a j .row) j (getD w a 0) in
+          let cutAt : ℕ → buffer-kind.Squashed = λ j.
+          cutFrom (t .oldest) (t .stages) (t .live) (loadAt t a j .left) (t .numbers) in
+          let marked : ℕ → Table = λ j.
+          loadMarked (cut t (loadAt t a j .left)) (loadAt t a j .row) (stageOf t p) a in
+          let same = placed act ready in
+          rw (hg, hn, ha, hv, hs, hq)
+          (settled-meets act ready full (marked p) (buffer-answers.Executed (read p) (cutAt p))
+          (subst
+          (λ (j : ℕ). Contract.Meets t (Calls.executeLoad τ a) w (Answers.executed (read j) (cutAt j)) (marked j) w)
+          same
+          (Executing.load-meets t (passed .sound .rules) τ w a (early act ready) lengths
+          (λ z. stays (ap (λ (k : Place). k .left) (hq ∙ ap (loadAt t a) (sym same)) ∙ z)))))
+
+      -- a store: the same, and its value beside the mark
+      pub store-meets : length (m .window) ≡ 16 → Lengths (m .table) → (a v : ℕ) → asked ≡ some (action.StoreAt a v)
+          → (s : ℕ) → s ≡ stageOf (m .table) p → (q : Place) → q ≡ storeAt (m .table) a p → (q .left ≡ 0 → ⊥)
+          → (after : Table) → after ≡ storeMarked (cut (m .table) (q .left)) (q .row) s a v
+          → (gone : Squashed) → gone ≡ cond (ltb (q .left) (m .table .live)) (squashed.From (q .left)) squashed.Nothing
+          → (n : ℕ) → n ≡ cond (ltb (q .left) (m .table .live)) (entryOf m (q .left) .index) (m .next)
+          → Meets program m (execute p) w (executed 0 (squashSays gone)) (ended after s (Executed v a) n) w []
+      store-meets full lengths a v ready s hs q hq stays after ha gone hg n hn =
+          let t = m .table in
+          let act = action.StoreAt a v in
+          let τ = ticket act ready in
+          let cutAt : ℕ → buffer-kind.Squashed = λ j.
+          cutFrom (t .oldest) (t .stages) (t .live) (storeAt t a j .left) (t .numbers) in
+          let marked : ℕ → Table = λ j.
+          storeMarked (cut t (storeAt t a j .left)) (storeAt t a j .row) (stageOf t p) a v in
+          let same = placed act ready in
+          rw (hg, hn, ha, hs, hq)
+          (settled-meets act ready full (marked p) (buffer-answers.Executed 0 (cutAt p))
+          (subst
+          (λ (j : ℕ). Contract.Meets t (Calls.executeStore τ a v) w (Answers.executed 0 (cutAt j)) (marked j) w)
+          same
+          (Executing.store-meets t (passed .sound .rules) τ w a v (early act ready) lengths
+          (λ z. stays (ap (λ (k : Place). k .left) (hq ∙ ap (storeAt t a) (sym same)) ∙ z)))))

@@ -6,13 +6,14 @@
 use table::Table;
 use table::Ticket;
 ghost use mathlib.Core.Path.{_≡_};
-ghost use mathlib.Core.Bool.{true, false};
+ghost use mathlib.Core.Bool.{true, false, cond};
 ghost use mathlib.Core.List.{List, [], _∷_, map};
 ghost use mathlib.Core.Option.{some};
-ghost use Prim.Native.Nat.{ℕ, _+_, _*_, _/_, _≤_, _<_};
-ghost use lib.ListN.{length, getD};
+ghost use Prim.Native.Nat.{ℕ, _+_, _*_, _/_, _^_, _≤_, _<_};
+ghost use lib.ListN.{length, getD, set};
+ghost use lib.Dec.{ltb};
 ghost use lib.Seq.{sets};
-ghost use Rattle.table.specs.Rules.{Rules};
+ghost use lib.Bits.{bitOr};
 ghost use Rattle.table.specs.Reference.{at};
 ghost use Rattle.buffer.specs.Answers;
 ghost use Rattle.buffer.specs.Contract;
@@ -20,8 +21,9 @@ ghost use Rattle.machine.specs.Program.{decoded, instructionAt, wellForm
 ghost use Rattle.machine.specs.Window.{blankEntry, reference, held, with₂};
 ghost use Rattle.machine.specs.Calls.{refused, issue, execute, squash, commit, finish, dOf, sOf, immOf, same, like, waits, valueBy, addressBy, registersAfter, target, begun, ready};
 ghost use Rattle.machine.specs.Contract.{doneSays, issueSays, executeSays, commitSays, finishSays, over, fresh, plain, Meets, Opens};
-ghost use Rattle.machine.specs.Parts.{destination, writer, asNumber, asCall, fateAfter, actionOf, second, verdictOf, kindOf, placeOf, markedStages, marksAt, agreesBy, agreeingBy, entriesOf, wantedBy, settled};
+ghost use Rattle.machine.specs.Parts.{destination, writer, asNumber, actionOf, second, verdictOf, kindOf, placeOf, markedStages, marksAt, agreesBy, agreeingBy, entriesOf, wantedBy};
 ghost use Rattle.machine.specs.declared.Entry.{Entry};
+ghost use Rattle.machine.specs.declared.Squashed.the-variants as squashed;
 ghost use Rattle.marks.specs.Circle.{stage};
 ghost use Rattle.marks.specs.Counting.{every};
 
@@ -585,30 +587,6 @@ fn wanted_at(
     }
 }
 
-// The execution that an action asks of the buffer.
-fn dispatch(t: Table, ticket: Ticket, action: Action, memory: &[u32]) -> buffer::ExecuteResult
-    requires { ⌜ Rules t ⌝ }
-    ensures { λ r. ⌜ Contract.Meets t (asCall action ticket) (now (memory .entry)) (Answers.executeSays (r .answer)) (r .table)
-        (now (memory .entry)) ⌝ }
-{
-    match action {
-        Action::Compute(_) => buffer::other_step(t, ticket, memory),
-        Action::LoadAt(a) => buffer::load_step(t, ticket, a, memory),
-        Action::StoreAt(a, v) => buffer::store_step(t, ticket, a, v, memory),
-    }
-}
-
-// The entry's fate after its execution, where a load took `v`.
-fn fate_after(action: Action, v: u32) -> Fate
-    ensures { λ r. ⌜ r ≡ fateAfter action v ⌝ }
-{
-    match action {
-        Action::Compute(x) => Fate::Executed(x, 0),
-        Action::LoadAt(a) => Fate::Executed(v, a),
-        Action::StoreAt(a, x) => Fate::Executed(x, a),
-    }
-}
-
 // Whether an entry waits.
 fn is_waiting(e: Entry) -> bool
     ensures { λ r. ⌜ r ≡ waits (e .fate) ⌝ }
@@ -693,14 +671,17 @@ pub fn issue(m: Machine, program: &[u32]) -> IssueResult
 }
 
 // The same of a machine and a program that passed the verdict.
-fn issue_passed(m: Machine, program: &[u32]) -> IssueResult
+fn issue_passed(mut m: Machine, program: &[u32]) -> IssueResult
     requires { ⌜ verdictOf m (now program) (m .table .words) ≡ 0 ⌝ }
     ensures { λ r. ⌜ ((w : List ℕ) → Meets (now (program .entry)) m issue w (issueSays (r .answer)) (r .machine) w []) ⌝ }
 {
-    let t = m.table;
-    let live = t.live;
+    let live = m.table.live;
+    let oldest = m.table.oldest;
+    let stages = m.table.stages;
+    let executed = m.table.executed;
+    let number = m.table.next;
     let next = m.next;
-    if live == t.stages {
+    if live == stages {
         return IssueResult {
             answer: IssueAnswer::Refused(5),
             machine: m,
@@ -712,21 +693,81 @@ fn issue_passed(m: Machine, program: &[u32]) -> IssueResult
             machine: m,
         };
     }
-    let s = marks::stage_at(t.oldest, t.stages, live);
-    let issued = buffer::issue_step(t);
-    let after = issued.table;
-    let mut n = m;
-    n.table = after;
-    n.window[s] = Entry {
+    let s = marks::stage_at(oldest, stages, live);
+    m.table.live = live + 1;
+    m.table.next = std::num::wrapping_add_u32(number, 1);
+    m.table.executed = executed & marks::first_stages(oldest, stages, live);
+    set_number(&mut m.table.numbers, s, number);
+    m.window[s] = Entry {
         instruction: instruction_at(program, next as usize),
         index: next,
         fate: Fate::Waiting,
     };
-    n.next = next + 1;
+    m.next = next + 1;
     IssueResult {
         answer: IssueAnswer::Issued(live),
-        machine: n,
+        machine: m,
     }
+}
+
+// Element `i` of a lent array becomes `v`.
+fn set_number(a: &mut [u32; 16], i: usize, v: u32)
+    requires { ⌜ i < 16 ⌝ }
+    ensures { λ _. ⌜ now (a .exit) ≡ set (now (a .entry)) i v ⌝ }
+{
+    a[i] = v;
+}
+
+fn set_word(a: &mut [u32; 64], i: usize, v: u32)
+    requires { ⌜ i < 64 ⌝ }
+    ensures { λ _. ⌜ now (a .exit) ≡ set (now (a .entry)) i v ⌝ }
+{
+    a[i] = v;
+}
+
+fn set_value(a: &mut [u32; 1024], i: usize, v: u32)
+    requires { ⌜ i < 1024 ⌝ }
+    ensures { λ _. ⌜ now (a .exit) ≡ set (now (a .entry)) i v ⌝ }
+{
+    a[i] = v;
+}
+
+// Stage `s` joins the mark word of row `i`.
+fn add_mark(a: &mut [u32; 64], i: usize, s: usize)
+    requires { ⌜ (i < 64) × (s < 32) ⌝ }
+    ensures { λ _. ⌜ now (a .exit) ≡ set (now (a .entry)) i (bitOr (getD (now (a .entry)) i 0) (2 ^ s)) ⌝ }
+{
+    let w = a[i];
+    a[i] = marks::including(w, s);
+}
+
+// The index that issue goes on with where `left` of `live` entries stay.
+fn next_after(
+    window: [Entry; 16],
+    oldest: usize,
+    stages: usize,
+    live: usize,
+    left: usize,
+    next: u32,
+) -> u32
+    requires { ⌜ (oldest < stages) × (live ≤ stages) × (stages ≤ 16) ⌝ }
+    ensures { λ r. ⌜ r ≡ cond (ltb left live) (getD window (stage oldest stages left) blankEntry .index) next ⌝ }
+{
+    if left < live {
+        let f = window[marks::stage_at(oldest, stages, left)];
+        return f.index;
+    }
+    next
+}
+
+// What an answer says is squashed where `left` of `live` entries stay.
+fn squashed_at(live: usize, left: usize) -> Squashed
+    ensures { λ r. ⌜ r ≡ cond (ltb left live) (squashed.From left) squashed.Nothing ⌝ }
+{
+    if left < live {
+        return Squashed::From(left);
+    }
+    Squashed::Nothing
 }
 
 // Executes the entry at position `p`.
@@ -745,15 +786,15 @@ pub fn execute(m: Machine, program: &[u32], p: usize, memory: &[u32]) -> Execute
 }
 
 // The same of a machine, a program and a memory that passed the verdict.
-fn execute_passed(m: Machine, program: &[u32], p: usize, memory: &[u32]) -> ExecuteResult
+fn execute_passed(mut m: Machine, program: &[u32], p: usize, memory: &[u32]) -> ExecuteResult
     requires { ⌜ verdictOf m (now program) (length (now memory)) ≡ 0 ⌝ }
     ensures { λ r. ⌜ Meets (now (program .entry)) m (execute p) (now (memory .entry)) (executeSays (r .answer)) (r .machine)
         (now (memory .entry)) [] ⌝ }
 {
-    let t = m.table;
-    let live = t.live;
-    let oldest = t.oldest;
-    let stages = t.stages;
+    let live = m.table.live;
+    let oldest = m.table.oldest;
+    let stages = m.table.stages;
+    let executed = m.table.executed;
     if p >= live {
         return ExecuteResult {
             answer: ExecuteAnswer::Refused(7),
@@ -778,53 +819,105 @@ fn execute_passed(m: Machine, program: &[u32], p: usize, memory: &[u32]) -> Exec
             machine: m,
         };
     };
-    let number = t.numbers[s];
-    let ran = dispatch(t, Ticket { stage: s, number }, action, memory);
-    let said = ran.answer;
-    let after = ran.table;
-    settle(m, after, s, action, said)
-}
-
-// The machine after the buffer answered an execution of the entry at stage `s`: the entry's fate, and where issue goes on.
-fn settle(
-    m: Machine,
-    after: Table,
-    s: usize,
-    action: Action,
-    said: buffer::ExecuteAnswer,
-) -> ExecuteResult
-    requires { ⌜ (s < 16) × (m .table .oldest < m .table .stages) × (m .table .live ≤ m .table .stages) × (m .table .stages ≤ 16) ⌝ }
-    ensures { λ r. ⌜ r ≡ settled m after s action said ⌝ }
-{
-    match said {
-        buffer::ExecuteAnswer::Refused(k) => ExecuteResult {
-            answer: ExecuteAnswer::Refused(k),
-            machine: m,
-        },
-        buffer::ExecuteAnswer::Executed(v, _) => {
-            let before = m.table;
-            let window = m.window;
-            let e = window[s];
-            let instruction = e.instruction;
-            let left = after.live;
-            let mut n = m;
-            n.table = after;
-            n.window[s] = Entry {
+    match action {
+        Action::Compute(v) => {
+            m.table.executed = marks::including(executed, s);
+            m.window[s] = Entry {
                 instruction,
                 index: e.index,
-                fate: fate_after(action, v),
+                fate: Fate::Executed(v, 0),
             };
-            if left < before.live {
-                let f = window[marks::stage_at(before.oldest, before.stages, left)];
-                n.next = f.index;
+            ExecuteResult {
+                answer: ExecuteAnswer::Executed(0, Squashed::Nothing),
+                machine: m,
+            }
+        }
+        Action::LoadAt(a) => {
+            let b = table::bank_of(m.table.banks, a);
+            let place = lookup::load_place(
+                oldest,
+                stages,
+                live,
+                m.table.rows,
+                &m.table.addresses,
+                &m.table.loads,
+                &m.table.stores,
+                b,
+                a,
+                p,
+            );
+            let left = place.left;
+            let r = place.row;
+            if left == 0 {
                 return ExecuteResult {
-                    answer: ExecuteAnswer::Executed(v, Squashed::From(left)),
-                    machine: n,
+                    answer: ExecuteAnswer::Refused(10),
+                    machine: m,
                 };
             }
+            let v = lookup::forwarded(
+                oldest,
+                stages,
+                &m.table.stores,
+                &m.table.values,
+                r,
+                p,
+                lookup::word(memory, a),
+            );
+            window::cut(&mut m.table.loads, oldest, stages, live, left);
+            window::cut(&mut m.table.stores, oldest, stages, live, left);
+            m.table.live = left;
+            m.table.executed = marks::including(executed, s);
+            set_word(&mut m.table.addresses, r, a);
+            add_mark(&mut m.table.loads, r, s);
+            m.window[s] = Entry {
+                instruction,
+                index: e.index,
+                fate: Fate::Executed(v, a),
+            };
+            m.next = next_after(window, oldest, stages, live, left, m.next);
             ExecuteResult {
-                answer: ExecuteAnswer::Executed(v, Squashed::Nothing),
-                machine: n,
+                answer: ExecuteAnswer::Executed(v, squashed_at(live, left)),
+                machine: m,
+            }
+        }
+        Action::StoreAt(a, v) => {
+            let b = table::bank_of(m.table.banks, a);
+            let place = lookup::store_place(
+                oldest,
+                stages,
+                live,
+                m.table.rows,
+                &m.table.addresses,
+                &m.table.loads,
+                &m.table.stores,
+                b,
+                a,
+                p,
+            );
+            let left = place.left;
+            let r = place.row;
+            if left == 0 {
+                return ExecuteResult {
+                    answer: ExecuteAnswer::Refused(10),
+                    machine: m,
+                };
+            }
+            window::cut(&mut m.table.loads, oldest, stages, live, left);
+            window::cut(&mut m.table.stores, oldest, stages, live, left);
+            m.table.live = left;
+            m.table.executed = marks::including(executed, s);
+            set_word(&mut m.table.addresses, r, a);
+            add_mark(&mut m.table.stores, r, s);
+            set_value(&mut m.table.values, r * 16 + s, v);
+            m.window[s] = Entry {
+                instruction,
+                index: e.index,
+                fate: Fate::Executed(v, a),
+            };
+            m.next = next_after(window, oldest, stages, live, left, m.next);
+            ExecuteResult {
+                answer: ExecuteAnswer::Executed(0, squashed_at(live, left)),
+                machine: m,
             }
         }
     }
@@ -919,36 +1012,56 @@ pub fn commit(m: Machine, program: &[u32], memory: &mut [u32]) -> CommitResult
 }
 
 // The same of a machine, a program and a memory that passed the verdict.
-fn commit_passed(m: Machine, program: &[u32], memory: &mut [u32]) -> CommitResult
+fn commit_passed(mut m: Machine, program: &[u32], memory: &mut [u32]) -> CommitResult
     requires { ⌜ verdictOf m (now program) (length (now memory)) ≡ 0 ⌝ }
     ensures { λ r. ⌜ Meets (now (program .entry)) m commit (now (memory .entry)) (commitSays (r .answer)) (r .machine)
         (now (memory .exit)) [] ⌝ }
 {
-    let t = m.table;
-    let window = m.window;
-    let oldest = t.oldest;
-    let e = window[oldest];
-    let out = buffer::commit_step(t, memory);
-    let said = out.answer;
-    match said {
-        buffer::TicketAnswer::Refused(k) => CommitResult {
-            answer: CommitAnswer::Refused(k),
+    let live = m.table.live;
+    let oldest = m.table.oldest;
+    let stages = m.table.stages;
+    let executed = m.table.executed;
+    if live == 0 {
+        return CommitResult {
+            answer: CommitAnswer::Refused(11),
             machine: m,
-        },
-        buffer::TicketAnswer::Named(_) => {
-            let after = out.table;
-            let i = e.instruction;
-            let v = value_of(e);
-            let held = m.registers;
-            let registers = registers_after(held, i, v);
-            let mut n = m;
-            n.table = after;
-            n.registers = registers;
-            CommitResult {
-                answer: CommitAnswer::Committed(e.index, code_of(i), target_of(e), v),
-                machine: n,
-            }
-        }
+        };
+    }
+    if !marks::contains(executed, oldest) {
+        return CommitResult {
+            answer: CommitAnswer::Refused(12),
+            machine: m,
+        };
+    }
+    let mark = lookup::mark_at(
+        &m.table.addresses,
+        &m.table.loads,
+        &m.table.stores,
+        &m.table.values,
+        oldest,
+    );
+    if buffer::mark_faults(mark, m.table.words) {
+        return CommitResult {
+            answer: CommitAnswer::Refused(13),
+            machine: m,
+        };
+    }
+    buffer::write_back(memory, mark);
+    let window = m.window;
+    let e = window[oldest];
+    let i = e.instruction;
+    let v = value_of(e);
+    let first = marks::stage_at(oldest, stages, 1);
+    let stay = marks::first_stages(first, stages, live - 1);
+    m.table.oldest = first;
+    m.table.live = live - 1;
+    window::keep(&mut m.table.loads, stay);
+    window::keep(&mut m.table.stores, stay);
+    let held = m.registers;
+    m.registers = registers_after(held, i, v);
+    CommitResult {
+        answer: CommitAnswer::Committed(e.index, code_of(i), target_of(e), v),
+        machine: m,
     }
 }
 
