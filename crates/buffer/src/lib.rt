@@ -3,8 +3,8 @@
 // No call requires anything: what it is given that breaks a rule it refuses, with the numbers of specs/Refusals.antt, and
 // hands the table back as it was passed. Each contract is `Meets` (or `Opens`) of specs/Contract.antt.
 //
-// A call is its step after a check of the table's own rules. The steps are for callers that have made that check: they
-// require the rules, and promise what their calls promise.
+// A call checks the table's own rules over lent arrays, and changes the table that it was passed: a function around the step
+// would copy the table again.
 use lookup::Mark;
 use table::Table;
 use table::Ticket;
@@ -19,7 +19,6 @@ ghost use Rattle.buffer.specs.Answers.{doneSays, ticketSays, executeSays
 ghost use Rattle.buffer.specs.Refusals.{faults};
 ghost use Rattle.buffer.specs.Calls.{issue, executeLoad, executeStore, executeOther, squash, commit, written};
 ghost use Rattle.buffer.specs.Contract.{Meets, Opens, fresh};
-ghost use Rattle.table.specs.Rules.{Rules};
 ghost use Rattle.lookup.specs.Search.{markedFate};
 ghost use Rattle.buffer.specs.Parts.{namedBy, executeRefusal, cutFrom};
 
@@ -105,36 +104,8 @@ pub fn open(banks: usize, rows: usize, stages: usize, words: usize, memory: &[u3
     }
 }
 
-// The step of `issue`, for a caller that has checked the table's rules.
-pub fn issue_step(t: Table) -> TicketResult
-    requires { ⌜ Rules t ⌝ }
-    ensures { λ r. ⌜ ((m : List ℕ) → Meets t issue m (ticketSays (r .answer)) (r .table) m) ⌝ }
-{
-    let stages = t.stages;
-    let oldest = t.oldest;
-    let live = t.live;
-    let executed = t.executed;
-    if live == stages {
-        return TicketResult {
-            answer: TicketAnswer::Refused(5),
-            table: t,
-        };
-    }
-    let s = marks::stage_at(oldest, stages, live);
-    let number = t.next;
-    let mut next = t;
-    next.live = live + 1;
-    next.next = std::num::wrapping_add_u32(number, 1);
-    next.executed = executed & marks::first_stages(oldest, stages, live);
-    next.numbers[s] = number;
-    TicketResult {
-        answer: TicketAnswer::Named(Ticket { stage: s, number }),
-        table: next,
-    }
-}
-
 // A new youngest reference in the next stage.
-pub fn issue(t: Table) -> TicketResult
+pub fn issue(mut t: Table) -> TicketResult
     ensures { λ r. ⌜ ((m : List ℕ) → Meets t issue m (ticketSays (r .answer)) (r .table) m) ⌝ }
 {
     if !table::keeps_rules(
@@ -154,7 +125,26 @@ pub fn issue(t: Table) -> TicketResult
             table: t,
         };
     }
-    issue_step(t)
+    let stages = t.stages;
+    let oldest = t.oldest;
+    let live = t.live;
+    let executed = t.executed;
+    if live == stages {
+        return TicketResult {
+            answer: TicketAnswer::Refused(5),
+            table: t,
+        };
+    }
+    let s = marks::stage_at(oldest, stages, live);
+    let number = t.next;
+    t.live = live + 1;
+    t.next = std::num::wrapping_add_u32(number, 1);
+    t.executed = executed & marks::first_stages(oldest, stages, live);
+    t.numbers[s] = number;
+    TicketResult {
+        answer: TicketAnswer::Named(Ticket { stage: s, number }),
+        table: t,
+    }
 }
 
 // Whether the ticket of this stage and number names a live reference.
@@ -224,11 +214,27 @@ fn squashed_from<'a>(
     Squashed::Nothing
 }
 
-// The step of `execute_load`, for a caller that has checked the table's rules.
-pub fn load_step(t: Table, ticket: Ticket, address: u32, memory: &[u32]) -> ExecuteResult
-    requires { ⌜ Rules t ⌝ }
+// The reference that the ticket names executes as a load of `address`.
+pub fn execute_load(mut t: Table, ticket: Ticket, address: u32, memory: &[u32]) -> ExecuteResult
     ensures { λ r. ⌜ Meets t (executeLoad ticket address) (now (memory .entry)) (executeSays (r .answer)) (r .table) (now (memory .entry)) ⌝ }
 {
+    if !table::keeps_rules(
+        t.banks,
+        t.rows,
+        t.stages,
+        t.words,
+        t.oldest,
+        t.live,
+        t.executed,
+        &t.addresses,
+        &t.loads,
+        &t.stores,
+    ) {
+        return ExecuteResult {
+            answer: ExecuteAnswer::Refused(2),
+            table: t,
+        };
+    }
     let stages = t.stages;
     let oldest = t.oldest;
     let live = t.live;
@@ -283,23 +289,29 @@ pub fn load_step(t: Table, ticket: Ticket, address: u32, memory: &[u32]) -> Exec
         lookup::word(memory, address),
     );
     let squash = squashed_from(oldest, stages, live, left, &t.numbers);
-    let mut next = t;
-    window::cut(&mut next.loads, oldest, stages, live, left);
-    window::cut(&mut next.stores, oldest, stages, live, left);
-    next.live = left;
-    next.executed = marks::including(executed, s);
-    next.addresses[r] = address;
-    let marks = next.loads[r];
-    next.loads[r] = marks::including(marks, s);
+    window::cut(&mut t.loads, oldest, stages, live, left);
+    window::cut(&mut t.stores, oldest, stages, live, left);
+    t.live = left;
+    t.executed = marks::including(executed, s);
+    t.addresses[r] = address;
+    let marks = t.loads[r];
+    t.loads[r] = marks::including(marks, s);
     ExecuteResult {
         answer: ExecuteAnswer::Executed(value, squash),
-        table: next,
+        table: t,
     }
 }
 
-// The reference that the ticket names executes as a load of `address`.
-pub fn execute_load(t: Table, ticket: Ticket, address: u32, memory: &[u32]) -> ExecuteResult
-    ensures { λ r. ⌜ Meets t (executeLoad ticket address) (now (memory .entry)) (executeSays (r .answer)) (r .table) (now (memory .entry)) ⌝ }
+// The reference that the ticket names executes as a store of `value` at `address`.
+pub fn execute_store(
+    mut t: Table,
+    ticket: Ticket,
+    address: u32,
+    value: u32,
+    memory: &[u32],
+) -> ExecuteResult
+    ensures { λ r. ⌜ Meets t (executeStore ticket address value) (now (memory .entry)) (executeSays (r .answer)) (r .table)
+        (now (memory .entry)) ⌝ }
 {
     if !table::keeps_rules(
         t.banks,
@@ -318,21 +330,6 @@ pub fn execute_load(t: Table, ticket: Ticket, address: u32, memory: &[u32]) -> E
             table: t,
         };
     }
-    load_step(t, ticket, address, memory)
-}
-
-// The step of `execute_store`, for a caller that has checked the table's rules.
-pub fn store_step(
-    t: Table,
-    ticket: Ticket,
-    address: u32,
-    value: u32,
-    memory: &[u32],
-) -> ExecuteResult
-    requires { ⌜ Rules t ⌝ }
-    ensures { λ r. ⌜ Meets t (executeStore ticket address value) (now (memory .entry)) (executeSays (r .answer)) (r .table)
-        (now (memory .entry)) ⌝ }
-{
     let stages = t.stages;
     let oldest = t.oldest;
     let live = t.live;
@@ -378,31 +375,23 @@ pub fn store_step(
         };
     }
     let squash = squashed_from(oldest, stages, live, left, &t.numbers);
-    let mut next = t;
-    window::cut(&mut next.loads, oldest, stages, live, left);
-    window::cut(&mut next.stores, oldest, stages, live, left);
-    next.live = left;
-    next.executed = marks::including(executed, s);
-    next.addresses[r] = address;
-    let marks = next.stores[r];
-    next.stores[r] = marks::including(marks, s);
-    next.values[r * 16 + s] = value;
+    window::cut(&mut t.loads, oldest, stages, live, left);
+    window::cut(&mut t.stores, oldest, stages, live, left);
+    t.live = left;
+    t.executed = marks::including(executed, s);
+    t.addresses[r] = address;
+    let marks = t.stores[r];
+    t.stores[r] = marks::including(marks, s);
+    t.values[r * 16 + s] = value;
     ExecuteResult {
         answer: ExecuteAnswer::Executed(0, squash),
-        table: next,
+        table: t,
     }
 }
 
-// The reference that the ticket names executes as a store of `value` at `address`.
-pub fn execute_store(
-    t: Table,
-    ticket: Ticket,
-    address: u32,
-    value: u32,
-    memory: &[u32],
-) -> ExecuteResult
-    ensures { λ r. ⌜ Meets t (executeStore ticket address value) (now (memory .entry)) (executeSays (r .answer)) (r .table)
-        (now (memory .entry)) ⌝ }
+// The reference that the ticket names executes without memory.
+pub fn execute_other(mut t: Table, ticket: Ticket, memory: &[u32]) -> ExecuteResult
+    ensures { λ r. ⌜ Meets t (executeOther ticket) (now (memory .entry)) (executeSays (r .answer)) (r .table) (now (memory .entry)) ⌝ }
 {
     if !table::keeps_rules(
         t.banks,
@@ -421,14 +410,6 @@ pub fn execute_store(
             table: t,
         };
     }
-    store_step(t, ticket, address, value, memory)
-}
-
-// The step of `execute_other`, for a caller that has checked the table's rules.
-pub fn other_step(t: Table, ticket: Ticket, memory: &[u32]) -> ExecuteResult
-    requires { ⌜ Rules t ⌝ }
-    ensures { λ r. ⌜ Meets t (executeOther ticket) (now (memory .entry)) (executeSays (r .answer)) (r .table) (now (memory .entry)) ⌝ }
-{
     let executed = t.executed;
     let s = ticket.stage;
     let why = execution_refusal(
@@ -448,66 +429,15 @@ pub fn other_step(t: Table, ticket: Ticket, memory: &[u32]) -> ExecuteResult
             table: t,
         };
     }
-    let mut next = t;
-    next.executed = marks::including(executed, s);
+    t.executed = marks::including(executed, s);
     ExecuteResult {
         answer: ExecuteAnswer::Executed(0, Squashed::Nothing),
-        table: next,
-    }
-}
-
-// The reference that the ticket names executes without memory.
-pub fn execute_other(t: Table, ticket: Ticket, memory: &[u32]) -> ExecuteResult
-    ensures { λ r. ⌜ Meets t (executeOther ticket) (now (memory .entry)) (executeSays (r .answer)) (r .table) (now (memory .entry)) ⌝ }
-{
-    if !table::keeps_rules(
-        t.banks,
-        t.rows,
-        t.stages,
-        t.words,
-        t.oldest,
-        t.live,
-        t.executed,
-        &t.addresses,
-        &t.loads,
-        &t.stores,
-    ) {
-        return ExecuteResult {
-            answer: ExecuteAnswer::Refused(2),
-            table: t,
-        };
-    }
-    other_step(t, ticket, memory)
-}
-
-// The step of `squash`, for a caller that has checked the table's rules.
-pub fn squash_step(t: Table, ticket: Ticket) -> DoneResult
-    requires { ⌜ Rules t ⌝ }
-    ensures { λ r. ⌜ ((m : List ℕ) → Meets t (squash ticket) m (doneSays (r .answer)) (r .table) m) ⌝ }
-{
-    let stages = t.stages;
-    let oldest = t.oldest;
-    let live = t.live;
-    let s = ticket.stage;
-    if !named(oldest, stages, live, &t.numbers, s, ticket.number) {
-        return DoneResult {
-            answer: DoneAnswer::Refused(7),
-            table: t,
-        };
-    }
-    let p = marks::position_of(oldest, stages, s);
-    let mut next = t;
-    window::cut(&mut next.loads, oldest, stages, live, p);
-    window::cut(&mut next.stores, oldest, stages, live, p);
-    next.live = p;
-    DoneResult {
-        answer: DoneAnswer::Done,
-        table: next,
+        table: t,
     }
 }
 
 // Drops the reference that the ticket names and everything younger.
-pub fn squash(t: Table, ticket: Ticket) -> DoneResult
+pub fn squash(mut t: Table, ticket: Ticket) -> DoneResult
     ensures { λ r. ⌜ ((m : List ℕ) → Meets t (squash ticket) m (doneSays (r .answer)) (r .table) m) ⌝ }
 {
     if !table::keeps_rules(
@@ -527,7 +457,24 @@ pub fn squash(t: Table, ticket: Ticket) -> DoneResult
             table: t,
         };
     }
-    squash_step(t, ticket)
+    let stages = t.stages;
+    let oldest = t.oldest;
+    let live = t.live;
+    let s = ticket.stage;
+    if !named(oldest, stages, live, &t.numbers, s, ticket.number) {
+        return DoneResult {
+            answer: DoneAnswer::Refused(7),
+            table: t,
+        };
+    }
+    let p = marks::position_of(oldest, stages, s);
+    window::cut(&mut t.loads, oldest, stages, live, p);
+    window::cut(&mut t.stores, oldest, stages, live, p);
+    t.live = p;
+    DoneResult {
+        answer: DoneAnswer::Done,
+        table: t,
+    }
 }
 
 // Whether the mark's address is `words` or more.
@@ -551,11 +498,27 @@ pub fn write_back(memory: &mut [u32], mark: Mark)
     }
 }
 
-// The step of `commit`, for a caller that has checked the table's rules.
-pub fn commit_step(t: Table, memory: &mut [u32]) -> TicketResult
-    requires { ⌜ Rules t ⌝ }
+// Takes the oldest reference out of the window; a store's word goes to memory.
+pub fn commit(mut t: Table, memory: &mut [u32]) -> TicketResult
     ensures { λ r. ⌜ Meets t commit (now (memory .entry)) (ticketSays (r .answer)) (r .table) (now (memory .exit)) ⌝ }
 {
+    if !table::keeps_rules(
+        t.banks,
+        t.rows,
+        t.stages,
+        t.words,
+        t.oldest,
+        t.live,
+        t.executed,
+        &t.addresses,
+        &t.loads,
+        &t.stores,
+    ) {
+        return TicketResult {
+            answer: TicketAnswer::Refused(2),
+            table: t,
+        };
+    }
     let stages = t.stages;
     let words = t.words;
     let oldest = t.oldest;
@@ -590,40 +553,15 @@ pub fn commit_step(t: Table, memory: &mut [u32]) -> TicketResult
     let number = t.numbers[oldest];
     let first = marks::stage_at(oldest, stages, 1);
     let stay = marks::first_stages(first, stages, live - 1);
-    let mut next = t;
-    next.oldest = first;
-    next.live = live - 1;
-    window::keep(&mut next.loads, stay);
-    window::keep(&mut next.stores, stay);
+    t.oldest = first;
+    t.live = live - 1;
+    window::keep(&mut t.loads, stay);
+    window::keep(&mut t.stores, stay);
     TicketResult {
         answer: TicketAnswer::Named(Ticket {
             stage: oldest,
             number,
         }),
-        table: next,
+        table: t,
     }
-}
-
-// Takes the oldest reference out of the window; a store's word goes to memory.
-pub fn commit(t: Table, memory: &mut [u32]) -> TicketResult
-    ensures { λ r. ⌜ Meets t commit (now (memory .entry)) (ticketSays (r .answer)) (r .table) (now (memory .exit)) ⌝ }
-{
-    if !table::keeps_rules(
-        t.banks,
-        t.rows,
-        t.stages,
-        t.words,
-        t.oldest,
-        t.live,
-        t.executed,
-        &t.addresses,
-        &t.loads,
-        &t.stores,
-    ) {
-        return TicketResult {
-            answer: TicketAnswer::Refused(2),
-            table: t,
-        };
-    }
-    commit_step(t, memory)
 }

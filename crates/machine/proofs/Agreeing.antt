@@ -2,10 +2,11 @@
 -- what the marks say of its stage exactly where the test of the code passes (stage-law).
 -- Members of a union are those of its parts (union-has, union-from). A stage with a mark is in the union over all rows. A
 -- row with a mark lies in the bank of its address, so the marks at an address are those of the rows of the bank that have
--- it (row-in, row-found). Assumes nothing.
+-- it (row-in, row-found). So the verdict over the machine's parts is that of the contract (verdict-law): where the rules are
+-- broken, both are 2. Assumes nothing.
 use mathlib.Core.Bool.{Bool, true, false, cond, not, _&&_, _||_}
 use mathlib.Core.Bool.{true≢false, false≢true, or-true, or-false, not-eq-not, and-eq-true-iff}
-use mathlib.Core.List.{List}
+use mathlib.Core.List.{List, [], _∷_}
 use mathlib.Core.Logic.{⊎-elim}
 use mathlib.Core.Path.{_≡_, refl, sym, ap, ap₂, _∙_}
 use Prim.Native.Nat.{ℕ, zero, suc, _+_, _*_, _/_, _%_, _<_}
@@ -14,24 +15,29 @@ use native.Mathlib.Numerals.{add-one}
 use native.Mathlib.Omega.{arith}
 use lib.Bits.{bitOr}
 use lib.Dec.{eqb}
-use lib.ListN.{getD}
+use lib.ListN.{length, getD}
 use borrow.Author.Tests.{eqb-true, eq-eqb}
 use Rattle.marks.specs.Counting.{every}
 use Rattle.marks.specs.Stages.{has}
 use Rattle.marks.proofs.Sets.{has-or, has-zero}
 use Rattle.table.specs.declared.Table.{Table}
 use Rattle.table.specs.Bank.{bank}
-use Rattle.table.specs.Check.{marksOf}
+use Rattle.table.specs.Check.{marksOf, lawful}
 use Rattle.table.specs.Reference.{Fate, waiting, other, loaded, stored}
 use Rattle.table.specs.Rules.{Rules}
 use Rattle.table.specs.View.{stageOf, address, mark, fateAt}
 use Rattle.table.proofs.Sizes.{sizes, bank-lt}
 use Rattle.table.proofs.Fates.{Fated, waits, bare, loads, stores, fated, mark-load, mark-store}
 use Rattle.table.proofs.Fates.{fate-load, fate-store, fate-other, fate-waiting}
+use Rattle.table.proofs.Lawful.{lawful-rules}
+use Rattle.buffer.specs.Refusals.{refusal, when}
 use Rattle.machine.specs.declared.Machine.{Machine}
+use Rattle.machine.specs.Program.{programFits}
 use Rattle.machine.specs.Window.{reference}
+use Rattle.machine.specs.Calls.{like}
 use Rattle.machine.specs.Contract.{entryOf, agree}
-use Rattle.machine.specs.Parts.{kindOf, placeOf, union, markedStages, marksAt, agreesBy, agreeingBy, agreeing}
+use Rattle.machine.proofs.Sounding.{agreeing, verdictOf}
+use Rattle.machine.specs.Parts.{kindOf, placeOf, union, markedStages, marksAt, agreesBy, agreeingBy, verdictBy}
 
 module _ (test : ℕ → Bool) (f : ℕ → ℕ) where
   -- one number more
@@ -83,6 +89,11 @@ together : (x y : Bool) → (x ≡ true → y ≡ true) → (y ≡ true → x �
 together true y f g = sym (f refl)
 together false true f g = g refl
 together false false f g = refl
+
+-- a second test counts only where the first passes
+where-true : (x y z : Bool) → (x ≡ true → y ≡ z) → (x && y) ≡ (x && z)
+where-true true y z f = f refl
+where-true false y z f = refl
 
 every-same : (f g : ℕ → Bool) (n : ℕ) → ((k : ℕ) → f k ≡ g k) → every f n ≡ every g n
 unfolding every
@@ -209,3 +220,23 @@ pub agreeing-law : (m : Machine) → Rules (m .table) → (k : ℕ)
     ≡ agreeing m k
 agreeing-law m rules k =
     every-same _ _ k (λ p. stage-law (m .table) rules (stageOf (m .table) p) (reference (entryOf m p)))
+
+-- the verdict over the machine's parts is that of the contract
+pub verdict-law : (m : Machine) (program : List ℕ) (lent : ℕ)
+    → let t = m .table in
+    verdictBy (t .banks) (t .rows) (t .stages) (t .words) (t .oldest) (t .live) (t .executed) (t .addresses) (t .loads) (t .stores)
+    (m .window) (m .count) program lent
+    ≡ verdictOf m program lent
+verdict-law m program lent =
+    let t = m .table in
+    ap
+    (λ (b : Bool).
+    refusal
+    (when (not b) 2 ∷ when (not (eqb lent (t .words))) 3
+    ∷ when
+    (not
+    (programFits program && eqb (length program) (4 * m .count)
+    && every (λ (p : ℕ). like program (m .count) (entryOf m p)) (t .live)))
+    4
+    ∷ []))
+    (where-true (lawful t) _ (agreeing m (t .live)) (λ h. agreeing-law m (lawful-rules t h) (t .live)))

@@ -40,8 +40,7 @@ use Rattle.machine.specs.Calls.{
   respond,
 }
 use Rattle.machine.specs.Contract.{entryOf, plain, Sound, lentTo, Meets}
-use Rattle.machine.specs.Parts.{agreeing, verdictOf}
-use Rattle.machine.proofs.Sounding.{length-entries, entry-at, tests-sound, broken-tests}
+use Rattle.machine.proofs.Sounding.{agreeing, verdictOf, length-entries, entry-at, tests-sound, broken-tests}
 
 -- ---- meeting the contract
 

@@ -1,6 +1,8 @@
 -- Commit, past the verdict. Its conditions 11, 12 and 13 are the buffer's: as many entries as references are live, and window
 -- and table agree on the oldest (number-same). So the call is refused exactly where the buffer refuses, with its number, and
--- otherwise the oldest entry leaves the window as its reference does. Assumes nothing.
+-- otherwise the oldest entry leaves the window as its reference does. The mark that the oldest's entry tells is the one in the
+-- table's rows: a store's word is the one that position 1 would load (oldest-marked). What is left, part by part as the code
+-- makes it, is commit-made. Assumes nothing.
 use mathlib.Core.Bool.{Bool, true, false, cond, not, true≢false}
 use mathlib.Core.List.{List, [], _∷_}
 use mathlib.Core.Path.{_≡_, refl, sym, ap, ap₂, subst, _∙_}
@@ -8,21 +10,36 @@ use Prim.Native.Nat.{ℕ, zero, suc, _-_, _<_}
 use native.Mathlib.Nat.{add-zero}
 use native.Mathlib.Omega.{arith}
 use lib.Dec.{eqb, leb}
-use lib.ListN.{length, getD, drop, length-drop}
-use borrow.Author.Tests.{lt-ltb, eq-eqb, eqb-true, eqb-false}
-use Rattle.marks.specs.Circle.{stage}
+use lib.ListN.{length, getD, take, drop, length-drop}
+use borrow.Author.Tests.{lt-ltb, eq-eqb, eqb-true, eqb-false, not-false}
+use Rattle.marks.specs.Stages.{has}
+use Rattle.marks.specs.Circle.{stage, firsts}
 use Rattle.table.specs.declared.Table.{Table}
 use Rattle.table.specs.declared.Ticket.{Ticket}
+use Rattle.table.specs.Limits.{rowsAll}
+use Rattle.table.specs.Bank.{bank}
 use Rattle.table.specs.Reference
 use Rattle.table.specs.Reference.{waiting, other, loaded, stored, fateOf, at, State}
 use Rattle.table.specs.View.{stageOf, view}
+use Rattle.table.specs.Rules.{Rules}
 use Rattle.table.specs.Moves.{retired}
 use Rattle.table.proofs.Fates.{length-refs}
+use Rattle.table.proofs.Owning.{row-for-less}
+use Rattle.window.specs.Steps.{within}
+use Rattle.lookup.specs.Search.{forward, markOf, markedFate}
+use Rattle.lookup.specs.Forwarding.{after, seen}
+use Rattle.lookup.specs.Rows.{touches}
+use Rattle.lookup.specs.Outcome.{room}
+use Rattle.lookup.proofs.Firsts.{touched-at}
+use Rattle.lookup.proofs.Forwards.{seen-next, forward-seen}
+use Rattle.lookup.proofs.Places.{loadAt, load-left, load-placed}
 use Rattle.buffer.specs.Answers as answers
 use Rattle.buffer.specs.Refusals.{when, refusal, hasExecuted, faults}
 use Rattle.buffer.specs.Calls as calls
 use Rattle.buffer.specs.Contract as contract
 use Rattle.buffer.proofs.Judging.{no-refusal}
+use Rattle.buffer.proofs.Tied.{executed-at, mark-fate}
+use Rattle.buffer.proofs.Committing as buffer
 use Rattle.machine.specs.declared.Instruction.{Instruction}
 use Rattle.machine.specs.declared.Instruction.the-variants.{Add, Sum, Load, Store}
 use Rattle.machine.specs.declared.Fate.{Fate}
@@ -47,7 +64,7 @@ use Rattle.machine.specs.Calls.{
   respond,
 }
 use Rattle.machine.specs.Contract.{plain, agree, Sound, Meets}
-use Rattle.machine.specs.Parts.{entriesOf}
+use Rattle.machine.specs.Parts.{entriesOf, markBy}
 use Rattle.machine.proofs.Sounding.{length-entries, entry-at}
 use Rattle.machine.proofs.Answering.{Passed, passed-lent, judged-refused, refused-meets, accepted-meets}
 use Rattle.machine.proofs.Reaching.{plain-by, entries-drop, sound-agreed, reached, agreed-drop}
@@ -269,3 +286,126 @@ module _ (program : List ℕ) (m : Machine) (w : List ℕ) (passed : Passed m pr
           refl
           (reached u (committing (plain m) w .state) (meets .rules rules) state
           (agreed-drop (plain m .entries) refs (sound-agreed m (passed .sound))))
+
+-- ---- the oldest's mark
+
+-- an oldest entry that does not wait has executed in the table too
+pub oldest-executed : (m : Machine) → Sound m → 0 < m .table .live
+    → waits (getD (m .window) (m .table .oldest) blankEntry .fate) ≡ false
+    → has (m .table .executed) (m .table .oldest) ≡ true
+oldest-executed m sound some done =
+    let t = m .table in
+    let e = getD (m .window) (t .oldest) blankEntry in
+    let f = fateOf (at (view t .refs) 0) in
+    let zeroth : stageOf t 0 ≡ t .oldest = rw (add-zero (t .oldest), lt-ltb (t .oldest) (t .stages) (sound .rules .start)) in
+    let agreed : agree (reference e) f ≡ true =
+    ap (λ (s : ℕ). agree (reference (getD (m .window) s blankEntry)) f) (sym zeroth) ∙ sound .agrees 0 some in
+    ap (has (t .executed)) (sym zeroth) ∙ sym (executed-at t (sound .rules) 0 some)
+    ∙ sym (agree-same 0 (reference e) f agreed .0)
+    ∙ not-false (hasExecuted (reference e)) (sym (waits-executed (e .instruction) (e .fate)) ∙ done)
+
+module _ (t : Table) (rules : Rules t) (some : 0 < t .live) where
+  -- the word of an oldest reference that stored: position 1 sees it, and the row that a load would be marked in has it
+  oldest-word : (a v : ℕ) → fateOf (at (view t .refs) 0) ≡ stored a v
+      → forward (t .oldest) (t .stages) (t .stores) (t .values) (loadAt t a 0 .row) 1 0 ≡ v
+  oldest-word a v f =
+      let refs = view t .refs in
+      let n : 0 < length refs = omega (arith, length-refs t) in
+      let left : loadAt t a 0 .left ≡ length refs =
+      load-left t rules a 0 some
+      ∙ ap (λ (b : Bool). cond b (length refs) (room (view t) 0 (bank (t .banks) a)))
+      (touched-at a refs 0 n (ap (touches a) f ∙ eq-eqb a a refl)) in
+      let placed = load-placed t rules a 0 some (λ e. omega (arith, left)) in
+      forward-seen t rules a (loadAt t a 0 .row) 1 0 some
+      (row-for-less t a (loadAt t a 0 .row) (loadAt t a 0 .left) 1 (placed .after) (placed .owned))
+      ∙ seen-next refs 0 a 0 n
+      ∙ ap (λ (g : Reference.Fate). after g a (seen (take 0 refs) a 0)) f
+      ∙ ap (λ (b : Bool). cond b v (seen (take 0 refs) a 0)) (eq-eqb a a refl)
+
+  -- an entry that agrees with an executed oldest reference tells its mark
+  mark-told : (f g : Reference.Fate) → agree f g ≡ true → fateOf (at (view t .refs) 0) ≡ g → hasExecuted g ≡ true
+      → markedFate
+      (markBy (t .banks) (t .rows) (t .stages) (t .oldest) (t .live) (t .addresses) (t .loads) (t .stores) (t .values) f)
+      ≡ g
+  mark-told waiting waiting h e x = absurd (true≢false (sym x))
+  mark-told waiting other h e x = absurd (true≢false (sym h))
+  mark-told waiting (loaded b) h e x = absurd (true≢false (sym h))
+  mark-told waiting (stored b w) h e x = absurd (true≢false (sym h))
+  mark-told other waiting h e x = absurd (true≢false (sym h))
+  mark-told other other h e x = refl
+  mark-told other (loaded b) h e x = absurd (true≢false (sym h))
+  mark-told other (stored b w) h e x = absurd (true≢false (sym h))
+  mark-told (loaded a) waiting h e x = absurd (true≢false (sym h))
+  mark-told (loaded a) other h e x = absurd (true≢false (sym h))
+  mark-told (loaded a) (loaded b) h e x = ap loaded (eqb-true a b h)
+  mark-told (loaded a) (stored b w) h e x = absurd (true≢false (sym h))
+  mark-told (stored a v) waiting h e x = absurd (true≢false (sym h))
+  mark-told (stored a v) other h e x = absurd (true≢false (sym h))
+  mark-told (stored a v) (loaded b) h e x = absurd (true≢false (sym h))
+  mark-told (stored a v) (stored b w) h e x =
+      let same : a ≡ b = eqb-true a b h in
+      ap₂ stored same (oldest-word a w (e ∙ ap (λ (k : ℕ). stored k w) (sym same)))
+
+-- the mark that its entry tells is the one that the table's rows say
+pub oldest-marked : (m : Machine) → Sound m → 0 < m .table .live → has (m .table .executed) (m .table .oldest) ≡ true
+    → let t = m .table in
+    markedFate
+    (markBy (t .banks) (t .rows) (t .stages) (t .oldest) (t .live) (t .addresses) (t .loads) (t .stores) (t .values)
+    (reference (getD (m .window) (t .oldest) blankEntry)))
+    ≡ buffer.oldestFate t
+oldest-marked m sound some executed =
+    let t = m .table in
+    let rules = sound .rules in
+    let g = fateOf (at (view t .refs) 0) in
+    let zeroth : stageOf t 0 ≡ t .oldest = rw (add-zero (t .oldest), lt-ltb (t .oldest) (t .stages) (rules .start)) in
+    let done : has (t .executed) (stageOf t 0) ≡ true = ap (has (t .executed)) zeroth ∙ executed in
+    mark-told t rules some (reference (getD (m .window) (t .oldest) blankEntry)) g
+    (ap (λ (s : ℕ). agree (reference (getD (m .window) s blankEntry)) g) (sym zeroth) ∙ sound .agrees 0 some)
+    refl
+    (executed-at t rules 0 some ∙ done)
+    ∙ sym (mark-fate t rules 0 some done)
+    ∙ ap (λ (s : ℕ). markedFate (markOf (t .addresses) (t .loads) (t .stores) (t .values) s rowsAll)) zeroth
+
+-- ---- a commit part by part
+
+-- The machine and the memory that the oldest's commit leaves, with each part named: where the window starts, the stages that
+-- stay, the two mark words, the registers.
+pub commit-made : (program : List ℕ) (m : Machine) (w : List ℕ) → Passed m program (length w) → 0 < m .table .live
+    → has (m .table .executed) (m .table .oldest) ≡ true → faults (m .table .words) (buffer.oldestFate (m .table)) ≡ false
+    → let t = m .table in
+    let e = getD (m .window) (t .oldest) blankEntry in
+    (o stay code place v : ℕ) (loads stores registers memory : List ℕ)
+    → o ≡ stageOf t 1 → stay ≡ firsts o (t .stages) (t .live - 1) → loads ≡ within (t .loads) stay
+    → stores ≡ within (t .stores) stay → code ≡ codeOf (e .instruction)
+    → place ≡ target (e .instruction) (addressBy (e .fate)) → v ≡ valueBy (e .fate)
+    → registers ≡ registersAfter (m .registers) (e .instruction) v → memory ≡ calls.written w (buffer.oldestFate t)
+    → Meets program m commit w (committed (e .index) code place v)
+    (record {
+      table = record {
+        banks = t .banks;
+        rows = t .rows;
+        stages = t .stages;
+        words = t .words;
+        oldest = o;
+        live = t .live - 1;
+        next = t .next;
+        executed = t .executed;
+        numbers = t .numbers;
+        addresses = t .addresses;
+        loads = loads;
+        stores = stores;
+        values = t .values;
+      };
+      window = m .window;
+      registers = registers;
+      count = m .count;
+      next = m .next;
+    })
+    memory
+    []
+commit-made program m w passed some done fine o stay code place v loads stores registers memory ho hs hl hr hc hp hv hg hm =
+    rw (hm, hg, hv, hp, hc, hr, hl, hs, ho)
+    (commit-meets program m w passed _ _ _
+    (buffer.commit-meets (m .table) (passed .sound .rules) w (passed .words) some done fine)
+    _
+    refl)

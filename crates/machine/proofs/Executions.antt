@@ -5,14 +5,17 @@
 -- executing one with its new fate, and the machine's window differs at that one stage: so the entries are those of
 -- the definition (new-entries), and agree with the table (new-sound). The code changes the machine in place: its table
 -- is that of the buffer's step on this ticket, which none of the early checks refuses (early), so that the laws of the
--- step say what it meets (compute-meets, load-meets, store-meets). Assumes nothing.
+-- step say what it meets (compute-meets, load-meets, store-meets). The course that the code takes tells these three
+-- apart by its mark, and computes to each one's place and table: so one law covers the stall (course-stalled), one
+-- the execution (course-meets), and one the bounds of what it changes (course-bounds). Assumes nothing.
 use mathlib.Core.Bool.{Bool, true, false, cond, not, _&&_}
 use mathlib.Core.List.{List, [], _∷_}
 use mathlib.Core.Option.{Option, none, some}
 use mathlib.Core.Path.{_≡_, refl, sym, ap, ap₂, subst, _∙_}
-use Prim.Native.Nat.{ℕ, _≤_, _<_}
+use Prim.Native.Nat.{ℕ, _+_, _*_, _^_, _≤_, _<_}
 use native.Mathlib.Nat.{le-refl}
 use native.Mathlib.Omega.{arith}
+use lib.Bits.{bitOr}
 use lib.Dec.{eqb, leb, ltb}
 use lib.ListN.{length, getD, take, set, length-set}
 use lib.Seq.{length-take-le, getD-take, getD-set-same, getD-set-other}
@@ -25,11 +28,12 @@ use Rattle.table.specs.declared.Ticket.{Ticket}
 use Rattle.table.specs.Reference
 use Rattle.table.specs.Reference.{State, Ref, waiting, other, loaded, stored, blank, numberOf, fateOf, at}
 use Rattle.table.specs.View.{stageOf, tabulate, view}
+use Rattle.table.specs.Limits.{stagesMost}
 use Rattle.table.specs.Rules.{Rules}
 use Rattle.table.proofs.Sizes.{sizes}
 use Rattle.table.proofs.Lists.{tabulate-take, tabulate-set}
 use Rattle.table.proofs.Fates.{length-refs, at-refs}
-use Rattle.window.specs.Steps.{cut, noted, loadMarked, storeMarked}
+use Rattle.window.specs.Steps.{cutMarks, cut, noted, loadMarked, storeMarked}
 use Rattle.window.proofs.Lengths.{Lengths}
 use Rattle.lookup.specs.declared.Place.{Place}
 use Rattle.lookup.specs.Forwarding.{forwarded}
@@ -55,18 +59,68 @@ use Rattle.machine.specs.declared.Fate.the-variants.{Waiting, Executed}
 use Rattle.machine.specs.declared.Entry.{Entry}
 use Rattle.machine.specs.declared.Machine.{Machine}
 use Rattle.machine.specs.declared.Action.{Action}
+use Rattle.machine.specs.declared.Course.{Course}
 use Rattle.machine.specs.declared.Action.the-variants as action
 use Rattle.machine.specs.declared.Squashed.{Squashed}
+use Rattle.machine.specs.declared.ExecuteAnswer.the-variants as execute-answer
+use Rattle.machine.specs.declared.ExecuteResult.{ExecuteResult}
 use Rattle.machine.specs.declared.Squashed.the-variants as squashed
 use Rattle.machine.specs.Window.{blankEntry, entryAt, became, held, referenceBy, reference, with₂, outcome}
 use Rattle.machine.specs.Calls.{Plain, execute, refused, executed, Result, sOf, waits, judged, respond}
 use Rattle.machine.specs.Calls.{coming, known, unknown, loadValue, goesOn, executing, stay}
 use Rattle.machine.specs.Contract.{squashSays, executeSays, entryOf, plain, agree, Sound, Meets}
-use Rattle.machine.specs.Parts.{asCall, fateAfter, actionOf, second, settled}
+use Rattle.machine.specs.Parts.{actionOf, second, courseOf}
 use Rattle.machine.proofs.Sounding.{length-entries, entry-at}
-use Rattle.machine.proofs.Operands.{readBy, referenceOf}
+use Rattle.machine.proofs.Operands.{readBy, referenceOf, fateAfter}
 use Rattle.machine.proofs.Operands.{outcome-unready, outcome-ready, reference-ready, value-ready}
 use Rattle.machine.proofs.Answering.{Passed, passed-lent, judged-refused, refused-meets, accepted-meets}
+
+-- what an instruction asks of the buffer, with its value: nothing, a load of an address, a store at an address
+abbrev asCall : Action → Ticket → Calls.Call
+asCall (action.Compute v) τ = Calls.executeOther τ
+asCall (action.LoadAt a) τ = Calls.executeLoad τ a
+asCall (action.StoreAt a v) τ = Calls.executeStore τ a v
+
+-- the machine and answer after the buffer answered an execution of the entry at stage s
+abbrev settled : Machine → Table → ℕ → Action → buffer-answer.ExecuteAnswer → ExecuteResult
+settled m after s act (buffer-answers.Refused k) = record { answer = execute-answer.Refused k; machine = m }
+settled m after s act (buffer-answers.Executed v q) =
+    record {
+      answer = execute-answer.Executed v (cond (ltb (after .live) (m .table .live)) (squashed.From (after .live)) squashed.Nothing);
+      machine = record {
+        table = after;
+        window = set (m .window) s (became (getD (m .window) s blankEntry) (fateAfter act v));
+        registers = m .registers;
+        count = m .count;
+        next = cond (ltb (after .live) (m .table .live)) (entryOf m (after .live) .index) (m .next);
+      };
+    }
+
+-- what an action comes to at position p of the table, and the table after it, executed at stage s
+abbrev pub courseAt : Table → ℕ → List ℕ → Action → Course
+courseAt t p w act =
+    courseOf (t .banks) (t .rows) (t .stages) (t .oldest) (t .live) (t .addresses) (t .loads) (t .stores) (t .values) p w act
+
+abbrev pub marking : List ℕ → Bool → ℕ → ℕ → List ℕ
+marking words on r s = cond on (set words r (bitOr (getD words r 0) (2 ^ s))) words
+
+abbrev pub coursed : Table → Course → ℕ → Table
+coursed t q s =
+    record {
+      banks = t .banks;
+      rows = t .rows;
+      stages = t .stages;
+      words = t .words;
+      oldest = t .oldest;
+      live = q .left;
+      next = t .next;
+      executed = bitOr (t .executed) (2 ^ s);
+      numbers = t .numbers;
+      addresses = cond (not (eqb (q .mark) 0)) (set (t .addresses) (q .row) (q .address)) (t .addresses);
+      loads = marking (cutMarks (t .oldest) (t .stages) (t .live) (q .left) (t .loads)) (eqb (q .mark) 1) (q .row) s;
+      stores = marking (cutMarks (t .oldest) (t .stages) (t .live) (q .left) (t .stores)) (eqb (q .mark) 2) (q .row) s;
+      values = cond (eqb (q .mark) 2) (set (t .values) (q .row * stagesMost + s) (q .value)) (t .values);
+    }
 
 -- ---- fates
 
@@ -76,13 +130,13 @@ agree-same other = refl
 agree-same (loaded a) = eq-eqb a a refl
 agree-same (stored a v) = eq-eqb a a refl
 
-agree-waiting : (f : Reference.Fate) → agree waiting f ≡ true → f ≡ waiting
+pub agree-waiting : (f : Reference.Fate) → agree waiting f ≡ true → f ≡ waiting
 agree-waiting waiting e = refl
 agree-waiting other e = absurd (let z : _≡_ {A = ℕ} 0 1 = cc in omega arith)
 agree-waiting (loaded a) e = absurd (let z : _≡_ {A = ℕ} 0 1 = cc in omega arith)
 agree-waiting (stored a v) e = absurd (let z : _≡_ {A = ℕ} 0 1 = cc in omega arith)
 
-waits-waiting : (i : Instruction) (f : Fate) → waits f ≡ true → referenceBy i f ≡ waiting
+pub waits-waiting : (i : Instruction) (f : Fate) → waits f ≡ true → referenceBy i f ≡ waiting
 waits-waiting i Waiting e = refl
 waits-waiting i (Executed v a) e = absurd (let z : _≡_ {A = ℕ} 0 1 = cc in omega arith)
 
@@ -521,7 +575,7 @@ module _ (m : Machine) (program w : List ℕ) (p : ℕ) (passed : Passed m progr
           }
 
       -- a value alone: the stage is noted as executed
-      pub compute-meets : length (m .window) ≡ 16 → (x : ℕ) → asked ≡ some (action.Compute x)
+      compute-meets : length (m .window) ≡ 16 → (x : ℕ) → asked ≡ some (action.Compute x)
           → (s : ℕ) → s ≡ stageOf (m .table) p → (after : Table) → after ≡ noted (m .table) s
           → Meets program m (execute p) w (executed 0 none) (ended after s (Executed x 0) (m .next)) w []
       compute-meets full x ready s hs after ha =
@@ -539,14 +593,14 @@ module _ (m : Machine) (program w : List ℕ) (p : ℕ) (passed : Passed m progr
           (other-meets t (passed .sound .rules) (ticket (action.Compute x) ready) w (early (action.Compute x) ready))))
 
       -- refusal 10 of a load and of a store: no row is to be had
-      pub load-stalled : (a : ℕ) → asked ≡ some (action.LoadAt a) → (q : Place) → q ≡ loadAt (m .table) a p
+      load-stalled : (a : ℕ) → asked ≡ some (action.LoadAt a) → (q : Place) → q ≡ loadAt (m .table) a p
           → q .left ≡ 0 → Meets program m (execute p) w (refused 10) m w []
       load-stalled a ready q hq e =
           stall-refused (action.LoadAt a) ready
           (eq-eqb _ 0
           (sym (load-left (m .table) (passed .sound .rules) a p live) ∙ ap (λ (k : Place). k .left) (sym hq) ∙ e))
 
-      pub store-stalled : (a v : ℕ) → asked ≡ some (action.StoreAt a v) → (q : Place) → q ≡ storeAt (m .table) a p
+      store-stalled : (a v : ℕ) → asked ≡ some (action.StoreAt a v) → (q : Place) → q ≡ storeAt (m .table) a p
           → q .left ≡ 0 → Meets program m (execute p) w (refused 10) m w []
       store-stalled a v ready q hq e =
           stall-refused (action.StoreAt a v) ready
@@ -554,7 +608,7 @@ module _ (m : Machine) (program w : List ℕ) (p : ℕ) (passed : Passed m progr
           (sym (store-left (m .table) (passed .sound .rules) a p live v) ∙ ap (λ (k : Place). k .left) (sym hq) ∙ e))
 
       -- a load: the table is cut, and its mark set in the row found
-      pub load-meets : length (m .window) ≡ 16 → Lengths (m .table) → (a : ℕ) → asked ≡ some (action.LoadAt a)
+      load-meets : length (m .window) ≡ 16 → Lengths (m .table) → (a : ℕ) → asked ≡ some (action.LoadAt a)
           → (s : ℕ) → s ≡ stageOf (m .table) p → (q : Place) → q ≡ loadAt (m .table) a p → (q .left ≡ 0 → ⊥)
           → (v : ℕ)
           → let t = m .table in
@@ -583,7 +637,7 @@ module _ (m : Machine) (program w : List ℕ) (p : ℕ) (passed : Passed m progr
           (λ z. stays (ap (λ (k : Place). k .left) (hq ∙ ap (loadAt t a) (sym same)) ∙ z)))))
 
       -- a store: the same, and its value beside the mark
-      pub store-meets : length (m .window) ≡ 16 → Lengths (m .table) → (a v : ℕ) → asked ≡ some (action.StoreAt a v)
+      store-meets : length (m .window) ≡ 16 → Lengths (m .table) → (a v : ℕ) → asked ≡ some (action.StoreAt a v)
           → (s : ℕ) → s ≡ stageOf (m .table) p → (q : Place) → q ≡ storeAt (m .table) a p → (q .left ≡ 0 → ⊥)
           → (after : Table) → after ≡ storeMarked (cut (m .table) (q .left)) (q .row) s a v
           → (gone : Squashed) → gone ≡ cond (ltb (q .left) (m .table .live)) (squashed.From (q .left)) squashed.Nothing
@@ -605,3 +659,56 @@ module _ (m : Machine) (program w : List ℕ) (p : ℕ) (passed : Passed m progr
           same
           (Executing.store-meets t (passed .sound .rules) τ w a v (early act ready) lengths
           (λ z. stays (ap (λ (k : Place). k .left) (hq ∙ ap (storeAt t a) (sym same)) ∙ z)))))
+
+      -- refusal 10: no row is to be had
+      pub course-stalled : (act : Action) → asked ≡ some act → courseAt (m .table) p w act .left ≡ 0
+          → Meets program m (execute p) w (refused 10) m w []
+      course-stalled (action.Compute x) ready e = absurd (omega arith)
+      course-stalled (action.LoadAt a) ready e = load-stalled a ready (loadAt (m .table) a p) refl e
+      course-stalled (action.StoreAt a v) ready e = store-stalled a v ready (storeAt (m .table) a p) refl e
+
+      -- the entry executes
+      pub course-meets : length (m .window) ≡ 16 → Lengths (m .table) → (act : Action) → asked ≡ some act
+          → (s : ℕ) → s ≡ stageOf (m .table) p → (q : Course) → q ≡ courseAt (m .table) p w act → (q .left ≡ 0 → ⊥)
+          → (after : Table) → after ≡ coursed (m .table) q s → (v : ℕ) → v ≡ cond (eqb (q .mark) 1) (q .value) 0
+          → (gone : Squashed) → gone ≡ cond (ltb (q .left) (m .table .live)) (squashed.From (q .left)) squashed.Nothing
+          → (n : ℕ) → n ≡ cond (ltb (q .left) (m .table .live)) (entryOf m (q .left) .index) (m .next)
+          → Meets program m (execute p) w (executed v (squashSays gone))
+          (ended after s (Executed (q .value) (q .address)) n) w []
+      course-meets full lengths (action.Compute x) ready s hs q hq stays after ha v hv gone hg n hn =
+          let t = m .table in
+          let whole = le-ltb (t .live) (t .live) (le-refl (t .live)) in
+          rw (hg, hn, ha, hv, hq, whole) (compute-meets full x ready s hs (noted t s) refl)
+      course-meets full lengths (action.LoadAt a) ready s hs q hq stays after ha v hv gone hg n hn =
+          let found = loadAt (m .table) a p in
+          let some-left : found .left ≡ 0 → ⊥ = λ z. stays (ap (λ (k : Course). k .left) hq ∙ z) in
+          rw (hg, hn, ha, hv, hq)
+          (load-meets full lengths a ready s hs found refl some-left _ refl _ refl _ refl _ refl)
+      course-meets full lengths (action.StoreAt a x) ready s hs q hq stays after ha v hv gone hg n hn =
+          let found = storeAt (m .table) a p in
+          let some-left : found .left ≡ 0 → ⊥ = λ z. stays (ap (λ (k : Course). k .left) hq ∙ z) in
+          rw (hg, hn, ha, hv, hq)
+          (store-meets full lengths a x ready s hs found refl some-left _ refl _ refl _ refl)
+
+-- ---- how many stay, and where
+
+module _ (t : Table) (rules : Rules t) (p : ℕ) (live : p < t .live) (w : List ℕ) (act : Action) where
+  pub course-left : courseAt t p w act .left ≡ leaves (view t) p (referenceOf act)
+  course-left = go act
+    where
+      go : (x : Action) → courseAt t p w x .left ≡ leaves (view t) p (referenceOf x)
+      go (action.Compute x) = sym (length-refs t)
+      go (action.LoadAt a) = load-left t rules a p live
+      go (action.StoreAt a x) = store-left t rules a p live x
+
+  pub course-bounds : (courseAt t p w act .left ≡ 0 → ⊥)
+      → (p < courseAt t p w act .left) × (courseAt t p w act .left ≤ t .live) × (courseAt t p w act .row < 64)
+  course-bounds = go act
+    where
+      go : (x : Action) → (courseAt t p w x .left ≡ 0 → ⊥)
+          → (p < courseAt t p w x .left) × (courseAt t p w x .left ≤ t .live) × (courseAt t p w x .row < 64)
+      go (action.Compute x) stays = (live, le-refl (t .live), omega arith)
+      go (action.LoadAt a) stays =
+          let placed = load-placed t rules a p live stays in (placed .after, placed .within, placed .owned .row)
+      go (action.StoreAt a x) stays =
+          let placed = store-placed t rules a p live stays in (placed .after, placed .within, placed .owned .row)

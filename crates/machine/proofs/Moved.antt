@@ -1,32 +1,29 @@
--- The calls that move the window's young end, past the verdict: issue is refused with 5 where every stage is live, with 6
--- where no instruction is left, and otherwise adds an entry where the buffer adds a reference; squash is refused with 7 at a
--- position that is not live, and otherwise cuts where the buffer does, whose ticket for that position names its reference.
--- Assumes nothing.
-use mathlib.Core.Bool.{Bool, true, false, cond, _&&_}
+-- The calls that move the window's young end, past the verdict: issue is refused with 5 where every stage is live,
+-- with 6 where no instruction is left, and otherwise adds an entry where the table grows by a reference; squash is
+-- refused with 7 at a position that is not live, and otherwise keeps the entries of the references that the cut table
+-- keeps. The views are those of the steps. Assumes nothing.
+use mathlib.Core.Bool.{Bool, true, false, cond}
 use mathlib.Core.List.{List, [], _∷_, _++_}
 use mathlib.Core.Path.{_≡_, refl, sym, ap, ap₂, _∙_}
 use Prim.Native.Nat.{ℕ, suc, _+_, _≤_, _<_}
 use native.Mathlib.Nat.{ne-of-lt, le-of-lt}
 use native.Mathlib.Numerals.{add-one}
 use native.Mathlib.Omega.{arith}
-use lib.Dec.{eqb, leb, ltb}
-use lib.ListN.{length, getD, take, set, length-append}
+use lib.Dec.{eqb, leb}
+use lib.ListN.{length, take, set, length-append}
 use lib.Seq.{length-take-le}
 use borrow.Author.Tests.{lt-ltb, le-leb, lt-leb, eq-eqb, ne-eqb}
-use Rattle.marks.proofs.Turns.{stage-lt, position-stage}
-use Rattle.table.specs.declared.Table.{Table}
-use Rattle.table.specs.declared.Ticket.{Ticket}
-use Rattle.table.specs.Reference.{Ref, ref, waiting, numberOf, at}
+use Rattle.table.specs.Reference.{ref, waiting}
 use Rattle.table.specs.View.{stageOf, view}
 use Rattle.table.specs.Moves.{issued, keeping}
-use Rattle.table.specs.Rules.{Rules}
 use Rattle.table.proofs.Sizes.{sizes}
 use Rattle.table.proofs.Lists.{tabulate-take}
-use Rattle.table.proofs.Fates.{length-refs, at-refs}
-use Rattle.buffer.specs.Answers as answers
-use Rattle.buffer.specs.Refusals.{when, refusal, place, names}
-use Rattle.buffer.specs.Calls as calls
-use Rattle.buffer.specs.Contract as contract
+use Rattle.table.proofs.Fates.{length-refs}
+use Rattle.window.specs.Steps.{cut, grown}
+use Rattle.window.proofs.Lengths.{Lengths}
+use Rattle.window.proofs.Narrowing.{cut-rules, cut-view}
+use Rattle.window.proofs.Growing.{grown-rules, grown-view}
+use Rattle.buffer.specs.Refusals.{when, refusal}
 use Rattle.machine.specs.declared.Entry.{Entry}
 use Rattle.machine.specs.declared.Fate.the-variants.{Waiting}
 use Rattle.machine.specs.declared.Machine.{Machine}
@@ -51,38 +48,6 @@ use Rattle.machine.proofs.Sounding.{length-entries, entry-at}
 use Rattle.machine.proofs.Answering.{Passed, refused-meets, accepted-meets}
 use Rattle.machine.proofs.Reaching.{plain-by, entries-grow, sound-agreed, reached, agreed-grow, agreed-take}
 
--- ---- what the buffer hands back
-
--- its ticket of position p
-abbrev pub ticketOf : Table → ℕ → Ticket
-ticketOf t p = record { stage = stageOf t p; number = getD (t .numbers) (stageOf t p) 0 }
-
-module _ (t : Table) (rules : Rules t) (w : List ℕ) (said : answers.Answer) (after : Table) where
-  issue-view : t .live < t .stages → contract.Meets t calls.issue w said after w → view after ≡ issued (view t)
-  unfolding calls.respond
-  issue-view room meets =
-      let some : eqb (length (view t .refs)) (t .stages) ≡ false =
-      ap (λ (k : ℕ). eqb k (t .stages)) (length-refs t) ∙ ne-eqb (t .live) (t .stages) (ne-of-lt room) in
-      meets .state rules ∙ rw some
-
-  ticket-place : (p : ℕ) → p < t .live → place (view t) (ticketOf t p) ≡ p
-  ticket-place p h = position-stage (t .oldest) (t .stages) (rules .start) p (omega (arith, rules .room))
-
-  ticket-names : (p : ℕ) → p < t .live → names (view t) (ticketOf t p) ≡ true
-  ticket-names p h =
-      let n = getD (t .numbers) (stageOf t p) 0 in
-      ap₂ _&&_
-      (lt-ltb (stageOf t p) (t .stages) (stage-lt (t .oldest) (t .stages) (rules .start) p (omega (arith, rules .room))))
-      (ap (λ (q : ℕ). ltb q (length (view t .refs)) && eqb (numberOf (at (view t .refs) q)) n) (ticket-place p h)
-      ∙ ap₂ _&&_ (lt-ltb p (length (view t .refs)) (omega (arith, length-refs t)))
-      (ap (λ (r : Ref). eqb (numberOf r) n) (at-refs t p h) ∙ eq-eqb n n refl))
-
-  squash-view : (p : ℕ) → p < t .live → contract.Meets t (calls.squash (ticketOf t p)) w said after w
-      → view after ≡ keeping (view t) p
-  unfolding calls.respond
-  squash-view p h meets =
-      meets .state rules ∙ rw (ticket-names p h) (ap (keeping (view t)) (ticket-place p h))
-
 -- ---- issue
 
 -- the entry that an issue adds
@@ -105,11 +70,11 @@ issuing program X w =
       list = [];
     }
 
--- the machine after an issue that left the buffer's table `after`
-abbrev pub issuedOver : List ℕ → Machine → Table → Machine
-issuedOver program m after =
+-- the machine after an issue
+abbrev pub issuedOver : List ℕ → Machine → Machine
+issuedOver program m =
     record {
-      table = after;
+      table = grown (m .table);
       window = set (m .window) (stageOf (m .table) (m .table .live)) (newEntry program (m .next));
       registers = m .registers;
       count = m .count;
@@ -147,15 +112,13 @@ module _ (program : List ℕ) (m : Machine) (passed : Passed m program (m .table
       (issue-responds 6
       (issue-number false true (ne-eqb (m .table .live) (m .table .stages) some) (le-leb (m .count) (m .next) e)))
 
-  pub issue-meets : (said : answers.Answer) (after : Table) → contract.Meets (m .table) calls.issue w said after w
-      → length (m .window) ≡ 16 → m .table .live < m .table .stages → m .next < m .count
-      → Meets program m issue w (position (m .table .live)) (issuedOver program m after) w []
-  issue-meets said after meets long room left =
+  pub issue-meets : Lengths (m .table) → length (m .window) ≡ 16 → m .table .live < m .table .stages → m .next < m .count
+      → Meets program m issue w (position (m .table .live)) (issuedOver program m) w []
+  issue-meets lengths long room left =
       let rules = passed .sound .rules in
-      let u = issuedOver program m after in
+      let u = issuedOver program m in
       let refs = view (m .table) .refs in
       let e = newEntry program (m .next) in
-      let seen : view after ≡ issued (view (m .table)) = issue-view (m .table) rules w said after room meets in
       let more : length (issued (view (m .table)) .refs) ≡ suc (m .table .live) =
       length-append refs (ref (m .table .next) waiting ∷ []) ∙ ap (λ (k : ℕ). k + 1) (length-refs (m .table))
       ∙ add-one (m .table .live) in
@@ -165,7 +128,7 @@ module _ (program : List ℕ) (m : Machine) (passed : Passed m program (m .table
       ap (entriesOf (u .window) (m .table .oldest) (m .table .stages)) more
       ∙ entries-grow (m .window) (m .table .oldest) (m .table .stages) (rules .start) (m .table .live) e room wide in
       let state : plain u ≡ issuing program (plain m) w .state =
-      plain-by u (issued (view (m .table))) seen
+      plain-by u (issued (view (m .table))) (grown-view (m .table) rules lengths room)
       ∙ ap₂
       (λ (es : List Entry) (k : ℕ).
       record { buffer = issued (view (m .table)); entries = es; registers = m .registers; count = m .count; next = k })
@@ -179,7 +142,7 @@ module _ (program : List ℕ) (m : Machine) (passed : Passed m program (m .table
       state
       refl
       refl
-      (reached u (issuing program (plain m) w .state) (meets .rules rules) state
+      (reached u (issuing program (plain m) w .state) (grown-rules (m .table) rules lengths room) state
       (agreed-grow (plain m .entries) refs (sound-agreed m (passed .sound)) e (ref (m .table .next) waiting)
       (length-entries m ∙ sym (length-refs (m .table))) refl))
 
@@ -201,11 +164,11 @@ squashing X w p =
       list = [];
     }
 
--- the machine after a squash at position p that left the buffer's table `after`
-abbrev pub squashedOver : Machine → ℕ → Table → Machine
-squashedOver m p after =
+-- the machine after a squash at position p
+abbrev pub squashedOver : Machine → ℕ → Machine
+squashedOver m p =
     record {
-      table = after;
+      table = cut (m .table) p;
       window = m .window;
       registers = m .registers;
       count = m .count;
@@ -225,14 +188,11 @@ module _ (program : List ℕ) (m : Machine) (passed : Passed m program (m .table
   squash-beyond h =
       refused-meets program m (squash p) w 7 (passed .sound) (squash-responds true (le-leb (m .table .live) p h))
 
-  pub squash-meets : (said : answers.Answer) (after : Table)
-      → contract.Meets (m .table) (calls.squash (ticketOf (m .table) p)) w said after w → p < m .table .live
-      → Meets program m (squash p) w done (squashedOver m p after) w []
-  squash-meets said after meets h =
+  pub squash-meets : p < m .table .live → Meets program m (squash p) w done (squashedOver m p) w []
+  squash-meets h =
       let rules = passed .sound .rules in
-      let u = squashedOver m p after in
+      let u = squashedOver m p in
       let refs = view (m .table) .refs in
-      let seen : view after ≡ keeping (view (m .table)) p = squash-view (m .table) rules w said after p h meets in
       let few : length (take p refs) ≡ p = length-take-le p refs (omega (arith, length-refs (m .table))) in
       let entries : entriesOf (m .window) (m .table .oldest) (m .table .stages) (length (take p refs))
       ≡ take p (plain m .entries) =
@@ -243,7 +203,7 @@ module _ (program : List ℕ) (m : Machine) (passed : Passed m program (m .table
       ∙ ap (λ (b : Bool). cond b (entryAt (plain m .entries) p .index) (m .next))
       (sym (lt-ltb p (length (plain m .entries)) (omega (arith, length-entries m)))) in
       let state : plain u ≡ squashing (plain m) w p .state =
-      plain-by u (keeping (view (m .table)) p) seen
+      plain-by u (keeping (view (m .table)) p) (cut-view (m .table) rules p (le-of-lt h))
       ∙ ap₂
       (λ (es : List Entry) (k : ℕ).
       record { buffer = keeping (view (m .table)) p; entries = es; registers = m .registers; count = m .count; next = k })
@@ -255,5 +215,5 @@ module _ (program : List ℕ) (m : Machine) (passed : Passed m program (m .table
       state
       refl
       refl
-      (reached u (squashing (plain m) w p .state) (meets .rules rules) state
+      (reached u (squashing (plain m) w p .state) (cut-rules (m .table) rules p (le-of-lt h)) state
       (agreed-take (plain m .entries) refs (sound-agreed m (passed .sound)) p))

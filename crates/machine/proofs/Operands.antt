@@ -21,12 +21,19 @@ use Rattle.lookup.specs.Search.{find}
 use Rattle.machine.specs.declared.Instruction.{Instruction}
 use Rattle.machine.specs.declared.Instruction.the-variants.{Add, Sum, Load, Store}
 use Rattle.machine.specs.declared.Fate.{Fate}
+use Rattle.machine.specs.declared.Fate.the-variants.{Executed}
 use Rattle.machine.specs.declared.Entry.{Entry}
 use Rattle.machine.specs.declared.Action.{Action}
 use Rattle.machine.specs.declared.Action.the-variants.{Compute, LoadAt, StoreAt}
 use Rattle.machine.specs.Window.{blankEntry, writesTo, valueOf, held, referenceBy, with₂, outcome}
 use Rattle.machine.specs.Calls.{sOf, loadValue}
-use Rattle.machine.specs.Parts.{destination, writer, entriesOf, fateAfter, actionOf, second}
+use Rattle.machine.specs.Parts.{destination, writer, entriesOf, actionOf, second}
+
+-- the entry's fate after it, where a load took v
+abbrev pub fateAfter : Action → ℕ → Fate
+fateAfter (Compute x) v = Executed x 0
+fateAfter (LoadAt a) v = Executed v a
+fateAfter (StoreAt a x) v = Executed x a
 
 -- the registers that the entries write, by stage
 abbrev pub into : List Entry → List ℕ

@@ -25,8 +25,7 @@ use Rattle.machine.specs.Calls.{Plain, Call, issue, execute, commit, Ans
 use Rattle.machine.specs.Calls.{dOf, sOf, immOf, same, like, issueChecks, issues, executeChecks, coming, known, stay}
 use Rattle.machine.specs.Calls.{executions, commitChecks, commits}
 use Rattle.machine.specs.Contract.{entryOf, plain, Sound, Meets}
-use Rattle.machine.specs.Parts.{agreeing, verdictOf}
-use Rattle.machine.proofs.Sounding.{length-entries, entry-at, sound-tests}
+use Rattle.machine.proofs.Sounding.{agreeing, verdictOf, length-entries, entry-at, sound-tests}
 use Rattle.machine.proofs.Answering.{Passed, verdict-passes}
 
 -- ---- a test that every entry of a list passes

@@ -1,24 +1,25 @@
--- The oldest entry on its way to its commit: a call of issue where the window is empty (begun), a call of execute where
--- it waits (ready). In an empty window the code looks at a stage that holds no entry. If an entry left there has executed,
--- the code calls nothing; the definition executes position 0, which is refused, so that the state is the same.
--- Assumes nothing.
-use mathlib.Core.Path.{_≡_, refl, sym, ap, _∙_}
-use mathlib.Core.Bool.{Bool, true, false, cond, not, _&&_}
-use mathlib.Core.List.{List, [], _∷_}
-use Prim.Native.Nat.{ℕ, zero, suc, _+_, _-_, _*_, _<_}
+-- The oldest entry on its way to its commit: issued where the window is empty (begun), executed where it waits (ready). Where
+-- it waits every mark is younger, so that it gets a row and never stalls (oldest-leaves). Assumes nothing.
+use mathlib.Core.Path.{_≡_, sym, ap, _∙_}
+use mathlib.Core.Bool.{Bool, true, false, cond}
+use mathlib.Core.List.{List, []}
+use Prim.Native.Nat.{ℕ, _+_, _-_, _<_}
 use native.Mathlib.Omega.{arith}
-use lib.Dec.{eqb, leb}
-use lib.ListN.{length, getD, List·getD-eq-default}
-use borrow.Author.Tests.{eq-eqb, ne-eqb, le-leb, lt-ltb}
-use Rattle.marks.specs.Counting.{every}
+use lib.ListN.{length, getD}
+use borrow.Author.Tests.{eq-eqb, ne-eqb, lt-ltb}
+use Rattle.table.specs.Bank.{bank}
+use Rattle.table.specs.Reference
+use Rattle.table.specs.Reference.{waiting, other, loaded, stored, fateOf, at, State}
 use Rattle.table.specs.View.{stageOf}
-use Rattle.buffer.specs.Refusals.{Check, when, refusal}
+use Rattle.lookup.specs.Outcome.{room, leaves}
+use Rattle.lookup.specs.Rows.{touched}
+use Rattle.lookup.specs.Violation.{checked}
+use Rattle.lookup.proofs.Violations.{checked-after}
+use Rattle.lookup.proofs.Firsts.{never-stalls}
 use Rattle.machine.specs.declared.Entry.{Entry}
 use Rattle.machine.specs.declared.Machine.{Machine}
-use Rattle.machine.specs.Program.{programFits}
 use Rattle.machine.specs.Window.{blankEntry, entryAt}
-use Rattle.machine.specs.Calls.{Plain, issue, execute, Answer, Result, like, judged, waits, issues}
-use Rattle.machine.specs.Calls.{coming, known, unknown, stay, executing, executions, begun, ready, respond}
+use Rattle.machine.specs.Calls.{Plain, issue, execute, Answer, waits, issues, executions, begun, ready, respond}
 use Rattle.machine.specs.Contract.{plain, Sound, Meets}
 use Rattle.machine.proofs.Sounding.{length-entries, entry-at}
 
@@ -42,30 +43,6 @@ module _ (program : List ℕ) (m : Machine) (w : List ℕ) where
 
 -- ---- executed
 
--- a call refused with 3, 4 or 7 leaves the state
-refused-state : (a b t : Bool) (checks : List Check) (X : Plain) (memory : List ℕ) (r : Result) → t ≡ true
-    → judged (refusal (when a 3 ∷ when b 4 ∷ when t 7 ∷ checks)) X memory [] r .state ≡ X
-refused-state true b t checks X memory r e = refl
-refused-state false true t checks X memory r e = refl
-refused-state false false true checks X memory r e = refl
-refused-state false false false checks X memory r e = absurd (let z : _≡_ {A = ℕ} 0 1 = cc in omega arith)
-
-executions-empty : (program : List ℕ) (X : Plain) (memory : List ℕ) → length (X .entries) ≡ 0
-    → executions program X memory 0 .state ≡ X
-executions-empty program X memory h =
-    refused-state (not (eqb (length memory) (X .buffer .words)))
-    (not
-    (programFits program && eqb (length program) (4 * X .count)
-    && every (λ (p : ℕ). like program (X .count) (entryAt (X .entries) p)) (length (X .entries))))
-    (leb (length (X .entries)) 0)
-    (when (not (waits (entryAt (X .entries) 0 .fate))) 8 ∷ when (unknown (coming X memory 0)) 9
-    ∷ when (eqb (stay X 0 (known (coming X memory 0))) 0) 10
-    ∷ [])
-    X
-    memory
-    (executing X memory 0 (known (coming X memory 0)) (stay X 0 (known (coming X memory 0))))
-    (le-leb (length (X .entries)) 0 (omega arith))
-
 -- the oldest entry stands at the oldest's stage
 oldest-entry : (m : Machine) → Sound m → 0 < m .table .live
     → entryAt (plain m .entries) 0 ≡ getD (m .window) (m .table .oldest) blankEntry
@@ -79,40 +56,41 @@ oldest-entry m sound some =
         (lt-ltb (t .oldest + 0) (t .stages) (let h = sound .rules .start in omega arith))
         ∙ (omega arith)
 
+-- the oldest, where it waits, never stalls
+pub oldest-leaves : (P : State) → 0 < P .rows → 0 < length (P .refs) → fateOf (at (P .refs) 0) ≡ waiting
+    → (f : Reference.Fate) → leaves P 0 f ≡ 0 → ⊥
+oldest-leaves P rows live w waiting z = omega arith
+oldest-leaves P rows live w other z = omega arith
+oldest-leaves P rows live w (loaded a) z = go (touched a (P .refs)) z
+  where
+    go : (t : Bool) → cond t (length (P .refs)) (room P 0 (bank (P .banks) a)) ≡ 0 → ⊥
+    go true y = omega arith
+    go false y = never-stalls P (bank (P .banks) a) rows live w y
+oldest-leaves P rows live w (stored a v) z = go (touched a (P .refs)) z
+  where
+    go : (t : Bool) → cond t (checked P 0 a) (room P 0 (bank (P .banks) a)) ≡ 0 → ⊥
+    go true y = omega (arith, checked-after P 0 a live)
+    go false y = never-stalls P (bank (P .banks) a) rows live w y
+
 -- what ready comes to from the state begun
 abbrev readied : List ℕ → List ℕ → Plain → Plain
 readied program w Y = cond (waits (entryAt (Y .entries) 0 .fate)) (executions program Y w 0 .state) Y
 
-module _ (program : List ℕ) (m b : Machine) (w : List ℕ) (sound : Sound b)
+module _ (program : List ℕ) (m b : Machine) (w : List ℕ) (sound : Sound b) (some : 0 < b .table .live)
     (begins : plain b ≡ begun program (plain m) w) where
+  by-oldest : (t : Bool) → waits (getD (b .window) (b .table .oldest) blankEntry .fate) ≡ t
+      → cond t (executions program (plain b) w 0 .state) (plain b) ≡ ready program (plain m) w
+  by-oldest t h =
+      sym
+      (ap (λ (x : Bool). cond x (executions program (plain b) w 0 .state) (plain b))
+      (ap (λ (x : Entry). waits (x .fate)) (oldest-entry b sound some) ∙ h))
+      ∙ ap (readied program w) begins
+
   pub ready-waiting : (u : Machine) (said : Answer) → waits (getD (b .window) (b .table .oldest) blankEntry .fate) ≡ true
       → Meets program b (execute 0) w said u w [] → plain u ≡ ready program (plain m) w
   unfolding respond
-  ready-waiting u said h meets =
-      meets .state sound
-      ∙ sym (ap (λ (t : Bool). cond t (executions program (plain b) w 0 .state) (plain b)) (here (b .table .live) refl))
-      ∙ ap (readied program w) begins
-    where
-      here : (n : ℕ) → b .table .live ≡ n → waits (entryAt (plain b .entries) 0 .fate) ≡ true
-      here zero e =
-          ap (λ (x : Entry). waits (x .fate))
-          (List·getD-eq-default (plain b .entries) blankEntry (omega (arith, length-entries b)))
-      here (suc n) e =
-          ap (λ (x : Entry). waits (x .fate)) (oldest-entry b sound (omega arith)) ∙ h
+  ready-waiting u said h meets = meets .state sound ∙ by-oldest true h
 
   pub ready-executed : waits (getD (b .window) (b .table .oldest) blankEntry .fate) ≡ false
       → plain b ≡ ready program (plain m) w
-  ready-executed h = go (b .table .live) refl ∙ ap (readied program w) begins
-    where
-      both : (t : Bool) → executions program (plain b) w 0 .state ≡ plain b
-          → plain b ≡ cond t (executions program (plain b) w 0 .state) (plain b)
-      both true e = sym e
-      both false e = refl
-
-      go : (n : ℕ) → b .table .live ≡ n → plain b ≡ readied program w (plain b)
-      go zero e =
-          both (waits (entryAt (plain b .entries) 0 .fate)) (executions-empty program (plain b) w (length-entries b ∙ e))
-      go (suc n) e =
-          sym
-          (ap (λ (t : Bool). cond t (executions program (plain b) w 0 .state) (plain b))
-          (ap (λ (x : Entry). waits (x .fate)) (oldest-entry b sound (omega arith)) ∙ h))
+  ready-executed h = by-oldest false h

@@ -1,10 +1,13 @@
 -- A machine is sound exactly where its tests pass: the table's own rules, and the agreement of window and table at every
 -- live position. The fates that are compared are those of the view, which the table's marks give (view-fate).
 -- Assumes nothing.
-use mathlib.Core.Bool.{true, false, _&&_, true≢false, and-eq-true-iff}
+use mathlib.Core.Bool.{Bool, true, false, not, _&&_, true≢false, and-eq-true-iff}
+use mathlib.Core.List.{List, [], _∷_}
 use mathlib.Core.Path.{_≡_, sym, ap, ap₂, _∙_}
-use Prim.Native.Nat.{ℕ, _<_}
+use Prim.Native.Nat.{ℕ, _*_, _<_}
+use lib.Dec.{eqb}
 use lib.ListN.{length}
+use Rattle.marks.specs.Counting.{every}
 use Rattle.marks.proofs.Counts.{every-at, every-from}
 use Rattle.table.specs.declared.Table.{Table}
 use Rattle.table.specs.Reference.{fateOf, at}
@@ -13,10 +16,28 @@ use Rattle.table.specs.Check.{lawful}
 use Rattle.table.proofs.Lists.{length-tabulate, at-tabulate}
 use Rattle.table.proofs.Fates.{at-refs}
 use Rattle.table.proofs.Lawful.{lawful-rules, rules-lawful}
+use Rattle.buffer.specs.Refusals.{refusal, when}
 use Rattle.machine.specs.declared.Machine.{Machine}
+use Rattle.machine.specs.Program.{programFits}
 use Rattle.machine.specs.Window.{blankEntry, entryAt, reference}
+use Rattle.machine.specs.Calls.{like}
 use Rattle.machine.specs.Contract.{entryOf, plain, agree, Sound}
-use Rattle.machine.specs.Parts.{agreeing}
+
+-- the window agrees with the table at the first k positions
+abbrev pub agreeing : Machine → ℕ → Bool
+agreeing m k = every (λ (p : ℕ). agree (reference (entryOf m p)) (fateAt (m .table) (stageOf (m .table) p))) k
+
+-- the conditions 2, 3 and 4, in that order, of a call lent a memory of this length
+abbrev pub verdictOf : Machine → List ℕ → ℕ → ℕ
+verdictOf m program lent =
+    refusal
+    (when (not (lawful (m .table) && agreeing m (m .table .live))) 2 ∷ when (not (eqb lent (m .table .words))) 3
+    ∷ when
+    (not
+    (programFits program && eqb (length program) (4 * m .count)
+    && every (λ (p : ℕ). like program (m .count) (entryOf m p)) (m .table .live)))
+    4
+    ∷ [])
 
 -- the entries of the plain state, by position
 pub length-entries : (m : Machine) → length (plain m .entries) ≡ m .table .live

@@ -4,44 +4,36 @@ use mathlib.Core.Bool.{Bool, true, cond, not, _&&_}
 use mathlib.Core.List.{List, [], _∷_}
 use mathlib.Core.Option.{Option, none, some}
 use Prim.Native.Nat.{ℕ, zero, suc, _+_, _*_}
-use lib.Dec.{eqb, ltb}
+use lib.Dec.{eqb}
 use lib.Bits.{bitOr}
-use lib.ListN.{length, getD, set}
+use lib.ListN.{length, getD}
 use Rattle.marks.specs.Stages.{has}
 use Rattle.marks.specs.Circle.{stage}
 use Rattle.marks.specs.Counting.{every}
-use Rattle.table.specs.declared.Ticket.{Ticket}
 use Rattle.table.specs.Reference
 use Rattle.table.specs.Reference.{waiting, other, loaded, stored}
-use Rattle.table.specs.View.{fateAt, stageOf, tabulate}
+use Rattle.table.specs.View.{tabulate}
 use Rattle.table.specs.Limits.{rowsMost, rowsAll}
 use Rattle.table.specs.Bank.{bank}
-use Rattle.table.specs.Check.{marksOf, lawful}
-use Rattle.lookup.specs.Search.{find}
+use Rattle.table.specs.Check.{marksOf, lawfulBy}
+use Rattle.lookup.specs.declared.Mark.{Mark}
+use Rattle.lookup.specs.declared.Mark.the-variants as mark
+use Rattle.lookup.specs.declared.Mark.the-variants.{Absent}
+use Rattle.lookup.specs.Search.{find, forward, loadPlace, storePlace}
 use Rattle.buffer.specs.Refusals.{refusal, when}
-use Rattle.buffer.specs.Calls
 use Rattle.machine.specs.declared.Instruction.{Instruction}
 use Rattle.machine.specs.declared.Instruction.the-variants.{Add, Sum, Load, Store}
-use Rattle.machine.specs.declared.Fate.{Fate}
-use Rattle.machine.specs.declared.Fate.the-variants.{Executed}
 use Rattle.machine.specs.declared.Entry.{Entry}
-use Rattle.machine.specs.declared.Machine.{Machine}
 use Rattle.machine.specs.declared.Operand.{Operand}
 use Rattle.machine.specs.declared.Operand.the-variants.{Unknown, Known}
 use Rattle.machine.specs.declared.Action.{Action}
 use Rattle.machine.specs.declared.Action.the-variants as action
 use Rattle.machine.specs.declared.Wanted.{Wanted}
 use Rattle.machine.specs.declared.Wanted.the-variants as wanted
-use Rattle.table.specs.declared.Table.{Table}
-use Rattle.buffer.specs.declared.ExecuteAnswer as buffer-answer
-use Rattle.buffer.specs.declared.ExecuteAnswer.the-variants as buffer-answers
-use Rattle.machine.specs.declared.Squashed.the-variants as squashed
-use Rattle.machine.specs.declared.ExecuteAnswer.the-variants as execute-answer
-use Rattle.machine.specs.declared.ExecuteResult.{ExecuteResult}
+use Rattle.machine.specs.declared.Course.{Course}
 use Rattle.machine.specs.Program.{sum, programFits}
-use Rattle.machine.specs.Window.{blankEntry, became, reference}
+use Rattle.machine.specs.Window.{blankEntry, reference}
 use Rattle.machine.specs.Calls.{like}
-use Rattle.machine.specs.Contract.{entryOf, agree}
 
 -- the register that an instruction writes; 8 where it writes none
 abbrev pub destination : Instruction → ℕ
@@ -58,18 +50,6 @@ writer oldest stages destinations k p = find (λ (q : ℕ). eqb (getD destinatio
 abbrev pub asNumber : Operand → Option ℕ
 asNumber Unknown = none
 asNumber (Known v) = some v
-
--- what an instruction asks of the buffer, with its value: nothing, a load of an address, a store at an address
-abbrev pub asCall : Action → Ticket → Calls.Call
-asCall (action.Compute v) τ = Calls.executeOther τ
-asCall (action.LoadAt a) τ = Calls.executeLoad τ a
-asCall (action.StoreAt a v) τ = Calls.executeStore τ a v
-
--- the entry's fate after it, where a load took v
-abbrev pub fateAfter : Action → ℕ → Fate
-fateAfter (action.Compute x) v = Executed x 0
-fateAfter (action.LoadAt a) v = Executed v a
-fateAfter (action.StoreAt a x) v = Executed x a
 
 -- what an instruction with these operands asks
 abbrev pub actionOf : Instruction → ℕ → ℕ → Action
@@ -140,33 +120,45 @@ abbrev pub wantedBy : Wanted → Option Action
 wantedBy wanted.Unready = none
 wantedBy (wanted.Ready x) = some x
 
--- the window agrees with the table at the first k positions
-abbrev pub agreeing : Machine → ℕ → Bool
-agreeing m k = every (λ (p : ℕ). agree (reference (entryOf m p)) (fateAt (m .table) (stageOf (m .table) p))) k
-
--- the conditions 2, 3 and 4, in that order, of a call lent a memory of this length
-abbrev pub verdictOf : Machine → List ℕ → ℕ → ℕ
-verdictOf m program lent =
+-- the conditions 2, 3 and 4, in that order, of a machine with these parts and a call lent a memory of this length
+abbrev pub verdictBy : ℕ → ℕ → ℕ → ℕ → ℕ → ℕ → ℕ → List ℕ → List ℕ → List ℕ → List Entry → ℕ → List ℕ → ℕ → ℕ
+verdictBy banks rows stages words oldest live executed addresses loads stores window count program lent =
     refusal
-    (when (not (lawful (m .table) && agreeing m (m .table .live))) 2 ∷ when (not (eqb lent (m .table .words))) 3
+    (when
+    (not
+    (lawfulBy banks rows stages words oldest live executed addresses loads stores
+    && agreeingBy banks oldest stages executed addresses loads stores window live))
+    2
+    ∷ when (not (eqb lent words)) 3
     ∷ when
     (not
-    (programFits program && eqb (length program) (4 * m .count)
-    && every (λ (p : ℕ). like program (m .count) (entryOf m p)) (m .table .live)))
+    (programFits program && eqb (length program) (4 * count)
+    && every (λ (p : ℕ). like program count (getD window (stage oldest stages p) blankEntry)) live))
     4
     ∷ [])
 
--- the machine and answer after the buffer answered an execution of the entry at stage s
-abbrev pub settled : Machine → Table → ℕ → Action → buffer-answer.ExecuteAnswer → ExecuteResult
-settled m after s act (buffer-answers.Refused k) = record { answer = execute-answer.Refused k; machine = m }
-settled m after s act (buffer-answers.Executed v q) =
+-- what an action comes to at position p of a table with these parts, over this memory
+abbrev pub courseOf : ℕ → ℕ → ℕ → ℕ → ℕ → List ℕ → List ℕ → List ℕ → List ℕ → ℕ → List ℕ → Action → Course
+courseOf banks rows stages oldest live addresses loads stores values p memory (action.Compute v) =
+    record { mark = 0; row = 0; left = live; value = v; address = 0 }
+courseOf banks rows stages oldest live addresses loads stores values p memory (action.LoadAt a) =
+    let q = loadPlace oldest stages live rows addresses loads stores (bank banks a) a p in
     record {
-      answer = execute-answer.Executed v (cond (ltb (after .live) (m .table .live)) (squashed.From (after .live)) squashed.Nothing);
-      machine = record {
-        table = after;
-        window = set (m .window) s (became (getD (m .window) s blankEntry) (fateAfter act v));
-        registers = m .registers;
-        count = m .count;
-        next = cond (ltb (after .live) (m .table .live)) (entryOf m (after .live) .index) (m .next);
-      };
+      mark = 1;
+      row = q .row;
+      left = q .left;
+      value = forward oldest stages stores values (q .row) p (getD memory a 0);
+      address = a;
     }
+courseOf banks rows stages oldest live addresses loads stores values p memory (action.StoreAt a v) =
+    let q = storePlace oldest stages live rows addresses loads stores (bank banks a) a p in
+    record { mark = 2; row = q .row; left = q .left; value = v; address = a }
+
+-- the mark of the oldest stage, by what its entry is to the buffer; a store's word is what position 1 would load
+abbrev pub markBy : ℕ → ℕ → ℕ → ℕ → ℕ → List ℕ → List ℕ → List ℕ → List ℕ → Reference.Fate → Mark
+markBy banks rows stages oldest live addresses loads stores values waiting = Absent
+markBy banks rows stages oldest live addresses loads stores values other = Absent
+markBy banks rows stages oldest live addresses loads stores values (loaded a) = mark.Load a
+markBy banks rows stages oldest live addresses loads stores values (stored a v) =
+    let r = loadPlace oldest stages live rows addresses loads stores (bank banks a) a 0 .row in
+    mark.Store a (forward oldest stages stores values r 1 0)

@@ -2,16 +2,17 @@
 //
 // No public call requires anything: what it is given that breaks a rule it refuses, with the numbers of specs/Calls.antt, and
 // hands everything back as it was passed. Each contract is `Meets` (or `Opens`) of specs/Contract.antt. The program is lent to
-// each call. A call checks table, window, memory and program once, by `verdict`; the steps inside it require that they passed.
+// each call. A call checks table, window, memory and program once, by `verdict`, over lent arrays, and then changes the machine
+// that it was passed: functions on lent arrays and numbers find out what is to change.
+use lookup::Mark;
 use table::Table;
-use table::Ticket;
 ghost use mathlib.Core.Path.{_≡_};
 ghost use mathlib.Core.Bool.{true, false, cond};
 ghost use mathlib.Core.List.{List, [], _∷_, map};
 ghost use mathlib.Core.Option.{some};
 ghost use Prim.Native.Nat.{ℕ, _+_, _*_, _/_, _^_, _≤_, _<_};
 ghost use lib.ListN.{length, getD, set};
-ghost use lib.Dec.{ltb};
+ghost use lib.Dec.{eqb, ltb};
 ghost use lib.Seq.{sets};
 ghost use lib.Bits.{bitOr};
 ghost use Rattle.table.specs.Reference.{at};
@@ -19,9 +20,9 @@ ghost use Rattle.buffer.specs.Answers;
 ghost use Rattle.buffer.specs.Contract;
 ghost use Rattle.machine.specs.Program.{decoded, instructionAt, wellFormed, programFits, codeOf};
 ghost use Rattle.machine.specs.Window.{blankEntry, reference, held, with₂};
-ghost use Rattle.machine.specs.Calls.{refused, issue, execute, squash, commit, finish, dOf, sOf, immOf, same, like, waits, valueBy, addressBy, registersAfter, target, begun, ready};
+ghost use Rattle.machine.specs.Calls.{refused, issue, execute, squash, commit, finish, dOf, sOf, immOf, same, like, waits, valueBy, addressBy, registersAfter, target};
 ghost use Rattle.machine.specs.Contract.{doneSays, issueSays, executeSays, commitSays, finishSays, over, fresh, plain, Meets, Opens};
-ghost use Rattle.machine.specs.Parts.{destination, writer, asNumber, actionOf, second, verdictOf, kindOf, placeOf, markedStages, marksAt, agreesBy, agreeingBy, entriesOf, wantedBy};
+ghost use Rattle.machine.specs.Parts.{destination, writer, asNumber, actionOf, second, verdictBy, kindOf, placeOf, courseOf, markBy, markedStages, marksAt, agreesBy, agreeingBy, entriesOf, wantedBy};
 ghost use Rattle.machine.specs.declared.Entry.{Entry};
 ghost use Rattle.machine.specs.declared.Squashed.the-variants as squashed;
 ghost use Rattle.marks.specs.Circle.{stage};
@@ -416,29 +417,40 @@ fn window_agrees<'a>(
     same
 }
 
-// Which of the conditions 2, 3 and 4 holds first, of a call lent a memory of this length; 0: none.
-fn verdict(m: Machine, program: &[u32], lent: usize) -> u32
-    ensures { λ r. ⌜ r ≡ verdictOf m (now (program .entry)) lent ⌝ }
+// Which of the conditions 2, 3 and 4 holds first, of a machine with these parts and a call lent a memory of this length; 0:
+// none.
+fn verdict<'a>(
+    banks: usize,
+    rows: usize,
+    stages: usize,
+    words: usize,
+    oldest: usize,
+    live: usize,
+    executed: u32,
+    addresses: &'a [u32; 64],
+    loads: &'a [u32; 64],
+    stores: &'a [u32; 64],
+    window: [Entry; 16],
+    count: u32,
+    program: &[u32],
+    lent: usize,
+) -> u32
+    requires { ⌜ (length (now addresses) ≡ 64) × (length (now loads) ≡ 64) × (length (now stores) ≡ 64) ⌝ }
+    ensures { λ r. ⌜ r
+        ≡ verdictBy banks rows stages words oldest live executed (now (addresses .entry)) (now (loads .entry)) (now (stores .entry)) window
+        count (now (program .entry)) lent ⌝ }
 {
-    let banks = m.table.banks;
-    let stages = m.table.stages;
-    let words = m.table.words;
-    let oldest = m.table.oldest;
-    let live = m.table.live;
-    let executed = m.table.executed;
-    let window = m.window;
-    let count = m.count;
     if !table::keeps_rules(
         banks,
-        m.table.rows,
+        rows,
         stages,
         words,
         oldest,
         live,
         executed,
-        &m.table.addresses,
-        &m.table.loads,
-        &m.table.stores,
+        addresses,
+        loads,
+        stores,
     ) {
         return 2;
     }
@@ -448,9 +460,9 @@ fn verdict(m: Machine, program: &[u32], lent: usize) -> u32
         stages,
         live,
         executed,
-        &m.table.addresses,
-        &m.table.loads,
-        &m.table.stores,
+        addresses,
+        loads,
+        stores,
         window,
     ) {
         return 2;
@@ -656,25 +668,32 @@ pub fn open(
 }
 
 // Puts the next instruction in the next stage.
-pub fn issue(m: Machine, program: &[u32]) -> IssueResult
+pub fn issue(mut m: Machine, program: &[u32]) -> IssueResult
     ensures { λ r. ⌜ ((w : List ℕ) → Meets (now (program .entry)) m issue w (issueSays (r .answer)) (r .machine) w []) ⌝ }
 {
-    let t = m.table;
-    let why = verdict(m, program, t.words);
+    let window = m.window;
+    let why = verdict(
+        m.table.banks,
+        m.table.rows,
+        m.table.stages,
+        m.table.words,
+        m.table.oldest,
+        m.table.live,
+        m.table.executed,
+        &m.table.addresses,
+        &m.table.loads,
+        &m.table.stores,
+        window,
+        m.count,
+        program,
+        m.table.words,
+    );
     if why != 0 {
         return IssueResult {
             answer: IssueAnswer::Refused(why),
             machine: m,
         };
     }
-    issue_passed(m, program)
-}
-
-// The same of a machine and a program that passed the verdict.
-fn issue_passed(mut m: Machine, program: &[u32]) -> IssueResult
-    requires { ⌜ verdictOf m (now program) (m .table .words) ≡ 0 ⌝ }
-    ensures { λ r. ⌜ ((w : List ℕ) → Meets (now (program .entry)) m issue w (issueSays (r .answer)) (r .machine) w []) ⌝ }
-{
     let live = m.table.live;
     let oldest = m.table.oldest;
     let stages = m.table.stages;
@@ -718,44 +737,42 @@ fn set_number(a: &mut [u32; 16], i: usize, v: u32)
     a[i] = v;
 }
 
-fn set_word(a: &mut [u32; 64], i: usize, v: u32)
+// The same where `on`; a call without a condition of its own leaves one way to prove.
+fn set_word(a: &mut [u32; 64], on: bool, i: usize, v: u32)
     requires { ⌜ i < 64 ⌝ }
-    ensures { λ _. ⌜ now (a .exit) ≡ set (now (a .entry)) i v ⌝ }
+    ensures { λ _. ⌜ now (a .exit) ≡ cond on (set (now (a .entry)) i v) (now (a .entry)) ⌝ }
 {
-    a[i] = v;
+    if on {
+        a[i] = v;
+    }
 }
 
-fn set_value(a: &mut [u32; 1024], i: usize, v: u32)
+fn set_value(a: &mut [u32; 1024], on: bool, i: usize, v: u32)
     requires { ⌜ i < 1024 ⌝ }
-    ensures { λ _. ⌜ now (a .exit) ≡ set (now (a .entry)) i v ⌝ }
+    ensures { λ _. ⌜ now (a .exit) ≡ cond on (set (now (a .entry)) i v) (now (a .entry)) ⌝ }
 {
-    a[i] = v;
+    if on {
+        a[i] = v;
+    }
 }
 
-// Stage `s` joins the mark word of row `i`.
-fn add_mark(a: &mut [u32; 64], i: usize, s: usize)
+// Stage `s` joins the mark word of row `i`, where `on`.
+fn add_mark(a: &mut [u32; 64], on: bool, i: usize, s: usize)
     requires { ⌜ (i < 64) × (s < 32) ⌝ }
-    ensures { λ _. ⌜ now (a .exit) ≡ set (now (a .entry)) i (bitOr (getD (now (a .entry)) i 0) (2 ^ s)) ⌝ }
+    ensures { λ _. ⌜ now (a .exit) ≡ cond on (set (now (a .entry)) i (bitOr (getD (now (a .entry)) i 0) (2 ^ s))) (now (a .entry)) ⌝ }
 {
-    let w = a[i];
-    a[i] = marks::including(w, s);
+    if on {
+        let w = a[i];
+        a[i] = marks::including(w, s);
+    }
 }
 
-// The index that issue goes on with where `left` of `live` entries stay.
-fn next_after(
-    window: [Entry; 16],
-    oldest: usize,
-    stages: usize,
-    live: usize,
-    left: usize,
-    next: u32,
-) -> u32
-    requires { ⌜ (oldest < stages) × (live ≤ stages) × (stages ≤ 16) ⌝ }
-    ensures { λ r. ⌜ r ≡ cond (ltb left live) (getD window (stage oldest stages left) blankEntry .index) next ⌝ }
+// The index that issue goes on with where `left` of `live` entries stay and the first that does not has this index.
+fn next_after(index: u32, live: usize, left: usize, next: u32) -> u32
+    ensures { λ r. ⌜ r ≡ cond (ltb left live) index next ⌝ }
 {
     if left < live {
-        let f = window[marks::stage_at(oldest, stages, left)];
-        return f.index;
+        return index;
     }
     next
 }
@@ -770,27 +787,140 @@ fn squashed_at(live: usize, left: usize) -> Squashed
     Squashed::Nothing
 }
 
+// What an execution comes to: its mark (0 none, 1 a load's, 2 a store's) and the row, how many entries stay, and the entry's
+// value and address. None stay where it stalls.
+pub struct Course {
+    pub mark: u32,
+    pub row: usize,
+    pub left: usize,
+    pub value: u32,
+    pub address: u32,
+}
+
+// What the action comes to at position `p`.
+fn course_of<'a>(
+    banks: usize,
+    rows: usize,
+    stages: usize,
+    oldest: usize,
+    live: usize,
+    addresses: &'a [u32; 64],
+    loads: &'a [u32; 64],
+    stores: &'a [u32; 64],
+    values: &'a [u32; 1024],
+    p: usize,
+    action: Action,
+    memory: &[u32],
+) -> Course
+    requires { ⌜ (0 < banks) × (banks ≤ 8) × (0 < rows) × (rows ≤ 8) × (oldest < stages) × (live ≤ stages) × (stages ≤ 16) × (p < live) ⌝ }
+    requires { ⌜ (length (now addresses) ≡ 64) × (length (now loads) ≡ 64) × (length (now stores) ≡ 64) × (length (now values) ≡ 1024) ⌝ }
+    ensures { λ r. ⌜ r
+        ≡ courseOf banks rows stages oldest live (now (addresses .entry)) (now (loads .entry)) (now (stores .entry)) (now (values .entry)) p
+        (now (memory .entry)) action ⌝ }
+{
+    match action {
+        Action::Compute(v) => Course {
+            mark: 0,
+            row: 0,
+            left: live,
+            value: v,
+            address: 0,
+        },
+        Action::LoadAt(a) => {
+            let b = table::bank_of(banks, a);
+            let place = lookup::load_place(
+                oldest,
+                stages,
+                live,
+                rows,
+                addresses,
+                loads,
+                stores,
+                b,
+                a,
+                p,
+            );
+            let r = place.row;
+            let v = lookup::forwarded(
+                oldest,
+                stages,
+                stores,
+                values,
+                r,
+                p,
+                lookup::word(memory, a),
+            );
+            Course {
+                mark: 1,
+                row: r,
+                left: place.left,
+                value: v,
+                address: a,
+            }
+        }
+        Action::StoreAt(a, v) => {
+            let b = table::bank_of(banks, a);
+            let place = lookup::store_place(
+                oldest,
+                stages,
+                live,
+                rows,
+                addresses,
+                loads,
+                stores,
+                b,
+                a,
+                p,
+            );
+            Course {
+                mark: 2,
+                row: place.row,
+                left: place.left,
+                value: v,
+                address: a,
+            }
+        }
+    }
+}
+
+// The value that an execution answers: a load's, else 0.
+fn told(mark: u32, value: u32) -> u32
+    ensures { λ r. ⌜ r ≡ cond (eqb mark 1) value 0 ⌝ }
+{
+    if mark == 1 {
+        return value;
+    }
+    0
+}
+
 // Executes the entry at position `p`.
-pub fn execute(m: Machine, program: &[u32], p: usize, memory: &[u32]) -> ExecuteResult
+pub fn execute(mut m: Machine, program: &[u32], p: usize, memory: &[u32]) -> ExecuteResult
     ensures { λ r. ⌜ Meets (now (program .entry)) m (execute p) (now (memory .entry)) (executeSays (r .answer)) (r .machine)
         (now (memory .entry)) [] ⌝ }
 {
-    let why = verdict(m, program, memory.len());
+    let window = m.window;
+    let why = verdict(
+        m.table.banks,
+        m.table.rows,
+        m.table.stages,
+        m.table.words,
+        m.table.oldest,
+        m.table.live,
+        m.table.executed,
+        &m.table.addresses,
+        &m.table.loads,
+        &m.table.stores,
+        window,
+        m.count,
+        program,
+        memory.len(),
+    );
     if why != 0 {
         return ExecuteResult {
             answer: ExecuteAnswer::Refused(why),
             machine: m,
         };
     }
-    execute_passed(m, program, p, memory)
-}
-
-// The same of a machine, a program and a memory that passed the verdict.
-fn execute_passed(mut m: Machine, program: &[u32], p: usize, memory: &[u32]) -> ExecuteResult
-    requires { ⌜ verdictOf m (now program) (length (now memory)) ≡ 0 ⌝ }
-    ensures { λ r. ⌜ Meets (now (program .entry)) m (execute p) (now (memory .entry)) (executeSays (r .answer)) (r .machine)
-        (now (memory .entry)) [] ⌝ }
-{
     let live = m.table.live;
     let oldest = m.table.oldest;
     let stages = m.table.stages;
@@ -802,7 +932,6 @@ fn execute_passed(mut m: Machine, program: &[u32], p: usize, memory: &[u32]) -> 
         };
     }
     let s = marks::stage_at(oldest, stages, p);
-    let window = m.window;
     let e = window[s];
     if !is_waiting(e) {
         return ExecuteResult {
@@ -819,156 +948,167 @@ fn execute_passed(mut m: Machine, program: &[u32], p: usize, memory: &[u32]) -> 
             machine: m,
         };
     };
-    match action {
-        Action::Compute(v) => {
-            m.table.executed = marks::including(executed, s);
-            m.window[s] = Entry {
-                instruction,
-                index: e.index,
-                fate: Fate::Executed(v, 0),
-            };
-            ExecuteResult {
-                answer: ExecuteAnswer::Executed(0, Squashed::Nothing),
-                machine: m,
-            }
-        }
-        Action::LoadAt(a) => {
-            let b = table::bank_of(m.table.banks, a);
-            let place = lookup::load_place(
-                oldest,
-                stages,
-                live,
-                m.table.rows,
-                &m.table.addresses,
-                &m.table.loads,
-                &m.table.stores,
-                b,
-                a,
-                p,
-            );
-            let left = place.left;
-            let r = place.row;
-            if left == 0 {
-                return ExecuteResult {
-                    answer: ExecuteAnswer::Refused(10),
-                    machine: m,
-                };
-            }
-            let v = lookup::forwarded(
-                oldest,
-                stages,
-                &m.table.stores,
-                &m.table.values,
-                r,
-                p,
-                lookup::word(memory, a),
-            );
-            window::cut(&mut m.table.loads, oldest, stages, live, left);
-            window::cut(&mut m.table.stores, oldest, stages, live, left);
-            m.table.live = left;
-            m.table.executed = marks::including(executed, s);
-            set_word(&mut m.table.addresses, r, a);
-            add_mark(&mut m.table.loads, r, s);
-            m.window[s] = Entry {
-                instruction,
-                index: e.index,
-                fate: Fate::Executed(v, a),
-            };
-            m.next = next_after(window, oldest, stages, live, left, m.next);
-            ExecuteResult {
-                answer: ExecuteAnswer::Executed(v, squashed_at(live, left)),
-                machine: m,
-            }
-        }
-        Action::StoreAt(a, v) => {
-            let b = table::bank_of(m.table.banks, a);
-            let place = lookup::store_place(
-                oldest,
-                stages,
-                live,
-                m.table.rows,
-                &m.table.addresses,
-                &m.table.loads,
-                &m.table.stores,
-                b,
-                a,
-                p,
-            );
-            let left = place.left;
-            let r = place.row;
-            if left == 0 {
-                return ExecuteResult {
-                    answer: ExecuteAnswer::Refused(10),
-                    machine: m,
-                };
-            }
-            window::cut(&mut m.table.loads, oldest, stages, live, left);
-            window::cut(&mut m.table.stores, oldest, stages, live, left);
-            m.table.live = left;
-            m.table.executed = marks::including(executed, s);
-            set_word(&mut m.table.addresses, r, a);
-            add_mark(&mut m.table.stores, r, s);
-            set_value(&mut m.table.values, r * 16 + s, v);
-            m.window[s] = Entry {
-                instruction,
-                index: e.index,
-                fate: Fate::Executed(v, a),
-            };
-            m.next = next_after(window, oldest, stages, live, left, m.next);
-            ExecuteResult {
-                answer: ExecuteAnswer::Executed(0, squashed_at(live, left)),
-                machine: m,
-            }
-        }
+    let course = course_of(
+        m.table.banks,
+        m.table.rows,
+        stages,
+        oldest,
+        live,
+        &m.table.addresses,
+        &m.table.loads,
+        &m.table.stores,
+        &m.table.values,
+        p,
+        action,
+        memory,
+    );
+    let mark = course.mark;
+    let r = course.row;
+    let left = course.left;
+    let v = course.value;
+    let a = course.address;
+    if left == 0 {
+        return ExecuteResult {
+            answer: ExecuteAnswer::Refused(10),
+            machine: m,
+        };
+    }
+    window::cut(&mut m.table.loads, oldest, stages, live, left);
+    window::cut(&mut m.table.stores, oldest, stages, live, left);
+    m.table.live = left;
+    m.table.executed = marks::including(executed, s);
+    set_word(&mut m.table.addresses, mark != 0, r, a);
+    add_mark(&mut m.table.loads, mark == 1, r, s);
+    add_mark(&mut m.table.stores, mark == 2, r, s);
+    set_value(&mut m.table.values, mark == 2, r * 16 + s, v);
+    m.window[s] = Entry {
+        instruction,
+        index: e.index,
+        fate: Fate::Executed(v, a),
+    };
+    let f = window[marks::stage_at(oldest, stages, left)];
+    m.next = next_after(f.index, live, left, m.next);
+    ExecuteResult {
+        answer: ExecuteAnswer::Executed(told(mark, v), squashed_at(live, left)),
+        machine: m,
     }
 }
 
 // Drops the entry at position `p` and everything younger; issue goes on there.
-pub fn squash(m: Machine, program: &[u32], p: usize) -> DoneResult
+pub fn squash(mut m: Machine, program: &[u32], p: usize) -> DoneResult
     ensures { λ r. ⌜ ((w : List ℕ) → Meets (now (program .entry)) m (squash p) w (doneSays (r .answer)) (r .machine) w []) ⌝ }
 {
-    let t = m.table;
-    let why = verdict(m, program, t.words);
+    let window = m.window;
+    let why = verdict(
+        m.table.banks,
+        m.table.rows,
+        m.table.stages,
+        m.table.words,
+        m.table.oldest,
+        m.table.live,
+        m.table.executed,
+        &m.table.addresses,
+        &m.table.loads,
+        &m.table.stores,
+        window,
+        m.count,
+        program,
+        m.table.words,
+    );
     if why != 0 {
         return DoneResult {
             answer: DoneAnswer::Refused(why),
             machine: m,
         };
     }
-    if p >= t.live {
+    let live = m.table.live;
+    let oldest = m.table.oldest;
+    let stages = m.table.stages;
+    if p >= live {
         return DoneResult {
             answer: DoneAnswer::Refused(7),
             machine: m,
         };
     }
-    let s = marks::stage_at(t.oldest, t.stages, p);
-    let window = m.window;
-    let e = window[s];
-    let number = t.numbers[s];
-    let squashed = buffer::squash_step(t, Ticket { stage: s, number });
-    let after = squashed.table;
-    let mut n = m;
-    n.table = after;
-    n.next = e.index;
+    let e = window[marks::stage_at(oldest, stages, p)];
+    window::cut(&mut m.table.loads, oldest, stages, live, p);
+    window::cut(&mut m.table.stores, oldest, stages, live, p);
+    m.table.live = p;
+    m.next = e.index;
     DoneResult {
         answer: DoneAnswer::Done,
-        machine: n,
+        machine: m,
     }
 }
 
-// The registers after the commit of an instruction with value `v`.
-fn registers_after(registers: [u32; 8], i: Instruction, v: u32) -> [u32; 8]
-    ensures { λ r. ⌜ r ≡ registersAfter registers i v ⌝ }
+// What register `k` holds.
+fn register(registers: &[u32; 8], k: u32) -> u32
+    requires { ⌜ (k < 8) × (length (now registers) ≡ 8) ⌝ }
+    ensures { λ r. ⌜ r ≡ getD (now (registers .entry)) k 0 ⌝ }
+{
+    registers[k as usize]
+}
+
+// The commit of an instruction with value `v` to the registers.
+fn write_register(registers: &mut [u32; 8], i: Instruction, v: u32)
+    requires { ⌜ length (now registers) ≡ 8 ⌝ }
+    ensures { λ r. ⌜ now (registers .exit) ≡ registersAfter (now (registers .entry)) i v ⌝ }
 {
     let d = destination_of(i);
-    let mut after = registers;
     if d < 8 {
-        after[d as usize] = v;
+        registers[d as usize] = v;
     }
-    after
 }
 
-// The value and the address of an entry.
+// What the marks of the oldest stage say, told by its entry `e`, which has executed and agrees with the table. Only a store's
+// word is looked up: the next reference would load it.
+fn oldest_mark<'a>(
+    banks: usize,
+    rows: usize,
+    stages: usize,
+    oldest: usize,
+    live: usize,
+    addresses: &'a [u32; 64],
+    loads: &'a [u32; 64],
+    stores: &'a [u32; 64],
+    values: &'a [u32; 1024],
+    e: Entry,
+) -> Mark
+    requires { ⌜ (0 < banks) × (banks ≤ 8) × (0 < rows) × (rows ≤ 8) × (oldest < stages) × (live ≤ stages) × (stages ≤ 16) ⌝ }
+    requires { ⌜ (length (now addresses) ≡ 64) × (length (now loads) ≡ 64) × (length (now stores) ≡ 64) × (length (now values) ≡ 1024) ⌝ }
+    ensures { λ r. ⌜ r
+        ≡ markBy banks rows stages oldest live (now (addresses .entry)) (now (loads .entry)) (now (stores .entry)) (now (values .entry))
+        (reference e) ⌝ }
+{
+    let kind = entry_kind(e);
+    let a = entry_place(e);
+    if kind == 1 {
+        return Mark::Load(a);
+    }
+    if kind == 2 {
+        let b = table::bank_of(banks, a);
+        let place = lookup::load_place(
+            oldest,
+            stages,
+            live,
+            rows,
+            addresses,
+            loads,
+            stores,
+            b,
+            a,
+            0,
+        );
+        let r = place.row;
+        return Mark::Store(
+            a,
+            lookup::forwarded(oldest, stages, stores, values, r, 1, 0),
+        );
+    }
+    Mark::Absent
+}
+
+// The value of an entry.
 fn value_of(e: Entry) -> u32
     ensures { λ r. ⌜ r ≡ valueBy (e .fate) ⌝ }
 {
@@ -997,26 +1137,33 @@ fn target_of(e: Entry) -> u32
 }
 
 // Commits the oldest entry: its register, or for S its memory word, takes the value.
-pub fn commit(m: Machine, program: &[u32], memory: &mut [u32]) -> CommitResult
+pub fn commit(mut m: Machine, program: &[u32], memory: &mut [u32]) -> CommitResult
     ensures { λ r. ⌜ Meets (now (program .entry)) m commit (now (memory .entry)) (commitSays (r .answer)) (r .machine)
         (now (memory .exit)) [] ⌝ }
 {
-    let why = verdict(m, program, memory.len());
+    let window = m.window;
+    let why = verdict(
+        m.table.banks,
+        m.table.rows,
+        m.table.stages,
+        m.table.words,
+        m.table.oldest,
+        m.table.live,
+        m.table.executed,
+        &m.table.addresses,
+        &m.table.loads,
+        &m.table.stores,
+        window,
+        m.count,
+        program,
+        memory.len(),
+    );
     if why != 0 {
         return CommitResult {
             answer: CommitAnswer::Refused(why),
             machine: m,
         };
     }
-    commit_passed(m, program, memory)
-}
-
-// The same of a machine, a program and a memory that passed the verdict.
-fn commit_passed(mut m: Machine, program: &[u32], memory: &mut [u32]) -> CommitResult
-    requires { ⌜ verdictOf m (now program) (length (now memory)) ≡ 0 ⌝ }
-    ensures { λ r. ⌜ Meets (now (program .entry)) m commit (now (memory .entry)) (commitSays (r .answer)) (r .machine)
-        (now (memory .exit)) [] ⌝ }
-{
     let live = m.table.live;
     let oldest = m.table.oldest;
     let stages = m.table.stages;
@@ -1033,12 +1180,18 @@ fn commit_passed(mut m: Machine, program: &[u32], memory: &mut [u32]) -> CommitR
             machine: m,
         };
     }
-    let mark = lookup::mark_at(
+    let e = window[oldest];
+    let mark = oldest_mark(
+        m.table.banks,
+        m.table.rows,
+        stages,
+        oldest,
+        live,
         &m.table.addresses,
         &m.table.loads,
         &m.table.stores,
         &m.table.values,
-        oldest,
+        e,
     );
     if buffer::mark_faults(mark, m.table.words) {
         return CommitResult {
@@ -1047,8 +1200,6 @@ fn commit_passed(mut m: Machine, program: &[u32], memory: &mut [u32]) -> CommitR
         };
     }
     buffer::write_back(memory, mark);
-    let window = m.window;
-    let e = window[oldest];
     let i = e.instruction;
     let v = value_of(e);
     let first = marks::stage_at(oldest, stages, 1);
@@ -1057,44 +1208,11 @@ fn commit_passed(mut m: Machine, program: &[u32], memory: &mut [u32]) -> CommitR
     m.table.live = live - 1;
     window::keep(&mut m.table.loads, stay);
     window::keep(&mut m.table.stores, stay);
-    let held = m.registers;
-    m.registers = registers_after(held, i, v);
+    write_register(&mut m.registers, i, v);
     CommitResult {
         answer: CommitAnswer::Committed(e.index, code_of(i), target_of(e), v),
         machine: m,
     }
-}
-
-// The oldest issued where the window is empty.
-fn begin(m: Machine, program: &[u32]) -> Machine
-    requires { ⌜ verdictOf m (now program) (m .table .words) ≡ 0 ⌝ }
-    ensures { λ r. ⌜ (verdictOf r (now (program .entry)) (m .table .words) ≡ 0)
-        × ((w : List ℕ) → plain r ≡ begun (now (program .entry)) (plain m) w) ⌝ }
-{
-    let t = m.table;
-    if t.live != 0 {
-        return m;
-    }
-    let issued = issue_passed(m, program);
-    issued.machine
-}
-
-// The oldest on its way to its commit: issued where the window is empty, executed where it waits.
-fn make_ready(m: Machine, program: &[u32], memory: &[u32]) -> Machine
-    requires { ⌜ verdictOf m (now program) (length (now memory)) ≡ 0 ⌝ }
-    ensures { λ r. ⌜ (verdictOf r (now (program .entry)) (length (now (memory .entry))) ≡ 0)
-        × (plain r ≡ ready (now (program .entry)) (plain m) (now (memory .entry))) ⌝ }
-{
-    let n = begin(m, program);
-    let t = n.table;
-    let oldest = t.oldest;
-    let window = n.window;
-    let e = window[oldest];
-    if is_waiting(e) {
-        let ran = execute_passed(n, program, 0, memory);
-        return ran.machine;
-    }
-    n
 }
 
 // Four numbers from place `at` of the list on.
@@ -1110,8 +1228,11 @@ fn put(list: &mut [u32], at: usize, i: u32, c: u32, r: u32, v: u32)
 
 // Takes the oldest to its commit again and again, until `k` commits, fewer than four places left in the list, the end of the
 // program, or a fault. Each commit's four numbers go to the list.
+//
+// The steps of `issue`, `execute` and `commit` at the oldest stand here once more, in place: a function for each would copy
+// the machine.
 pub fn finish(
-    m: Machine,
+    mut m: Machine,
     program: &[u32],
     k: u32,
     memory: &mut [u32],
@@ -1120,7 +1241,23 @@ pub fn finish(
     ensures { λ r. ⌜ Meets (now (program .entry)) m (finish k (now (list .entry))) (now (memory .entry)) (finishSays (r .answer)) (r .machine)
         (now (memory .exit)) (now (list .exit)) ⌝ }
 {
-    let why = verdict(m, program, memory.len());
+    let window = m.window;
+    let why = verdict(
+        m.table.banks,
+        m.table.rows,
+        m.table.stages,
+        m.table.words,
+        m.table.oldest,
+        m.table.live,
+        m.table.executed,
+        &m.table.addresses,
+        &m.table.loads,
+        &m.table.stores,
+        window,
+        m.count,
+        program,
+        memory.len(),
+    );
     if why != 0 {
         return FinishResult {
             answer: FinishAnswer::Refused(why),
@@ -1128,42 +1265,113 @@ pub fn finish(
         };
     }
     let limit = k as usize;
-    let mut state = m;
     let mut n: usize = 0;
     while n < limit {
         if list.len() - n * 4 < 4 {
             return FinishResult {
                 answer: FinishAnswer::Finished(n),
-                machine: state,
+                machine: m,
             };
         }
-        let t = state.table;
-        if (t.live == 0) & (state.count <= state.next) {
+        let oldest = m.table.oldest;
+        let stages = m.table.stages;
+        let next = m.next;
+        if (m.table.live == 0) & (m.count <= next) {
             return FinishResult {
                 answer: FinishAnswer::Finished(n),
-                machine: state,
+                machine: m,
             };
         }
-        let prepared = make_ready(state, program, memory);
-        let out = commit_passed(prepared, program, memory);
-        let said = out.answer;
-        let after = out.machine;
-        state = after;
-        match said {
-            CommitAnswer::Refused(_) => {
-                return FinishResult {
-                    answer: FinishAnswer::Finished(n),
-                    machine: state,
-                };
-            }
-            CommitAnswer::Committed(i, c, r, v) => {
-                put(list, n * 4, i, c, r, v);
-                n += 1;
-            }
+        if m.table.live == 0 {
+            let number = m.table.next;
+            m.table.live = 1;
+            m.table.next = std::num::wrapping_add_u32(number, 1);
+            m.table.executed = 0;
+            set_number(&mut m.table.numbers, oldest, number);
+            m.window[oldest] = Entry {
+                instruction: instruction_at(program, next as usize),
+                index: next,
+                fate: Fate::Waiting,
+            };
+            m.next = next + 1;
         }
+        let e = m.window[oldest];
+        if is_waiting(e) {
+            let live = m.table.live;
+            let executed = m.table.executed;
+            let instruction = e.instruction;
+            let x = register(&m.registers, s_of(instruction));
+            let y = register(&m.registers, second_of(instruction));
+            let course = course_of(
+                m.table.banks,
+                m.table.rows,
+                stages,
+                oldest,
+                live,
+                &m.table.addresses,
+                &m.table.loads,
+                &m.table.stores,
+                &m.table.values,
+                0,
+                action_of(instruction, x, y),
+                memory,
+            );
+            let mark = course.mark;
+            let r = course.row;
+            let left = course.left;
+            let v = course.value;
+            let a = course.address;
+            window::cut(&mut m.table.loads, oldest, stages, live, left);
+            window::cut(&mut m.table.stores, oldest, stages, live, left);
+            m.table.live = left;
+            m.table.executed = marks::including(executed, oldest);
+            set_word(&mut m.table.addresses, mark != 0, r, a);
+            add_mark(&mut m.table.loads, mark == 1, r, oldest);
+            add_mark(&mut m.table.stores, mark == 2, r, oldest);
+            set_value(&mut m.table.values, mark == 2, r * 16 + oldest, v);
+            let f = m.window[marks::stage_at(oldest, stages, left)];
+            m.window[oldest] = Entry {
+                instruction,
+                index: e.index,
+                fate: Fate::Executed(v, a),
+            };
+            m.next = next_after(f.index, live, left, m.next);
+        }
+        let live = m.table.live;
+        let done = m.window[oldest];
+        let mark = oldest_mark(
+            m.table.banks,
+            m.table.rows,
+            stages,
+            oldest,
+            live,
+            &m.table.addresses,
+            &m.table.loads,
+            &m.table.stores,
+            &m.table.values,
+            done,
+        );
+        if buffer::mark_faults(mark, m.table.words) {
+            return FinishResult {
+                answer: FinishAnswer::Finished(n),
+                machine: m,
+            };
+        }
+        buffer::write_back(memory, mark);
+        let i = done.instruction;
+        let v = value_of(done);
+        let first = marks::stage_at(oldest, stages, 1);
+        let stay = marks::first_stages(first, stages, live - 1);
+        m.table.oldest = first;
+        m.table.live = live - 1;
+        window::keep(&mut m.table.loads, stay);
+        window::keep(&mut m.table.stores, stay);
+        write_register(&mut m.registers, i, v);
+        put(list, n * 4, done.index, code_of(i), target_of(done), v);
+        n += 1;
     }
     FinishResult {
         answer: FinishAnswer::Finished(n),
-        machine: state,
+        machine: m,
     }
 }

@@ -2,8 +2,8 @@
 //
 // Inner crate: the calls are in the crate `buffer`. The check runs over lent arrays, so that a call copies no table for it.
 ghost use mathlib.Core.Path.{_≡_};
-ghost use Prim.Native.Nat.{_<_};
-ghost use lib.ListN.{length};
+ghost use Prim.Native.Nat.{_+_, _*_, _<_};
+ghost use lib.ListN.{length, drop};
 ghost use Rattle.marks.specs.Counting.{every};
 ghost use Rattle.table.specs.Limits.{sizesFit};
 ghost use Rattle.table.specs.Bank.{bank};
@@ -173,7 +173,50 @@ pub fn row_fits<'a>(
     own & address_alone(addresses, loads, stores, r / 8, address, r % 8)
 }
 
-// Whether every row is free or keeps the rules.
+// The stages that bear a mark in bank `b`.
+pub fn bank_marks<'a>(loads: &'a [u32; 64], stores: &'a [u32; 64], b: usize) -> u32
+    requires { ⌜ (b < 8) × (length (now loads) ≡ 64) × (length (now stores) ≡ 64) ⌝ }
+    ensures { λ r. ⌜ r ≡ taken (drop (b * 8) (now (loads .entry))) (drop (b * 8) (now (stores .entry))) 8 ⌝ }
+{
+    let mut all: u32 = 0;
+    let mut i = 0;
+    while i < 8 {
+        let r = b * 8 + i;
+        all = all | (loads[r] | stores[r]);
+        i += 1;
+    }
+    all
+}
+
+// Whether every row of bank `b` is free or keeps the rules, given the stages that the rows before the bank have marked.
+pub fn bank_fits<'a>(
+    banks: usize,
+    rows: usize,
+    allowed: u32,
+    before: u32,
+    addresses: &'a [u32; 64],
+    loads: &'a [u32; 64],
+    stores: &'a [u32; 64],
+    b: usize,
+) -> bool
+    requires { ⌜ (b < 8) × (0 < banks) × (before ≡ taken (now loads) (now stores) (b * 8)) ⌝ }
+    requires { ⌜ (length (now addresses) ≡ 64) × (length (now loads) ≡ 64) × (length (now stores) ≡ 64) ⌝ }
+    ensures { λ t. ⌜ t
+        ≡ every (λ i. rowFits banks rows allowed (now (addresses .entry)) (now (loads .entry)) (now (stores .entry)) (b * 8 + i)) 8 ⌝ }
+{
+    let mut fit = true;
+    let mut marked = before;
+    let mut i = 0;
+    while i < 8 {
+        let r = b * 8 + i;
+        fit = fit & row_fits(banks, rows, allowed, marked, addresses, loads, stores, r);
+        marked = marked | (loads[r] | stores[r]);
+        i += 1;
+    }
+    fit
+}
+
+// Whether every row is free or keeps the rules. The rows of a bank without marks are free, and none of them is checked.
 pub fn rows_fit<'a>(
     banks: usize,
     rows: usize,
@@ -188,11 +231,14 @@ pub fn rows_fit<'a>(
 {
     let mut fit = true;
     let mut before: u32 = 0;
-    let mut r = 0;
-    while r < 64 {
-        fit = fit & row_fits(banks, rows, allowed, before, addresses, loads, stores, r);
-        before = before | (loads[r] | stores[r]);
-        r += 1;
+    let mut b = 0;
+    while b < 8 {
+        let used = bank_marks(loads, stores, b);
+        if used != 0 {
+            fit = fit & bank_fits(banks, rows, allowed, before, addresses, loads, stores, b);
+        }
+        before = before | used;
+        b += 1;
     }
     fit
 }

@@ -15,17 +15,11 @@ use lib.Dec.{eqb, leb}
 use lib.ListN.{length, getD, take, drop, set, length-append, length-take, length-drop, length-set}
 use lib.Seq.{take-set-lt}
 use borrow.Author.Tests.{leb-false, eqb-true, eqb-false, not-false, lt-ltb, lt-leb, eq-eqb, ne-eqb}
-use Rattle.table.specs.Bank.{bank}
 use Rattle.table.specs.Limits.{sizesFit}
 use Rattle.table.specs.Reference
-use Rattle.table.specs.Reference.{waiting, other, loaded, stored, Ref, ref, numberOf, fateOf, at, State}
+use Rattle.table.specs.Reference.{waiting, other, loaded, stored, Ref, ref, numberOf, fateOf, at}
 use Rattle.table.proofs.Sizes.{Sizes, sizes}
 use Rattle.lookup.specs.Forwarding.{seen}
-use Rattle.lookup.specs.Outcome.{room, leaves}
-use Rattle.lookup.specs.Rows.{touched}
-use Rattle.lookup.specs.Violation.{checked}
-use Rattle.lookup.proofs.Violations.{checked-after}
-use Rattle.lookup.proofs.Firsts.{never-stalls}
 use Rattle.buffer.specs.Refusals.{when, refusal, faults}
 use Rattle.buffer.specs.Calls.{written}
 use Rattle.machine.specs.declared.Instruction.{Instruction}
@@ -39,6 +33,7 @@ use Rattle.machine.specs.Calls
 use Rattle.machine.specs.Calls.{Plain, waits, dOf, sOf, immOf, same, like, programCheck, issues, coming}
 use Rattle.machine.specs.Calls.{known, unknown, stay, executions, squashes, commits, openChecks, opened}
 use Rattle.machine.specs.Calls.{issueChecks, executeChecks, commitChecks}
+use Rattle.machine.proofs.Preparing.{oldest-leaves}
 use Rattle.theorem.proofs.Core.{issuing, executing, squashing, committing}
 use Rattle.theorem.proofs.Paired.{Each, each-next, each-take, each-drop, each-set, Fated, seen-paired, owed}
 use Rattle.theorem.proofs.Linked.{steps-quiet, judged-links, passes, program-passes, lent-passes}
@@ -266,22 +261,6 @@ unfolding held
 oldest-comes X memory =
     all-known (entryAt (X .entries) 0 .instruction) (λ (k : ℕ). getD (X .registers) k 0)
     (λ (a : ℕ). seen (take 0 (X .buffer .refs)) a (getD memory a 0))
-
--- the oldest, where it waits, never stalls
-oldest-leaves : (P : State) → 0 < P .rows → 0 < length (P .refs) → fateOf (at (P .refs) 0) ≡ waiting
-    → (f : Reference.Fate) → leaves P 0 f ≡ 0 → ⊥
-oldest-leaves P rows live w waiting z = omega arith
-oldest-leaves P rows live w other z = omega arith
-oldest-leaves P rows live w (loaded a) z = go (touched a (P .refs)) z
-  where
-    go : (t : Bool) → cond t (length (P .refs)) (room P 0 (bank (P .banks) a)) ≡ 0 → ⊥
-    go true y = omega arith
-    go false y = never-stalls P (bank (P .banks) a) rows live w y
-oldest-leaves P rows live w (stored a v) z = go (touched a (P .refs)) z
-  where
-    go : (t : Bool) → cond t (checked P 0 a) (room P 0 (bank (P .banks) a)) ≡ 0 → ⊥
-    go true y = omega (arith, checked-after P 0 a live)
-    go false y = never-stalls P (bank (P .banks) a) rows live w y
 
 module _ (program : List ℕ) (X : Plain) (memory : List ℕ) (linked : Linked program X memory) where
   abbrev size : Sizes (X .buffer .banks) (X .buffer .rows) (X .buffer .stages) (X .buffer .words)

@@ -1,5 +1,5 @@
--- `machine::add_mark` meets its contract: the row is in the array, and the word is the one `marks::including` gives.
--- Assumes nothing.
+-- `machine::add_mark` meets its contract: the row is in the array, and where the flag is on the word is the one
+-- `marks::including` gives. Assumes nothing.
 use borrow.Author.Needs.{needs}
 use Rattle.machine.proofs.add_mark.Statement.{statement}
 use Rattle.machine.proofs.add_mark.Tie as tie
@@ -20,8 +20,12 @@ element-write-a : tie.Need-element-write-a
 element-write-a c = search needs
 
 returns : tie.Need-returns
-returns c = rw (c .including .ensures)
+returns c = rw (c .before .before .if1 .taken, c .including .ensures)
+
+returns-2 : tie.Need-returns-2
+returns-2 c = search needs
 
 pub add-mark-spec : {M : Type 1} → statement M
 add-mark-spec =
-    tie.close (tie.spec mul-w element-copy-out-w including-requires mul-a element-write-a returns)
+    tie.close
+    (tie.spec mul-w element-copy-out-w including-requires mul-a element-write-a returns returns-2)

@@ -1,60 +1,69 @@
--- `machine::verdict` meets its contract: each early return is a test of the definition that fails where those before it
--- passed, and past the last all have passed. Assumes nothing.
+-- `machine::verdict` meets its contract: each early return is a test of the definition that fails where those before
+-- it passed, and past the last all have passed. A table of the parts keeps the rules where the first test passes,
+-- which gives the bounds that the later ones require. Assumes nothing.
 use mathlib.Core.Bool.{true}
+use mathlib.Core.List.{[]}
 use mathlib.Core.Path.{_≡_, sym, _∙_}
 use Prim.Native.Nat.{_*_}
 use lib.ListN.{length}
 use borrow.Author.Needs.{needs}
 use borrow.Author.Tests.{eq-eqb, ne-eqb, not-true, not-false}
+use Rattle.table.specs.declared.Table.{Table}
 use Rattle.table.specs.Check.{lawful}
 use Rattle.table.specs.Rules.{Rules}
 use Rattle.table.proofs.Lawful.{lawful-rules}
 use Rattle.table.proofs.Sizes.{sizes}
-use Rattle.machine.specs.declared.Machine.{Machine}
 use Rattle.machine.specs.Program.{programFits}
-use Rattle.machine.specs.Parts.{agreeing}
-use Rattle.machine.proofs.Agreeing.{agreeing-law}
+use Rattle.machine.specs.Parts.{agreeingBy}
 use Rattle.machine.proofs.verdict.Statement.{statement}
 use Rattle.machine.proofs.verdict.Tie as tie
 
 -- the arguments, seen from past the first test
 abbrev entered : tie.Else1 → tie.Start
-entered c = c .before .before .before .before .before .before .before .before
+entered c = c .before .before .before
 
-abbrev machine : tie.Else1 → Machine
-machine c = entered c .args .t1
-
-lengths : (c : tie.Start)
-    → let t = c .args .t1 .table in
-    (length (t .addresses) ≡ 64) × (length (t .loads) ≡ 64) × (length (t .stores) ≡ 64)
-lengths c = (search needs, search needs, search needs)
+-- a table of the parts
+abbrev table : tie.Start → Table
+table c =
+    record {
+      banks = c .args .banks;
+      rows = c .args .rows;
+      stages = c .args .stages;
+      words = c .args .words;
+      oldest = c .args .oldest;
+      live = c .args .live;
+      next = 0;
+      executed = c .args .executed;
+      numbers = [];
+      addresses = c .args .addresses .now;
+      loads = c .args .loads .now;
+      stores = c .args .stores .now;
+      values = [];
+    }
 
 -- what each passed test says
-lawful-at : (c : tie.Else1) → lawful (machine c .table) ≡ true
+lawful-at : (c : tie.Else1) → lawful (table (entered c)) ≡ true
 lawful-at c = sym (c .before .keeps-rules .ensures) ∙ not-false _ (c .if1 .left)
 
-rules-at : (c : tie.Else1) → Rules (machine c .table)
-rules-at c = lawful-rules (machine c .table) (lawful-at c)
+rules-at : (c : tie.Else1) → Rules (table (entered c))
+rules-at c = lawful-rules (table (entered c)) (lawful-at c)
 
--- past the first test, seen from where the window has been compared
-abbrev first : tie.After-window-agrees → tie.Else1
-first c = c .before .before .before .before .before
+agreeing-at : (c : tie.Else2)
+    → let args = entered (c .before .before) .args in
+    agreeingBy (args .banks) (args .oldest) (args .stages) (args .executed) (args .addresses .now) (args .loads .now)
+    (args .stores .now) (args .window) (args .live)
+    ≡ true
+agreeing-at c = sym (c .before .window-agrees .ensures) ∙ not-false _ (c .if2 .left)
 
-agrees-at : (c : tie.After-window-agrees)
-    → let m = machine (first c) in c .window-agrees .result ≡ agreeing m (m .table .live)
-agrees-at c =
-    let m = machine (first c) in
-    c .window-agrees .ensures ∙ agreeing-law m (rules-at (first c)) (m .table .live)
+-- past the second test, seen from past the fourth
+abbrev agreed : tie.Else4 → tie.Else2
+agreed c = c .before .before .before
 
-agreeing-at : (c : tie.Else2) → let m = machine (first (c .before)) in agreeing m (m .table .live) ≡ true
-agreeing-at c = sym (agrees-at (c .before)) ∙ not-false _ (c .if2 .left)
-
-fits-at : (c : tie.Else4) → programFits (entered (first (c .before .before .before .before)) .args .program .now) ≡ true
+fits-at : (c : tie.Else4) → programFits (entered (agreed c .before .before) .args .program .now) ≡ true
 fits-at c = sym (c .before .program-fits .ensures) ∙ not-false _ (c .if4 .left)
 
 counted-at : (c : tie.Else5)
-    → let args = entered (first (c .before .before .before .before .before)) .args in
-    length (args .program .now) ≡ 4 * args .t1 .count
+    → let args = entered (agreed (c .before) .before .before) .args in length (args .program .now) ≡ 4 * args .count
 counted-at c = search needs
 
 keeps-rules-requires : tie.Need-keeps-rules-requires
@@ -65,40 +74,40 @@ returns c = rw (sym (c .before .keeps-rules .ensures) ∙ not-true _ (c .if1 .ta
 
 window-agrees-requires : tie.Need-window-agrees-requires
 window-agrees-requires c κs =
-    let passed = c .before .before .before .before in
-    let rules = rules-at passed in
+    let rules = rules-at c in
     let z = sizes _ _ _ _ (rules .sizes) in
-    ((z .some-bank, z .banks, rules .start, rules .room, z .stages), lengths (entered passed))
+    ((z .some-bank, z .banks, rules .start, rules .room, z .stages), entered c .pre)
 
 returns-2 : tie.Need-returns-2
-returns-2 c = rw (lawful-at (first (c .before)), sym (agrees-at (c .before)) ∙ not-true _ (c .if2 .taken))
+returns-2 c =
+    rw (lawful-at (c .before .before), sym (c .before .window-agrees .ensures) ∙ not-true _ (c .if2 .taken))
 
 returns-3 : tie.Need-returns-3
-returns-3 c = rw (lawful-at (first (c .before .before)), agreeing-at (c .before), ne-eqb _ _ (c .if3 .taken))
+returns-3 c =
+    let passed = c .before in rw (lawful-at (passed .before .before), agreeing-at passed, ne-eqb _ _ (c .if3 .taken))
 
 program-fits-requires : tie.Need-program-fits-requires
 program-fits-requires c κs = search needs
 
 returns-4 : tie.Need-returns-4
 returns-4 c =
+    let passed = c .before .before .before in
     rw (
-      lawful-at (first (c .before .before .before .before)),
-      agreeing-at (c .before .before .before),
+      lawful-at (passed .before .before),
+      agreeing-at passed,
       eq-eqb _ _ (c .before .before .if3 .left),
       sym (c .before .program-fits .ensures) ∙ not-true _ (c .if4 .taken),
     )
-
-cast-if5 : tie.Need-cast-if5
-cast-if5 c = search needs
 
 mul-if5 : tie.Need-mul-if5
 mul-if5 c = search needs
 
 returns-5 : tie.Need-returns-5
 returns-5 c =
+    let passed = agreed (c .before) in
     rw (
-      lawful-at (first (c .before .before .before .before .before)),
-      agreeing-at (c .before .before .before .before),
+      lawful-at (passed .before .before),
+      agreeing-at passed,
       eq-eqb _ _ (c .before .before .before .if3 .left),
       fits-at (c .before),
       ne-eqb _ _ (c .if5 .taken),
@@ -106,14 +115,15 @@ returns-5 c =
 
 entries-fit-requires : tie.Need-entries-fit-requires
 entries-fit-requires c κs =
-    let rules = rules-at (first (c .before .before .before .before .before)) in
+    let rules = rules-at (agreed (c .before) .before .before) in
     (counted-at c, rules .start, rules .room, sizes _ _ _ _ (rules .sizes) .stages)
 
 returns-6 : tie.Need-returns-6
 returns-6 c =
+    let passed = agreed (c .before .before .before) in
     rw (
-      lawful-at (first (c .before .before .before .before .before .before .before)),
-      agreeing-at (c .before .before .before .before .before .before),
+      lawful-at (passed .before .before),
+      agreeing-at passed,
       eq-eqb _ _ (c .before .before .before .before .before .if3 .left),
       fits-at (c .before .before .before),
       eq-eqb _ _ (counted-at (c .before .before)),
@@ -122,9 +132,10 @@ returns-6 c =
 
 returns-7 : tie.Need-returns-7
 returns-7 c =
+    let passed = agreed (c .before .before .before) in
     rw (
-      lawful-at (first (c .before .before .before .before .before .before .before)),
-      agreeing-at (c .before .before .before .before .before .before),
+      lawful-at (passed .before .before),
+      agreeing-at passed,
       eq-eqb _ _ (c .before .before .before .before .before .if3 .left),
       fits-at (c .before .before .before),
       eq-eqb _ _ (counted-at (c .before .before)),
@@ -142,7 +153,6 @@ verdict-spec =
     returns-3
     program-fits-requires
     returns-4
-    cast-if5
     mul-if5
     returns-5
     entries-fit-requires

@@ -1,62 +1,59 @@
--- `table::rows_fit` meets its contract. The loop's invariant: `fit` is the test over the r rows passed, and `before` the
--- set of the stages that they mark, which the next row's test asks for. The measure is the number of rows left.
--- Assumes nothing.
+-- `table::rows_fit` meets its contract. The loop's invariant: `fit` is the test over the rows of the b banks passed,
+-- and `before` the set of the stages that they mark, which the next bank's test asks for. The rows of a bank without
+-- marks are free and pass the test, so `fit` stands. The measure is the number of banks left. Assumes nothing.
 use mathlib.Core.Path.{_≡_, refl, ap, ap₂, sym, _∙_}
 use mathlib.Core.Bool.{_&&_}
-use Prim.Native.Nat.{ℕ, _-_, _≤_}
-use native.Mathlib.Numerals.{add-one}
+use mathlib.Core.Logic.{⊎-elim}
+use Prim.Native.Nat.{_+_, _*_, _-_, _≤_}
 use native.Mathlib.Omega.{arith}
 use lib.Bits.{bitOr}
 use Rattle.marks.specs.Counting.{every}
-use Rattle.table.specs.Check.{marksOf, taken, rowFits}
+use Rattle.table.specs.Check.{taken, rowFits}
+use Rattle.table.proofs.Banked.{every-more, taken-more, free-more}
 use Rattle.table.proofs.rows_fit.Statement.{statement}
 use Rattle.table.proofs.rows_fit.Tie as tie
 
 abbrev Inv-loop : tie.InvT-loop
-Inv-loop banks rows allowed addresses loads stores fit₀ before₀ r₀ fit before r =
-    (r ≤ 64) × (fit ≡ every (rowFits banks rows allowed addresses loads stores) r) × (before ≡ taken loads stores r)
+Inv-loop banks rows allowed addresses loads stores fit₀ before₀ b₀ fit before b =
+    (b ≤ 8) × (fit ≡ every (rowFits banks rows allowed addresses loads stores) (b * 8))
+    × (before ≡ taken loads stores (b * 8))
 
 abbrev μ-loop : tie.MeasureT-loop
-μ-loop banks rows allowed addresses loads stores fit₀ before₀ r₀ fit before r = 64 - r
+μ-loop banks rows allowed addresses loads stores fit₀ before₀ b₀ fit before b = 8 - b
 
 loop-holds : tie.Need-loop-holds Inv-loop μ-loop
 unfolding every taken
 loop-holds c = (omega arith, refl, refl)
 
-row-fits-requires : tie.Need-row-fits-requires Inv-loop μ-loop
-row-fits-requires c κs = omega arith
+bank-marks-requires : tie.Need-bank-marks-requires Inv-loop μ-loop
+bank-marks-requires c κs = omega arith
 
-mul-before : tie.Need-mul-before Inv-loop μ-loop
-mul-before c = omega arith
+bank-fits-requires : tie.Need-bank-fits-requires Inv-loop μ-loop
+bank-fits-requires c κs = omega arith
 
-element-copy-out-before : tie.Need-element-copy-out-before Inv-loop μ-loop
-element-copy-out-before c = omega arith
-
-mul-before-2 : tie.Need-mul-before-2 Inv-loop μ-loop
-mul-before-2 c = omega arith
-
-element-copy-out-before-2 : tie.Need-element-copy-out-before-2 Inv-loop μ-loop
-element-copy-out-before-2 c = omega arith
-
-add-r : tie.Need-add-r Inv-loop μ-loop
-add-r c = omega arith
+add-b : tie.Need-add-b Inv-loop μ-loop
+add-b c = omega arith
 
 loop-less : tie.Need-loop-less Inv-loop μ-loop
 loop-less c = omega arith
 
 loop-again : tie.Need-loop-again Inv-loop μ-loop
-unfolding every taken
 loop-again c =
-    let at = c .before .before .before .before .loop in
-    let args = c .before .before .before .before .before .args in
+    let at = c .before .before .before .loop in
+    let args = c .before .before .before .before .args in
     let loads = args .loads .now in
     let stores = args .stores .now in
     let test = rowFits (args .banks) (args .rows) (args .allowed) (args .addresses .now) loads stores in
-    let row = c .before .before .row-fits .ensures in
-    let next = sym (add-one (at .r)) in (
+    let first = at .b * 8 in
+    let next : first + 8 ≡ (at .b + 1) * 8 = omega arith in
+    let used = c .before .bank-marks .ensures in
+    let bank : c .if1 .fit ≡ every test (first + 8) =
+    ⊎-elim
+    (λ w. w .2 ∙ ap₂ _&&_ {v = every (λ i. test (first + i)) 8} (at .inv .1) (w .1 .ensures) ∙ every-more test first 8)
+    (λ w. w .1 ∙ at .inv .1 ∙ free-more loads stores first _ _ _ _ 8 (sym used ∙ w .0 .left)) (c .if1 .came) in (
       omega arith,
-      ap₂ _&&_ {v = test (at .r)} (at .inv .1) row ∙ ap (every test) next,
-      ap (λ (w : ℕ). bitOr w (marksOf loads stores (at .r))) (at .inv .2) ∙ ap (taken loads stores) next,
+      bank ∙ ap (every test) next,
+      ap₂ bitOr (at .inv .2) used ∙ taken-more loads stores first 8 ∙ ap (taken loads stores) next,
     )
 
 returns : tie.Need-returns Inv-loop μ-loop
@@ -69,12 +66,9 @@ rows-fit-spec =
     Inv-loop
     μ-loop
     loop-holds
-    row-fits-requires
-    mul-before
-    element-copy-out-before
-    mul-before-2
-    element-copy-out-before-2
-    add-r
+    bank-marks-requires
+    bank-fits-requires
+    add-b
     loop-less
     loop-again
     returns)

@@ -1,0 +1,80 @@
+-- `table::bank_marks` meets its contract. The loop's invariant: `all` is the set of the stages that the bank's first i
+-- rows mark, the arrays seen from the bank's first row on. The measure is the number of rows left. Assumes nothing.
+use mathlib.Core.Path.{_≡_, refl, ap, ap₂, sym, _∙_}
+use Prim.Native.Nat.{_*_, _-_, _≤_}
+use native.Mathlib.Numerals.{add-one}
+use native.Mathlib.Omega.{arith}
+use lib.Bits.{bitOr}
+use lib.ListN.{drop}
+use Rattle.table.specs.Check.{taken}
+use Rattle.table.proofs.Banked.{marks-from}
+use Rattle.table.proofs.bank_marks.Statement.{statement}
+use Rattle.table.proofs.bank_marks.Tie as tie
+
+abbrev Inv-loop : tie.InvT-loop
+Inv-loop loads stores b all₀ i₀ all i = (i ≤ 8) × (all ≡ taken (drop (b * 8) loads) (drop (b * 8) stores) i)
+
+abbrev μ-loop : tie.MeasureT-loop
+μ-loop loads stores b all₀ i₀ all i = 8 - i
+
+loop-holds : tie.Need-loop-holds Inv-loop μ-loop
+unfolding taken
+loop-holds c = (omega arith, refl)
+
+mul-r : tie.Need-mul-r Inv-loop μ-loop
+mul-r c = omega arith
+
+add-r : tie.Need-add-r Inv-loop μ-loop
+add-r c = omega arith
+
+mul-all : tie.Need-mul-all Inv-loop μ-loop
+mul-all c = omega arith
+
+element-copy-out-all : tie.Need-element-copy-out-all Inv-loop μ-loop
+element-copy-out-all c = omega arith
+
+mul-all-2 : tie.Need-mul-all-2 Inv-loop μ-loop
+mul-all-2 c = omega arith
+
+element-copy-out-all-2 : tie.Need-element-copy-out-all-2 Inv-loop μ-loop
+element-copy-out-all-2 c = omega arith
+
+add-i : tie.Need-add-i Inv-loop μ-loop
+add-i c = omega arith
+
+loop-less : tie.Need-loop-less Inv-loop μ-loop
+loop-less c = omega arith
+
+loop-again : tie.Need-loop-again Inv-loop μ-loop
+unfolding taken
+loop-again c =
+    let at = c .before .before .before .loop in
+    let args = c .before .before .before .before .args in
+    let loads = args .loads .now in
+    let stores = args .stores .now in
+    let first = args .b * 8 in (
+      omega arith,
+      ap₂ bitOr (at .inv .1) (sym (marks-from loads stores first (at .i)))
+          ∙ ap (taken (drop first loads) (drop first stores)) (sym (add-one (at .i))),
+    )
+
+returns : tie.Need-returns Inv-loop μ-loop
+returns c = c .before .loop .inv .1 ∙ ap (taken _ _) (omega arith)
+
+pub bank-marks-spec : {M : Type 1} → statement M
+bank-marks-spec =
+    tie.close
+    (tie.spec
+    Inv-loop
+    μ-loop
+    loop-holds
+    mul-r
+    add-r
+    mul-all
+    element-copy-out-all
+    mul-all-2
+    element-copy-out-all-2
+    add-i
+    loop-less
+    loop-again
+    returns)
