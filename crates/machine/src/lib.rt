@@ -7,21 +7,18 @@
 use lookup::Mark;
 use table::Table;
 ghost use mathlib.Core.Path.{_≡_};
-ghost use mathlib.Core.Bool.{true, false, cond};
+ghost use mathlib.Core.Bool.{cond};
 ghost use mathlib.Core.List.{List, [], _∷_, map};
 ghost use mathlib.Core.Option.{some};
-ghost use Prim.Native.Nat.{ℕ, _+_, _*_, _/_, _^_, _≤_, _<_};
+ghost use Prim.Native.Nat.{ℕ, _+_, _*_, _^_, _≤_, _<_};
 ghost use lib.ListN.{length, getD, set};
 ghost use lib.Dec.{eqb, ltb};
 ghost use lib.Seq.{sets};
 ghost use lib.Bits.{bitOr};
-ghost use Rattle.table.specs.Reference.{at};
-ghost use Rattle.buffer.specs.Answers;
-ghost use Rattle.buffer.specs.Contract;
 ghost use Rattle.machine.specs.Program.{decoded, instructionAt, wellFormed, programFits, codeOf};
 ghost use Rattle.machine.specs.Window.{blankEntry, reference, held, with₂};
 ghost use Rattle.machine.specs.Calls.{refused, issue, execute, squash, commit, finish, dOf, sOf, immOf, same, like, waits, valueBy, addressBy, registersAfter, target};
-ghost use Rattle.machine.specs.Contract.{doneSays, issueSays, executeSays, commitSays, finishSays, over, fresh, plain, Meets, Opens};
+ghost use Rattle.machine.specs.Contract.{doneSays, issueSays, executeSays, commitSays, finishSays, over, fresh, Meets, Opens};
 ghost use Rattle.machine.specs.Parts.{destination, writer, asNumber, actionOf, second, verdictBy, kindOf, placeOf, courseOf, markBy, markedStages, marksAt, agreesBy, agreeingBy, entriesOf, wantedBy};
 ghost use Rattle.machine.specs.declared.Entry.{Entry};
 ghost use Rattle.machine.specs.declared.Squashed.the-variants as squashed;
@@ -737,7 +734,7 @@ fn set_number(a: &mut [u32; 16], i: usize, v: u32)
     a[i] = v;
 }
 
-// The same where `on`; a call without a condition of its own leaves one way to prove.
+// The same where `on`: so there is one way through an execution, whatever its instruction.
 fn set_word(a: &mut [u32; 64], on: bool, i: usize, v: u32)
     requires { ⌜ i < 64 ⌝ }
     ensures { λ _. ⌜ now (a .exit) ≡ cond on (set (now (a .entry)) i v) (now (a .entry)) ⌝ }

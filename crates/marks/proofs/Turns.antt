@@ -46,9 +46,6 @@ module _ (o n : ℕ) (start : o < n) where
   pub stage-lt : (p : ℕ) → p ≤ n → stage o n p < n
   stage-lt p h = ⊎-elim (λ w. omega arith) (λ w. omega arith) (turn o n p)
 
-  pub position-lt : (s : ℕ) → s < n → position o n s < n
-  position-lt s h = ⊎-elim (λ w. omega arith) (λ w. omega arith) (back s)
-
   pub position-stage : (p : ℕ) → p < n → position o n (stage o n p) ≡ p
   position-stage p h =
       ⊎-elim
