@@ -4,18 +4,13 @@ use crate::machine::{Commit, Machine};
 use crate::run::Run;
 use crate::window::{Instruction, Rules};
 
-/// Steps after which only every `SAMPLE`th state is asked for progress, to keep long scripts quick.
-const EVERY: u64 = 2000;
-const SAMPLE: u64 = 64;
-
 pub struct Check {
     run: Run,
-    steps: u64,
 }
 
 impl Check {
     pub fn new(words: u32) -> Self {
-        Check { run: Run::new(words), steps: 0 }
+        Check { run: Run::new(words) }
     }
 
     pub fn instruction(&mut self, instruction: Instruction) {
@@ -26,13 +21,10 @@ impl Check {
         assert_eq!(self.run.step(), Some(commit), "the record is not that of the sequential run");
     }
 
-    pub fn state<R: Rules>(&mut self, machine: &Machine<R>) {
+    pub fn state<R: Rules>(&self, machine: &Machine<R>) {
         assert_eq!(self.run.registers, machine.registers, "registers are not those of the sequential run");
         assert_eq!(self.run.memory, machine.memory, "memory is not that of the sequential run");
-        self.steps += 1;
-        if self.steps <= EVERY || self.steps.is_multiple_of(SAMPLE) {
-            self.progress(machine.clone());
-        }
+        self.progress(machine.clone());
     }
 
     fn progress<R: Rules>(&self, mut machine: Machine<R>) {

@@ -152,7 +152,7 @@ impl<R: Rules> Game<R> {
             }
             Step::Finish(limit) => self.finish(limit, watch, out),
         }
-        if let Some(check) = &mut self.check {
+        if let Some(check) = &self.check {
             check.state(&self.machine);
         }
     }
