@@ -1,1 +1,2 @@
--- Nothing: the mixes have no contracts.
+-- Turns: the checksums, and the turns that they are of.
+pub mod Turns

@@ -1,11 +1,16 @@
 // Long fixed mixes of calls of the buffer and of the machine, for the benchmark.
 //
 // Each returns a checksum of every answer. benchmarks/inplace.c has the same mixes over the same calls in C, so
-// only numbers and lent slices cross the boundary. The functions promise nothing of their results: what is
-// proved is that each is safe and ends.
+// only numbers and lent slices cross the boundary. What is promised is that the checksum is that of the answers
+// of as many calls, each of which met its contract (specs/Turns.antt).
 use machine::Machine;
 use table::Table;
 use table::Ticket;
+ghost use mathlib.Core.Path.{_≡_};
+ghost use Prim.Native.Nat.{ℕ};
+ghost use Rattle.buffer.specs.Answers as buffer;
+ghost use Rattle.machine.specs.Contract as machine;
+ghost use Rattle.mixes.specs.Turns.{added, ticketed, cutTicket, bufferSum, cutPosition, machineSum, Opened, Turns, Started, Plays, Runs};
 
 // The next state of the generator, which is linear congruential modulo 2^31.
 fn advance(seed: u64) -> u64 {
@@ -18,40 +23,52 @@ fn bits(seed: u64) -> usize {
 }
 
 // The checksum with one more number: turned left by one, plus the number.
-fn with(sum: u64, x: u64) -> u64 {
+fn with(sum: u64, x: u64) -> u64
+    ensures { λ r. ⌜ r ≡ added sum x ⌝ }
+{
     let twice = std::num::wrapping_add_u64(sum, sum);
     let turned = std::num::wrapping_add_u64(twice, sum / 9223372036854775808);
     std::num::wrapping_add_u64(turned, x)
 }
 
 // The checksum with a ticket.
-fn with_ticket(sum: u64, ticket: Ticket) -> u64 {
+fn with_ticket(sum: u64, ticket: Ticket) -> u64
+    ensures { λ r. ⌜ r ≡ ticketed sum ticket ⌝ }
+{
     with(with(sum, ticket.stage as u64), ticket.number as u64)
 }
 
 // The checksum with an answer: a refusal's number, or 100 and what the answer carries.
-fn with_done(sum: u64, answer: buffer::DoneAnswer) -> u64 {
+fn with_done(sum: u64, answer: buffer::DoneAnswer) -> u64
+    ensures { λ r. ⌜ r ≡ bufferSum sum (buffer.doneSays answer) ⌝ }
+{
     match answer {
         buffer::DoneAnswer::Refused(k) => with(sum, k as u64),
         buffer::DoneAnswer::Done => with(sum, 100),
     }
 }
 
-fn with_named(sum: u64, answer: buffer::TicketAnswer) -> u64 {
+fn with_named(sum: u64, answer: buffer::TicketAnswer) -> u64
+    ensures { λ r. ⌜ r ≡ bufferSum sum (buffer.ticketSays answer) ⌝ }
+{
     match answer {
         buffer::TicketAnswer::Refused(k) => with(sum, k as u64),
         buffer::TicketAnswer::Named(ticket) => with_ticket(with(sum, 100), ticket),
     }
 }
 
-fn with_squashed(sum: u64, squashed: buffer::Squashed) -> u64 {
+fn with_squashed(sum: u64, squashed: buffer::Squashed) -> u64
+    ensures { λ r. ⌜ r ≡ cutTicket sum squashed ⌝ }
+{
     match squashed {
         buffer::Squashed::Nothing => sum,
         buffer::Squashed::From(ticket) => with_ticket(sum, ticket),
     }
 }
 
-fn with_executed(sum: u64, answer: buffer::ExecuteAnswer) -> u64 {
+fn with_executed(sum: u64, answer: buffer::ExecuteAnswer) -> u64
+    ensures { λ r. ⌜ r ≡ bufferSum sum (buffer.executeSays answer) ⌝ }
+{
     match answer {
         buffer::ExecuteAnswer::Refused(k) => with(sum, k as u64),
         buffer::ExecuteAnswer::Executed(v, squashed) => {
@@ -180,7 +197,9 @@ pub extern "C" fn mixes_buffer(
     part: usize,
     by: usize,
     memory: &mut [u32],
-) -> u64 {
+) -> u64
+    ensures { λ r. ⌜ Opened banks rows stages words (now (memory .entry)) (Turns when calls (now (memory .exit)) r) ⌝ }
+{
     let opened = buffer::open(banks, rows, stages, words, memory);
     let said = opened.answer;
     let mut t = opened.table;
@@ -244,28 +263,36 @@ pub extern "C" fn mixes_buffer(
 }
 
 // The checksum with an answer of the machine.
-fn with_opened(sum: u64, answer: machine::DoneAnswer) -> u64 {
+fn with_opened(sum: u64, answer: machine::DoneAnswer) -> u64
+    ensures { λ r. ⌜ r ≡ machineSum sum (machine.doneSays answer) ⌝ }
+{
     match answer {
         machine::DoneAnswer::Refused(k) => with(sum, k as u64),
         machine::DoneAnswer::Done => with(sum, 100),
     }
 }
 
-fn with_issued(sum: u64, answer: machine::IssueAnswer) -> u64 {
+fn with_issued(sum: u64, answer: machine::IssueAnswer) -> u64
+    ensures { λ r. ⌜ r ≡ machineSum sum (machine.issueSays answer) ⌝ }
+{
     match answer {
         machine::IssueAnswer::Refused(k) => with(sum, k as u64),
         machine::IssueAnswer::Issued(p) => with(with(sum, 100), p as u64),
     }
 }
 
-fn with_cut(sum: u64, squashed: machine::Squashed) -> u64 {
+fn with_cut(sum: u64, squashed: machine::Squashed) -> u64
+    ensures { λ r. ⌜ r ≡ cutPosition sum (machine.squashSays squashed) ⌝ }
+{
     match squashed {
         machine::Squashed::Nothing => sum,
         machine::Squashed::From(p) => with(sum, p as u64),
     }
 }
 
-fn with_ran(sum: u64, answer: machine::ExecuteAnswer) -> u64 {
+fn with_ran(sum: u64, answer: machine::ExecuteAnswer) -> u64
+    ensures { λ r. ⌜ r ≡ machineSum sum (machine.executeSays answer) ⌝ }
+{
     match answer {
         machine::ExecuteAnswer::Refused(k) => with(sum, k as u64),
         machine::ExecuteAnswer::Executed(v, squashed) => {
@@ -274,7 +301,9 @@ fn with_ran(sum: u64, answer: machine::ExecuteAnswer) -> u64 {
     }
 }
 
-fn with_committed(sum: u64, answer: machine::CommitAnswer) -> u64 {
+fn with_committed(sum: u64, answer: machine::CommitAnswer) -> u64
+    ensures { λ r. ⌜ r ≡ machineSum sum (machine.commitSays answer) ⌝ }
+{
     match answer {
         machine::CommitAnswer::Refused(k) => with(sum, k as u64),
         machine::CommitAnswer::Committed(i, c, r, v) => {
@@ -286,7 +315,9 @@ fn with_committed(sum: u64, answer: machine::CommitAnswer) -> u64 {
     }
 }
 
-fn with_finished(sum: u64, answer: machine::FinishAnswer) -> u64 {
+fn with_finished(sum: u64, answer: machine::FinishAnswer) -> u64
+    ensures { λ r. ⌜ r ≡ machineSum sum (machine.finishSays answer) ⌝ }
+{
     match answer {
         machine::FinishAnswer::Refused(k) => with(sum, k as u64),
         machine::FinishAnswer::Finished(n) => with(with(sum, 100), n as u64),
@@ -378,7 +409,10 @@ pub extern "C" fn mixes_machine(
     by: usize,
     program: &[u32],
     memory: &mut [u32],
-) -> u64 {
+) -> u64
+    ensures { λ r. ⌜ Started banks rows stages words (now (program .entry)) (now (memory .entry)) 0
+        (Plays banks rows stages words (now (program .entry)) when calls (now (memory .exit)) r) ⌝ }
+{
     let opened = machine::open(banks, rows, stages, words, program, memory);
     let said = opened.answer;
     let mut m = opened.machine;
@@ -443,7 +477,10 @@ pub extern "C" fn mixes_finish(
     program: &[u32],
     memory: &mut [u32],
     list: &mut [u32],
-) -> u64 {
+) -> u64
+    ensures { λ r. ⌜ Runs banks rows stages words (now (program .entry)) limit runs (now (memory .exit)) (now (list .exit)) r
+        (now (memory .entry)) (now (list .entry)) 0 ⌝ }
+{
     let mut sum: u64 = 0;
     let mut left = runs;
     while 0 < left {

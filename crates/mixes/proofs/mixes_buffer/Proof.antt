@@ -1,15 +1,19 @@
--- `mixes::mixes_buffer` is safe and ends. The lent memory keeps its length from turn to turn, which is what a
--- lent slice owes; the measure is the number of turns that are left. Assumes nothing.
+-- `mixes::mixes_buffer` returns the checksum of as many turns as are asked for, each a call that met its contract or, once,
+-- another table. The loop's invariant is Remains of proofs/BufferTurns.antt, carried over each turn by the callee's contract,
+-- with the lent memory's length, which is what a lent slice owes; the measure is the number of turns that are left.
+-- Assumes nothing.
 use mathlib.Core.Path.{_≡_, refl}
 use native.Mathlib.Omega.{arith}
 use lib.ListN.{length}
+use Rattle.mixes.proofs.BufferTurns.{Remains, remains-all, remains-called, remains-changed, remains-none}
 use borrow.Author.Needs.{needs}
 use Rattle.mixes.proofs.mixes_buffer.Statement.{statement}
 use Rattle.mixes.proofs.mixes_buffer.Tie as tie
 
 abbrev Inv-loop : tie.InvT-loop
 Inv-loop banks rows stages words calls seed when part by memory₀ t₀ sum₀ second₀ left₀ memory t sum second left =
-    length memory ≡ length memory₀
+    (length memory ≡ length memory₀)
+    × Remains when left₀ t₀ memory₀ sum₀ left t memory sum
 
 abbrev μ-loop : tie.MeasureT-loop
 μ-loop banks rows stages words calls seed when part by memory₀ t₀ sum₀ second₀ left₀ memory t sum second left = left
@@ -21,7 +25,7 @@ with-done-requires : tie.Need-with-done-requires Inv-loop μ-loop
 with-done-requires c κs = tt
 
 loop-holds : tie.Need-loop-holds Inv-loop μ-loop
-loop-holds c = refl
+loop-holds c = (refl, remains-all)
 
 sub-left : tie.Need-sub-left Inv-loop μ-loop
 sub-left c = omega arith
@@ -39,7 +43,12 @@ loop-less : tie.Need-loop-less Inv-loop μ-loop
 loop-less c = omega arith
 
 loop-again : tie.Need-loop-again Inv-loop μ-loop
-loop-again c = search needs
+loop-again c =
+    let l = c .before .before .before .before in (
+      l .before .loop .inv .0,
+      remains-changed (l .before .loop .inv .1) (omega (arith, l .loop-test .taken))
+          (c .before .if1 .taken),
+    )
 
 bits-requires : tie.Need-bits-requires Inv-loop μ-loop
 bits-requires c κs = tt
@@ -54,7 +63,12 @@ loop-less-2 : tie.Need-loop-less-2 Inv-loop μ-loop
 loop-less-2 c = omega arith
 
 loop-again-2 : tie.Need-loop-again-2 Inv-loop μ-loop
-loop-again-2 c = search needs
+loop-again-2 c =
+    let l = c .before .before .before .before .before .before .before .before in (
+      l .before .loop .inv .0,
+      remains-called (l .before .loop .inv .1) (omega (arith, l .loop-test .taken))
+          (c .before .before .issue .ensures _) (c .with-named .ensures),
+    )
 
 commit-requires : tie.Need-commit-requires Inv-loop μ-loop
 commit-requires c κs = tt
@@ -66,7 +80,13 @@ loop-less-3 : tie.Need-loop-less-3 Inv-loop μ-loop
 loop-less-3 c = omega arith
 
 loop-again-3 : tie.Need-loop-again-3 Inv-loop μ-loop
-loop-again-3 c = search needs
+loop-again-3 c =
+    let past = c .before .before .before .before .before .before in
+    let l = past .before .before .before .before .before .before in (
+      search needs,
+      remains-called (l .before .loop .inv .1) (omega (arith, l .loop-test .taken))
+          (c .before .before .before .before .commit .ensures) (c .with-named2 .ensures),
+    )
 
 bits-requires-2 : tie.Need-bits-requires-2 Inv-loop μ-loop
 bits-requires-2 c κs = tt
@@ -90,7 +110,13 @@ loop-less-4 : tie.Need-loop-less-4 Inv-loop μ-loop
 loop-less-4 c = omega arith
 
 loop-again-4 : tie.Need-loop-again-4 Inv-loop μ-loop
-loop-again-4 c = search needs
+loop-again-4 c =
+    let past = c .before .before .before .before .before .before .before .before in
+    let l = past .before .before .before .before .before .before .before .before in (
+      l .before .loop .inv .0,
+      remains-called (l .before .loop .inv .1) (omega (arith, l .loop-test .taken))
+          (c .before .before .execute-load .ensures) (c .with-executed .ensures),
+    )
 
 word-drawn-requires : tie.Need-word-drawn-requires Inv-loop μ-loop
 word-drawn-requires c κs = tt
@@ -106,8 +132,12 @@ loop-less-5 c = omega arith
 
 loop-again-5 : tie.Need-loop-again-5 Inv-loop μ-loop
 loop-again-5 c =
-    let called = c .before .before .before .before .before .before .before .before .before in
-    called .before .before .before .before .before .before .before .before .before .before .loop .inv
+    let past = c .before .before .before .before .before .before .before .before .before in
+    let l = past .before .before .before .before .before .before .before .before .before in (
+      l .before .loop .inv .0,
+      remains-called (l .before .loop .inv .1) (omega (arith, l .loop-test .taken))
+          (c .before .before .execute-store .ensures) (c .with-executed2 .ensures),
+    )
 
 execute-other-requires : tie.Need-execute-other-requires Inv-loop μ-loop
 execute-other-requires c κs = tt
@@ -119,7 +149,13 @@ loop-less-6 : tie.Need-loop-less-6 Inv-loop μ-loop
 loop-less-6 c = omega arith
 
 loop-again-6 : tie.Need-loop-again-6 Inv-loop μ-loop
-loop-again-6 c = search needs
+loop-again-6 c =
+    let past = c .before .before .before .before .before .before .before .before .before in
+    let l = past .before .before .before .before .before .before .before .before .before in (
+      l .before .loop .inv .0,
+      remains-called (l .before .loop .inv .1) (omega (arith, l .loop-test .taken))
+          (c .before .before .execute-other .ensures) (c .with-executed3 .ensures),
+    )
 
 squash-requires : tie.Need-squash-requires Inv-loop μ-loop
 squash-requires c κs = tt
@@ -131,13 +167,22 @@ loop-less-7 : tie.Need-loop-less-7 Inv-loop μ-loop
 loop-less-7 c = omega arith
 
 loop-again-7 : tie.Need-loop-again-7 Inv-loop μ-loop
-loop-again-7 c = search needs
+loop-again-7 c =
+    let past = c .before .before .before .before .before .before .before .before in
+    let l = past .before .before .before .before .before .before .before .before .before in (
+      l .before .loop .inv .0,
+      remains-called (l .before .loop .inv .1) (omega (arith, l .loop-test .taken))
+          (c .before .before .squash .ensures _) (c .with-done2 .ensures),
+    )
 
 same-length : tie.Need-same-length Inv-loop μ-loop
 same-length c = search needs
 
 returns : tie.Need-returns Inv-loop μ-loop
-returns c = tt
+returns c =
+    remains-none (c .before .before .before .before .«open» .ensures) (c .before .before .with-done .ensures)
+    (c .before .loop .inv .1)
+    (omega (arith, c .loop-test .left))
 
 pub mixes-buffer-spec : {M : Type 1} → statement M
 mixes-buffer-spec =
