@@ -177,7 +177,7 @@ static uint32_t forwarded(const struct table *t, size_t r, size_t position, uint
 {
     uint32_t older = turned(t, t->stores[r]) & ((UINT32_C(1) << position) - 1);
     if (older)
-        return t->values[r * 16 + stage_at(t, 31 - __builtin_clz(older))];
+        return t->values[stage_at(t, 31 - __builtin_clz(older))];
     return address < memory.length ? memory.words[address] : 0;
 }
 
@@ -221,7 +221,7 @@ static unsigned store_step(struct table *t, size_t s, uint32_t address, uint32_t
     t->executed |= UINT32_C(1) << s;
     t->addresses[place.row] = address;
     t->stores[place.row] |= UINT32_C(1) << s;
-    t->values[place.row * 16 + s] = value;
+    t->values[s] = value;
     return 0;
 }
 
@@ -336,7 +336,7 @@ unsigned buffer_commit(struct table *t, struct memory memory, struct ticket *tic
         if (t->addresses[r] >= t->words)
             return 13;
         if (t->stores[r] >> s & 1)
-            memory.words[t->addresses[r]] = t->values[r * 16 + s];
+            memory.words[t->addresses[r]] = t->values[s];
     }
     *ticket = (struct ticket){s, t->numbers[s]};
     commit_step(t, r);
@@ -456,14 +456,14 @@ static unsigned execute_at(struct machine *m, size_t position, struct memory mem
 }
 
 // The oldest, which has executed, commits; 13 where its address is past the memory. Its mark is in row r, and
-// the word that a store writes is that row's, as in Rattle (docs/DECISIONS.md).
+// the word that a store writes is the table's, as in Rattle (docs/DECISIONS.md).
 static unsigned commit_oldest(struct machine *m, size_t r, struct memory memory, uint32_t record[4])
 {
     const struct entry *e = &m->window[m->table.oldest];
     if (e->code >= 3 && e->address >= m->table.words)
         return 13;
     if (e->code == 4)
-        memory.words[e->address] = m->table.values[r * 16 + m->table.oldest];
+        memory.words[e->address] = m->table.values[m->table.oldest];
     else
         m->registers[e->d] = e->value;
     record[0] = e->index;
@@ -572,7 +572,7 @@ unsigned machine_finish(struct machine *m, struct lent program, uint32_t limit, 
     return 0;
 }
 
-// The mixes: see crates/mixes/src/lib.rt for the same.
+// The mixes: crates/mixes, mixes_buffer and mixes_machine have the same.
 
 static uint64_t advance(uint64_t seed)
 {

@@ -6,12 +6,12 @@
 #include <stddef.h>
 #include <stdint.h>
 
-// Row i of bank b is at b * 8 + i, and its value at stage s at (b * 8 + i) * 16 + s. Rows past `rows` and
-// banks past `banks` are not in the table.
+// Row i of bank b is at b * 8 + i; rows past `rows` and banks past `banks` are not in the table. A store's
+// value stands at its stage.
 struct table {
     size_t banks, rows, stages, words, oldest, live;
     uint32_t next, executed;
-    uint32_t numbers[16], addresses[64], loads[64], stores[64], values[1024];
+    uint32_t numbers[16], addresses[64], loads[64], stores[64], values[16];
 };
 
 struct sizes {
@@ -88,7 +88,7 @@ struct spoiling {
     size_t part, by;
 };
 
-// The mixes of crates/mixes, with the same answers.
+// The mixes of crates/mixes_buffer and mixes_machine, with the same answers.
 uint64_t inplace_buffer(struct sizes sizes, uint32_t calls, uint64_t seed, struct spoiling spoiling,
                         struct memory memory);
 uint64_t inplace_machine(struct sizes sizes, uint32_t calls, uint64_t seed, struct spoiling spoiling,

@@ -1,4 +1,4 @@
-// The benchmark: the mixes of crates/mixes in Rattle and in C in turn, their answers compared.
+// The benchmark: the mixes of mixes_buffer and mixes_machine in Rattle and in C in turn, their answers compared.
 //
 // First many sizes are played for equal answers, spoiled states among them, then some for their times. A round
 // is one run of a mix in each; the least time of many rounds counts. Exit status 1: a checksum, a memory or a
@@ -9,7 +9,7 @@
 #include <string.h>
 #include <time.h>
 
-// The static library's: a slice is a pointer and a length.
+// The static libraries': a slice is a pointer and a length.
 extern uint64_t mixes_buffer(size_t banks, size_t rows, size_t stages, size_t words, uint32_t calls,
                              uint64_t seed, uint32_t when, size_t part, size_t by, uint32_t *memory,
                              size_t length);

@@ -3,7 +3,7 @@ use libc::STDIN_FILENO;
 use libc::STDOUT_FILENO;
 ghost use Prim.Native.Nat.{_≤_};
 ghost use lib.ListN.{length};
-ghost use Rattle.script.specs.Playing.{longest};
+ghost use Rattle.script_model.specs.Playing.{longest};
 
 // Plays on, and writes each piece, until all is printed or a write fails.
 fn play(s: &[u8], program: &mut [u32], memory: &mut [u32], out: &mut [u8])

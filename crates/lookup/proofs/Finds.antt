@@ -8,7 +8,7 @@ use native.Mathlib.Nat.{not-suc-le-zero, le-of-suc-le-suc, eq-or-lt-of-le, le-re
 use native.Mathlib.Omega.{arith}
 use lib.Dec.{ltb}
 use borrow.Author.Tests.{ltb-true, ltb-false}
-use Rattle.lookup.specs.Search.{find, seek, chosen}
+use Rattle.lookup.specs.computed.Search.{find, seek, chosen}
 
 pub find-zero : (f : ℕ → Bool) (n : ℕ) → find f n ≡ 0 → (k : ℕ) → k < n → f k ≡ false
 unfolding find

@@ -17,8 +17,8 @@ use Rattle.marks.specs.Counting.{count}
 use Rattle.marks.proofs.Counts.{count-into, last-is}
 use Rattle.table.specs.Bank.{bank}
 use Rattle.table.specs.Reference.{Fate, waiting, other, loaded, stored, Ref, ref, blank, fateOf, at, State}
-use Rattle.lookup.specs.Rows.{touches, touched, opensBy, opens, used, youngest}
-use Rattle.lookup.specs.Outcome.{room}
+use Rattle.lookup.specs.Rows.{touches, touched, allocatesBy, allocatesRow, rowsInUse, youngestRow}
+use Rattle.lookup.specs.Outcome.{allocateRow}
 
 pub touched-at : (a : ℕ) (refs : List Ref) (p : ℕ) → p < length refs → touches a (fateOf (at refs p)) ≡ true
     → touched a refs ≡ true
@@ -56,7 +56,7 @@ older-some a refs p l e =
 
 -- a position that touches an address of the bank, first among its elders, opens a row; and the other way round
 pub opens-from : (banks h : ℕ) (refs : List Ref) (p b : ℕ) → touches b (fateOf (at refs p)) ≡ true → bank banks b ≡ h
-    → touched b (take p refs) ≡ false → opens banks h refs p ≡ true
+    → touched b (take p refs) ≡ false → allocatesRow banks h refs p ≡ true
 opens-from banks h refs p b e k u = go (fateOf (at refs p)) e
   where
     first : (c : ℕ) → eqb c b ≡ true → (eqb (bank banks c) h && not (touched c (take p refs))) ≡ true
@@ -65,13 +65,13 @@ opens-from banks h refs p b e k u = go (fateOf (at refs p)) e
         ap₂ _&&_ (eq-eqb (bank banks c) h (ap (bank banks) same ∙ k))
         (ap not (ap (λ (x : ℕ). touched x (take p refs)) same ∙ u))
 
-    go : (f : Fate) → touches b f ≡ true → opensBy banks h (take p refs) f ≡ true
+    go : (f : Fate) → touches b f ≡ true → allocatesBy banks h (take p refs) f ≡ true
     go waiting q = absurd (true≢false (sym q))
     go other q = absurd (true≢false (sym q))
     go (loaded c) q = first c q
     go (stored c v) q = first c q
 
-pub opens-to : (banks h : ℕ) (refs : List Ref) (p : ℕ) → opens banks h refs p ≡ true
+pub opens-to : (banks h : ℕ) (refs : List Ref) (p : ℕ) → allocatesRow banks h refs p ≡ true
     → (b : ℕ) × (touches b (fateOf (at refs p)) ≡ true) × (bank banks b ≡ h) × (touched b (take p refs) ≡ false)
 opens-to banks h refs p = go (fateOf (at refs p))
   where
@@ -81,7 +81,7 @@ opens-to banks h refs p = go (fateOf (at refs p))
         let both = and-eq-true-iff (eqb (bank banks c) h) (not (touched c (take p refs))) .0 q in
         (eq-eqb c c refl, eqb-true (bank banks c) h (both .0), not-true (touched c (take p refs)) (both .1))
 
-    go : (f : Fate) → opensBy banks h (take p refs) f ≡ true
+    go : (f : Fate) → allocatesBy banks h (take p refs) f ≡ true
         → (b : ℕ) × (touches b f ≡ true) × (bank banks b ≡ h) × (touched b (take p refs) ≡ false)
     go waiting q = absurd (true≢false (sym q))
     go other q = absurd (true≢false (sym q))
@@ -89,36 +89,36 @@ opens-to banks h refs p = go (fateOf (at refs p))
     go (stored c v) q = let w = first c q in (c, w .0, w .1, w .2)
 
 -- the row chosen is one of the bank, and no row of the bank has an oldest mark younger than its
-pub youngest-chosen : (banks h : ℕ) (refs : List Ref) (p : ℕ) → p < length refs → opens banks h refs p ≡ true
-    → (youngest banks h refs < length refs) × (opens banks h refs (youngest banks h refs) ≡ true)
-    × (p ≤ youngest banks h refs)
-youngest-chosen banks h refs = last-is (opens banks h refs) (length refs)
+pub youngest-chosen : (banks h : ℕ) (refs : List Ref) (p : ℕ) → p < length refs → allocatesRow banks h refs p ≡ true
+    → (youngestRow banks h refs < length refs) × (allocatesRow banks h refs (youngestRow banks h refs) ≡ true)
+    × (p ≤ youngestRow banks h refs)
+youngest-chosen banks h refs = last-is (allocatesRow banks h refs) (length refs)
 
 -- where the oldest has not executed, a bank without a row that may be evicted has no row in use
-none-used : (banks h : ℕ) (refs : List Ref) → fateOf (at refs 0) ≡ waiting → youngest banks h refs ≡ 0
-    → used banks h refs ≤ 0
+none-used : (banks h : ℕ) (refs : List Ref) → fateOf (at refs 0) ≡ waiting → youngestRow banks h refs ≡ 0
+    → rowsInUse banks h refs ≤ 0
 unfolding count
 none-used banks h refs w y =
-    count-into (opens banks h refs) (opens banks h refs) (length refs) 0 (λ p. p)
+    count-into (allocatesRow banks h refs) (allocatesRow banks h refs) (length refs) 0 (λ p. p)
     (λ p l e. absurd (not-first p l e)) (λ p q l r d e i. i)
   where
-    not-first : (p : ℕ) → p < length refs → opens banks h refs p ≡ true → ⊥
+    not-first : (p : ℕ) → p < length refs → allocatesRow banks h refs p ≡ true → ⊥
     not-first p l e =
         let c = youngest-chosen banks h refs p l e in
         let z : p ≡ 0 = omega arith in
         true≢false
-        (sym e ∙ ap (opens banks h refs) z ∙ ap (opensBy banks h (take 0 refs)) w)
+        (sym e ∙ ap (allocatesRow banks h refs) z ∙ ap (allocatesBy banks h (take 0 refs)) w)
 
 pub never-stalls : (P : State) (h : ℕ) → 0 < P .rows → 0 < length (P .refs) → fateOf (at (P .refs) 0) ≡ waiting
-    → room P 0 h ≡ 0 → ⊥
+    → allocateRow P 0 h ≡ 0 → ⊥
 never-stalls P h some-row some w =
-    go (ltb (used (P .banks) h (P .refs)) (P .rows)) (ltb 0 (youngest (P .banks) h (P .refs))) refl refl
+    go (ltb (rowsInUse (P .banks) h (P .refs)) (P .rows)) (ltb 0 (youngestRow (P .banks) h (P .refs))) refl refl
   where
-    go : (t u : Bool) → ltb (used (P .banks) h (P .refs)) (P .rows) ≡ t → ltb 0 (youngest (P .banks) h (P .refs)) ≡ u
-        → cond t (length (P .refs)) (cond u (youngest (P .banks) h (P .refs)) 0) ≡ 0 → ⊥
+    go : (t u : Bool) → ltb (rowsInUse (P .banks) h (P .refs)) (P .rows) ≡ t → ltb 0 (youngestRow (P .banks) h (P .refs)) ≡ u
+        → cond t (length (P .refs)) (cond u (youngestRow (P .banks) h (P .refs)) 0) ≡ 0 → ⊥
     go true u e d z = omega arith
     go false true e d z = omega (arith, ltb-true)
     go false false e d z =
-        let y : youngest (P .banks) h (P .refs) ≤ 0 = ltb-false 0 (youngest (P .banks) h (P .refs)) d in
-        let full : P .rows ≤ used (P .banks) h (P .refs) = ltb-false (used (P .banks) h (P .refs)) (P .rows) e in
+        let y : youngestRow (P .banks) h (P .refs) ≤ 0 = ltb-false 0 (youngestRow (P .banks) h (P .refs)) d in
+        let full : P .rows ≤ rowsInUse (P .banks) h (P .refs) = ltb-false (rowsInUse (P .banks) h (P .refs)) (P .rows) e in
         omega (arith, none-used (P .banks) h (P .refs) w (omega arith))

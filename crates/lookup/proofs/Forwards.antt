@@ -19,34 +19,34 @@ use Rattle.table.specs.View.{view, stageOf, address, value, storeMark, fateAt}
 use Rattle.table.proofs.Fates.{Fated, waits, bare, loads, stores, fated, mark-store, length-refs, at-refs}
 use Rattle.table.proofs.Fates.{fate-load, fate-store, fate-other, fate-waiting}
 use Rattle.table.proofs.Owning.{RowFor, row-for-less}
-use Rattle.lookup.specs.Forwarding.{after, seen}
-use Rattle.lookup.specs.Search.{find, forward}
+use Rattle.lookup.specs.Forwarding.{wordAfter, seen}
+use Rattle.lookup.specs.computed.Search.{find, forward}
 
 -- the last of a list comes last
-seen-last : (refs : List Ref) (x : Ref) (a w : ℕ) → seen (refs ++ (x ∷ [])) a w ≡ after (fateOf x) a (seen refs a w)
+seen-last : (refs : List Ref) (x : Ref) (a w : ℕ) → seen (refs ++ (x ∷ [])) a w ≡ wordAfter (fateOf x) a (seen refs a w)
 unfolding seen
 seen-last [] (ref n f) a w = refl
-seen-last (ref m g ∷ refs) x a w = seen-last refs x a (after g a w)
+seen-last (ref m g ∷ refs) x a w = seen-last refs x a (wordAfter g a w)
 
 -- one more older reference
 pub seen-next : (refs : List Ref) (p a w : ℕ) → p < length refs
-    → seen (take (suc p) refs) a w ≡ after (fateOf (at refs p)) a (seen (take p refs) a w)
+    → seen (take (suc p) refs) a w ≡ wordAfter (fateOf (at refs p)) a (seen (take p refs) a w)
 seen-next refs p a w h =
     ap (λ (older : List Ref). seen older a w) (take-suc refs p blank h) ∙ seen-last (take p refs) (at refs p) a w
 
 module _ (t : Table) (rules : Rules t) (a r : ℕ) where
   -- a reference without a store mark in the address's row leaves the word
   after-unmarked : (p w : ℕ) → RowFor t a r (suc p) → storeMark t r (stageOf t p) ≡ false
-      → after (fateAt t (stageOf t p)) a w ≡ w
+      → wordAfter (fateAt t (stageOf t p)) a w ≡ w
   after-unmarked p w own e = go (fated t (stageOf t p))
     where
-      go : Fated t (stageOf t p) → after (fateAt t (stageOf t p)) a w ≡ w
-      go (waits h) = ap (λ (f : Fate). after f a w) (fate-waiting t rules (stageOf t p) h)
-      go (bare h l) = ap (λ (f : Fate). after f a w) (fate-other t rules (stageOf t p) h l)
-      go (loads q l h) = ap (λ (f : Fate). after f a w) (fate-load t rules q (stageOf t p) l h)
+      go : Fated t (stageOf t p) → wordAfter (fateAt t (stageOf t p)) a w ≡ w
+      go (waits h) = ap (λ (f : Fate). wordAfter f a w) (fate-waiting t rules (stageOf t p) h)
+      go (bare h l) = ap (λ (f : Fate). wordAfter f a w) (fate-other t rules (stageOf t p) h l)
+      go (loads q l h) = ap (λ (f : Fate). wordAfter f a w) (fate-load t rules q (stageOf t p) l h)
       go (stores q l h) =
-          ap (λ (f : Fate). after f a w) (fate-store t rules q (stageOf t p) l h)
-          ∙ ap (λ (b : Bool). cond b (value t q (stageOf t p)) w)
+          ap (λ (f : Fate). wordAfter f a w) (fate-store t rules q (stageOf t p) l h)
+          ∙ ap (λ (b : Bool). cond b (value t (stageOf t p)) w)
           (ne-eqb (address t q) a
           (λ i. true≢false
           (sym h ∙ ap (λ (k : ℕ). storeMark t k (stageOf t p))
@@ -54,15 +54,15 @@ module _ (t : Table) (rules : Rules t) (a r : ℕ) where
 
   -- one with a store mark there leaves its own word
   after-marked : (p w : ℕ) → RowFor t a r (suc p) → storeMark t r (stageOf t p) ≡ true
-      → after (fateAt t (stageOf t p)) a w ≡ value t r (stageOf t p)
+      → wordAfter (fateAt t (stageOf t p)) a w ≡ value t (stageOf t p)
   after-marked p w own e =
-      ap (λ (f : Fate). after f a w) (fate-store t rules r (stageOf t p) (own .row) e)
-      ∙ ap (λ (b : Bool). cond b (value t r (stageOf t p)) w)
+      ap (λ (f : Fate). wordAfter f a w) (fate-store t rules r (stageOf t p) (own .row) e)
+      ∙ ap (λ (b : Bool). cond b (value t (stageOf t p)) w)
       (eq-eqb (address t r) a (own .own p (omega arith) (mark-store t r (stageOf t p) e)))
 
 -- what is taken where k is one more than the position of the nearest older store mark
-abbrev taking : Table → ℕ → ℕ → ℕ → ℕ
-taking t r w k = cond (eqb k 0) w (value t r (stageOf t (k - 1)))
+abbrev taking : Table → ℕ → ℕ → ℕ
+taking t w k = cond (eqb k 0) w (value t (stageOf t (k - 1)))
 
 pub forward-seen : (t : Table) → Rules t → (a r p w : ℕ) → p ≤ t .live → RowFor t a r p
     → forward (t .oldest) (t .stages) (t .stores) (t .values) r p w ≡ seen (take p (view t .refs)) a w
@@ -72,15 +72,15 @@ forward-seen t rules a r (suc p) w h own =
     let n : p < length (view t .refs) = omega (arith, length-refs t) in
     go (storeMark t r (stageOf t p)) refl
     (forward-seen t rules a r p w (omega arith) (row-for-less t a r (suc p) p (omega arith) own))
-    ∙ ap (λ (x : Ref). after (fateOf x) a (seen (take p (view t .refs)) a w)) (sym (at-refs t p h))
+    ∙ ap (λ (x : Ref). wordAfter (fateOf x) a (seen (take p (view t .refs)) a w)) (sym (at-refs t p h))
     ∙ sym (seen-next (view t .refs) p a w n)
   where
     go : (b : Bool) → storeMark t r (stageOf t p) ≡ b
-        → taking t r w (find (λ (q : ℕ). storeMark t r (stageOf t q)) p) ≡ seen (take p (view t .refs)) a w
-        → taking t r w (cond b (suc p) (find (λ (q : ℕ). storeMark t r (stageOf t q)) p))
-        ≡ after (fateAt t (stageOf t p)) a (seen (take p (view t .refs)) a w)
+        → taking t w (find (λ (q : ℕ). storeMark t r (stageOf t q)) p) ≡ seen (take p (view t .refs)) a w
+        → taking t w (cond b (suc p) (find (λ (q : ℕ). storeMark t r (stageOf t q)) p))
+        ≡ wordAfter (fateAt t (stageOf t p)) a (seen (take p (view t .refs)) a w)
     go true e older =
-        ap (λ (b : Bool). cond b w (value t r (stageOf t (suc p - 1)))) (eqb·suc-zero p)
-        ∙ ap (λ (k : ℕ). value t r (stageOf t k)) (sub-one (suc p))
+        ap (λ (b : Bool). cond b w (value t (stageOf t (suc p - 1)))) (eqb·suc-zero p)
+        ∙ ap (λ (k : ℕ). value t (stageOf t k)) (sub-one (suc p))
         ∙ sym (after-marked t rules a r p (seen (take p (view t .refs)) a w) own e)
     go false e older = older ∙ sym (after-unmarked t rules a r p (seen (take p (view t .refs)) a w) own e)

@@ -1,5 +1,6 @@
 -- Loops: the searches step by step. Finds: what they find. Forwards, Violations, Firsts, Bankrows: what they find is what the
--- list of references says. Places: the row and what is left, whole. Telling: what the marks of a stage say. Sentences: 01's sentences of the definitions.
+-- list of references says. Places: the row and what is left, whole. Telling: what the marks of a stage say. Sentences: 01's
+-- sentences of the definitions.
 pub mod Loops
 pub mod Finds
 pub mod Forwards

@@ -9,7 +9,7 @@ use native.Mathlib.Numerals.{add-one}
 use native.Mathlib.Omega.{arith}
 use lib.Dec.{ltb}
 use borrow.Author.Tests.{lt-ltb, le-ltb}
-use Rattle.lookup.specs.Search.{find, seek, chosen}
+use Rattle.lookup.specs.computed.Search.{find, seek, chosen}
 
 find-clause : (f : ℕ → Bool) (n : ℕ) → find f (suc n) ≡ cond (f n) (suc n) (find f n)
 unfolding find

@@ -8,6 +8,7 @@ use native.Mathlib.Omega.{arith}
 use lib.Dec.{eqb·suc-zero}
 use lib.ListN.{getD}
 use Rattle.table.specs.declared.Table.{Table}
+use Rattle.table.specs.Limits.{rowsMost}
 use Rattle.table.specs.Bank.{bank}
 use Rattle.table.specs.Reference.{loaded, stored}
 use Rattle.table.specs.Rules.{Rules}
@@ -15,9 +16,9 @@ use Rattle.table.specs.View.{view}
 use Rattle.table.proofs.Fates.{length-refs}
 use Rattle.table.proofs.Owning.{RowFor, row-for-less}
 use Rattle.lookup.specs.declared.Place.{Place}
-use Rattle.lookup.specs.Violation.{checked}
-use Rattle.lookup.specs.Outcome.{leaves}
-use Rattle.lookup.specs.Search.{rowOf, violates, taken, loadPlace, storePlace}
+use Rattle.lookup.specs.Violation.{keptAfterStore}
+use Rattle.lookup.specs.Outcome.{survivors}
+use Rattle.lookup.specs.computed.Search.{rowOf, violationPoint, allocatedRow, loadPlace, storePlace}
 use Rattle.lookup.proofs.Violations.{violates-checked, checked-after}
 use Rattle.lookup.proofs.Bankrows.{row-none, row-some, taken-room, taken-row}
 
@@ -41,13 +42,13 @@ module _ (t : Table) (rules : Rules t) (a p : ℕ) (live : p < t .live) where
   found = rowOf (t .rows) (t .addresses) (t .loads) (t .stores) (bank (t .banks) a) a
 
   abbrev room-for : Place
-  room-for = taken (t .oldest) (t .stages) (t .live) (t .rows) (t .loads) (t .stores) (bank (t .banks) a) p
+  room-for = allocatedRow (t .oldest) (t .stages) (t .live) (t .rows) (t .loads) (t .stores) (bank (t .banks) a) p
 
   abbrev held : ℕ → ℕ
-  held i = bank (t .banks) a * 8 + i
+  held i = bank (t .banks) a * rowsMost + i
 
   abbrev left-in : ℕ → ℕ
-  left-in r = violates (t .oldest) (t .stages) (t .live) (getD (t .loads) r 0) (getD (t .stores) r 0) p
+  left-in r = violationPoint (t .oldest) (t .stages) (t .live) (getD (t .loads) r 0) (getD (t .stores) r 0) p
 
   load-none : found ≡ 0 → loadAt t a p ≡ room-for
   load-none e = rw e
@@ -72,10 +73,10 @@ module _ (t : Table) (rules : Rules t) (a p : ℕ) (live : p < t .live) where
       let w = taken-row t rules a p live (row-none t rules a e) some in
       record { after = w .0; within = w .1; owned = w .2 }
 
-  pub load-left : loadAt t a p .left ≡ leaves (view t) p (loaded a)
+  pub load-left : loadAt t a p .left ≡ survivors (view t) p (loaded a)
   load-left = go found refl
     where
-      go : (i : ℕ) → found ≡ i → loadAt t a p .left ≡ leaves (view t) p (loaded a)
+      go : (i : ℕ) → found ≡ i → loadAt t a p .left ≡ survivors (view t) p (loaded a)
       go zero e = rw (load-none e, row-none t rules a e) (taken-room t rules a p live (row-none t rules a e))
       go (suc i) e = rw (load-some i e, row-some t rules a i e .0) (sym (length-refs t))
 
@@ -89,10 +90,10 @@ module _ (t : Table) (rules : Rules t) (a p : ℕ) (live : p < t .live) where
           subst (λ (q : Place). (q .left ≡ 0 → ⊥) → Placed t a p q) (sym (load-some i e))
           (λ some. record { after = live; within = le-refl (t .live); owned = own i e })
 
-  pub store-left : (v : ℕ) → storeAt t a p .left ≡ leaves (view t) p (stored a v)
+  pub store-left : (v : ℕ) → storeAt t a p .left ≡ survivors (view t) p (stored a v)
   store-left v = go found refl
     where
-      go : (i : ℕ) → found ≡ i → storeAt t a p .left ≡ leaves (view t) p (stored a v)
+      go : (i : ℕ) → found ≡ i → storeAt t a p .left ≡ survivors (view t) p (stored a v)
       go zero e = rw (store-none e, row-none t rules a e) (taken-room t rules a p live (row-none t rules a e))
       go (suc i) e =
           rw (store-some i e, row-some t rules a i e .0) (violates-checked t rules a (held (suc i - 1)) p live (own i e))
@@ -105,7 +106,7 @@ module _ (t : Table) (rules : Rules t) (a p : ℕ) (live : p < t .live) where
           subst (λ (q : Place). (q .left ≡ 0 → ⊥) → Placed t a p q) (sym (store-none e)) (placed-none e)
       go (suc i) e =
           let r = held (suc i - 1) in
-          let same : left-in r ≡ checked (view t) p a = violates-checked t rules a r p live (own i e) in
+          let same : left-in r ≡ keptAfterStore (view t) p a = violates-checked t rules a r p live (own i e) in
           let bounds = checked-after (view t) p a (rw (length-refs t) live) in
           let below : left-in r ≤ t .live =
           subst (λ (n : ℕ). left-in r ≤ n) (length-refs t) (rw same (bounds .1)) in

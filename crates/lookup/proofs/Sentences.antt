@@ -13,14 +13,14 @@ use lib.Dec.{eqb}
 use lib.ListN.{length, take, drop, length-drop}
 use borrow.Author.Tests.{eq-eqb, eqb-true}
 use Rattle.table.specs.Reference.{Fate, waiting, other, loaded, stored, Ref, ref, fateOf, at, State}
-use Rattle.lookup.specs.Forwarding.{after, seen}
+use Rattle.lookup.specs.Forwarding.{wordAfter, seen}
 use Rattle.lookup.specs.Rows.{touches}
-use Rattle.lookup.specs.Violation.{met, spared, checked}
+use Rattle.lookup.specs.Violation.{keptFrom, keptYounger, keptAfterStore}
 use Rattle.lookup.proofs.Forwards.{seen-next}
 use Rattle.lookup.proofs.Violations.{spared-next, spared-skip, spared-all}
 
 -- a reference that is no executed store to the address leaves the word
-after-no-store : (x : Ref) (a w : ℕ) → ((m u : ℕ) → x ≡ ref m (stored a u) → ⊥) → after (fateOf x) a w ≡ w
+after-no-store : (x : Ref) (a w : ℕ) → ((m u : ℕ) → x ≡ ref m (stored a u) → ⊥) → wordAfter (fateOf x) a w ≡ w
 after-no-store (ref n waiting) a w none = refl
 after-no-store (ref n other) a w none = refl
 after-no-store (ref n (loaded b)) a w none = refl
@@ -48,7 +48,7 @@ seen-youngest refs (suc p) q a v w n l h e none =
     seen-next refs p a w h
     ∙ ⊎-elim
     (λ (i : q ≡ p).
-    ap (λ (x : Ref). after (fateOf x) a (seen (take p refs) a w)) (ap (at refs) (sym i) ∙ e)
+    ap (λ (x : Ref). wordAfter (fateOf x) a (seen (take p refs) a w)) (ap (at refs) (sym i) ∙ e)
     ∙ ap (λ (t : Bool). cond t v (seen (take p refs) a w)) (eq-eqb a a refl))
     (λ (i : q < p).
     after-no-store (at refs p) a (seen (take p refs) a w) (λ m u. none p m u i (le-refl (suc p)))
@@ -59,32 +59,32 @@ module _ (P : State) (p a : ℕ) where
   -- no reference between p and q has executed to this address: the one at q is met
   met-at : (q n : ℕ) (f : Fate) → p < q → q < length (P .refs) → at (P .refs) q ≡ ref n f
       → ((k : ℕ) → p < k → k < q → touches a (fateOf (at (P .refs) k)) ≡ false)
-      → checked P p a ≡ q + met f a (length (drop (suc q) (P .refs))) (spared a (drop (suc q) (P .refs)))
+      → keptAfterStore P p a ≡ q + keptFrom f a (length (drop (suc q) (P .refs))) (keptYounger a (drop (suc q) (P .refs)))
   met-at q n f l h e none =
       spared-skip (P .refs) (suc p) q a l (omega arith) none
       ∙ ap (λ (j : ℕ). q + j)
       (spared-next (P .refs) q a h
-      ∙ ap (λ (x : Ref). met (fateOf x) a (length (drop (suc q) (P .refs))) (spared a (drop (suc q) (P .refs)))) e)
+      ∙ ap (λ (x : Ref). keptFrom (fateOf x) a (length (drop (suc q) (P .refs))) (keptYounger a (drop (suc q) (P .refs)))) e)
 
   -- "If the first one met is a load, that load and everything younger is squashed"
   pub spared-load : (q n : ℕ) → p < q → q < length (P .refs) → at (P .refs) q ≡ ref n (loaded a)
-      → ((k : ℕ) → p < k → k < q → touches a (fateOf (at (P .refs) k)) ≡ false) → checked P p a ≡ q
+      → ((k : ℕ) → p < k → k < q → touches a (fateOf (at (P .refs) k)) ≡ false) → keptAfterStore P p a ≡ q
   spared-load q n l h e none =
       met-at q n (loaded a) l h e none
-      ∙ ap (λ (t : Bool). q + cond t 0 (suc (spared a (drop (suc q) (P .refs))))) (eq-eqb a a refl) ∙ omega arith
+      ∙ ap (λ (t : Bool). q + cond t 0 (suc (keptYounger a (drop (suc q) (P .refs))))) (eq-eqb a a refl) ∙ omega arith
 
   -- "If it is a store, or there is none, nothing is": it is a store
   pub spared-store : (q n v : ℕ) → p < q → q < length (P .refs) → at (P .refs) q ≡ ref n (stored a v)
-      → ((k : ℕ) → p < k → k < q → touches a (fateOf (at (P .refs) k)) ≡ false) → checked P p a ≡ length (P .refs)
+      → ((k : ℕ) → p < k → k < q → touches a (fateOf (at (P .refs) k)) ≡ false) → keptAfterStore P p a ≡ length (P .refs)
   spared-store q n v l h e none =
       met-at q n (stored a v) l h e none
       ∙ ap
-      (λ (t : Bool). q + cond t (suc (length (drop (suc q) (P .refs)))) (suc (spared a (drop (suc q) (P .refs)))))
+      (λ (t : Bool). q + cond t (suc (length (drop (suc q) (P .refs)))) (suc (keptYounger a (drop (suc q) (P .refs)))))
       (eq-eqb a a refl)
       ∙ omega (arith, length-drop (suc q) (P .refs))
 
   -- there is none
   pub spared-none : p < length (P .refs)
       → ((k : ℕ) → p < k → k < length (P .refs) → touches a (fateOf (at (P .refs) k)) ≡ false)
-      → checked P p a ≡ length (P .refs)
+      → keptAfterStore P p a ≡ length (P .refs)
   spared-none h none = spared-all (P .refs) (suc p) a h none

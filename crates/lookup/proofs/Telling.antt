@@ -8,7 +8,7 @@ use Rattle.table.specs.Reference.{Fate, loaded, stored}
 use Rattle.table.specs.View.{storeMark, loadMark, address, value, markFate}
 use Rattle.lookup.specs.declared.Mark.{Mark}
 use Rattle.lookup.specs.declared.Mark.the-variants.{Load, Store}
-use Rattle.lookup.specs.Search.{markOf, markedFate}
+use Rattle.lookup.specs.computed.Search.{markOf, markedFate}
 
 row-marked : (x y : Bool) (a v : ℕ) (m : Mark) (f : Fate) → markedFate m ≡ f
     → markedFate (cond x (Store a v) (cond y (Load a) m)) ≡ cond x (stored a v) (cond y (loaded a) f)
@@ -16,11 +16,12 @@ row-marked true y a v m f e = refl
 row-marked false true a v m f e = refl
 row-marked false false a v m f e = e
 
-pub marks-fate : (t : Table) (s k : ℕ) → markedFate (markOf (t .addresses) (t .loads) (t .stores) (t .values) s k) ≡ markFate t s k
+pub marks-fate : (t : Table) (s k : ℕ)
+    → markedFate (markOf (t .addresses) (t .loads) (t .stores) (t .values) s k) ≡ markFate t s k
 unfolding markFate markOf
 marks-fate t s zero = refl
 marks-fate t s (suc k) =
-    row-marked (storeMark t k s) (loadMark t k s) (address t k) (value t k s)
+    row-marked (storeMark t k s) (loadMark t k s) (address t k) (value t s)
     (markOf (t .addresses) (t .loads) (t .stores) (t .values) s k)
     (markFate t s k)
     (marks-fate t s k)

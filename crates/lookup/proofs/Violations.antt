@@ -17,6 +17,7 @@ use lib.Seq.{drop-cons, drop-length}
 use borrow.Author.Tests.{eq-eqb, ne-eqb, lt-ltb, le-ltb}
 use Rattle.marks.proofs.Sets.{has-or}
 use Rattle.table.specs.declared.Table.{Table}
+use Rattle.table.specs.Limits.{rowsIn}
 use Rattle.table.specs.Reference.{Fate, waiting, other, loaded, stored, Ref, ref, fateOf, at, blank, State}
 use Rattle.table.specs.Rules.{Rules}
 use Rattle.table.specs.View.{view, stageOf, address, loadMark, storeMark, mark, fateAt}
@@ -24,46 +25,46 @@ use Rattle.table.proofs.Fates.{neither, Fated, waits, bare, loads, stores, fate
 use Rattle.table.proofs.Fates.{fate-load, fate-store, fate-other, fate-waiting}
 use Rattle.table.proofs.Owning.{RowFor}
 use Rattle.lookup.specs.Rows.{touches, touched}
-use Rattle.lookup.specs.Search.{seek, marked, violates}
-use Rattle.lookup.specs.Violation.{met, spared, checked}
+use Rattle.lookup.specs.computed.Search.{seek, marked, violationPoint}
+use Rattle.lookup.specs.Violation.{keptFrom, keptYounger, keptAfterStore}
 
 -- the walk passes a reference that has not executed to the address
-met-untouched : (f : Fate) (a all rest : ℕ) → touches a f ≡ false → met f a all rest ≡ suc rest
+met-untouched : (f : Fate) (a all rest : ℕ) → touches a f ≡ false → keptFrom f a all rest ≡ suc rest
 met-untouched waiting a all rest e = refl
 met-untouched other a all rest e = refl
 met-untouched (loaded b) a all rest e = rw e
 met-untouched (stored b v) a all rest e = rw e
 
 spared-first : (x : Ref) (refs : List Ref) (a : ℕ)
-    → spared a (x ∷ refs) ≡ met (fateOf x) a (length refs) (spared a refs)
-unfolding spared
+    → keptYounger a (x ∷ refs) ≡ keptFrom (fateOf x) a (length refs) (keptYounger a refs)
+unfolding keptYounger
 spared-first (ref n f) refs a = refl
 
 -- the references from position q on
 pub spared-next : (refs : List Ref) (q a : ℕ) → q < length refs
-    → spared a (drop q refs)
-    ≡ met (fateOf (at refs q)) a (length (drop (suc q) refs)) (spared a (drop (suc q) refs))
-spared-next refs q a h = ap (spared a) (drop-cons refs q blank h) ∙ spared-first (at refs q) (drop (suc q) refs) a
+    → keptYounger a (drop q refs)
+    ≡ keptFrom (fateOf (at refs q)) a (length (drop (suc q) refs)) (keptYounger a (drop (suc q) refs))
+spared-next refs q a h = ap (keptYounger a) (drop-cons refs q blank h) ∙ spared-first (at refs q) (drop (suc q) refs) a
 
 -- nothing is left from the end on
-spared-end : (refs : List Ref) (a : ℕ) → spared a (drop (length refs) refs) ≡ 0
-unfolding spared
-spared-end refs a = ap (spared a) (drop-length refs)
+spared-end : (refs : List Ref) (a : ℕ) → keptYounger a (drop (length refs) refs) ≡ 0
+unfolding keptYounger
+spared-end refs a = ap (keptYounger a) (drop-length refs)
 
 -- the references from p up to q have not executed to the address
 pub spared-skip : (refs : List Ref) (p q a : ℕ) → p ≤ q → q ≤ length refs
     → ((k : ℕ) → p ≤ k → k < q → touches a (fateOf (at refs k)) ≡ false)
-    → p + spared a (drop p refs) ≡ q + spared a (drop q refs)
-spared-skip refs p zero a h l none = ap (λ (k : ℕ). k + spared a (drop k refs)) (omega arith)
+    → p + keptYounger a (drop p refs) ≡ q + keptYounger a (drop q refs)
+spared-skip refs p zero a h l none = ap (λ (k : ℕ). k + keptYounger a (drop k refs)) (omega arith)
 spared-skip refs p (suc q) a h l none =
     ⊎-elim
-    (λ (e : p ≡ suc q). ap (λ (k : ℕ). k + spared a (drop k refs)) e)
+    (λ (e : p ≡ suc q). ap (λ (k : ℕ). k + keptYounger a (drop k refs)) e)
     (λ (m : p < suc q).
     let n : p ≤ q = omega arith in
     spared-skip refs p q a n (omega arith) (λ k i j. none k i (omega arith))
     ∙ ap (λ (k : ℕ). q + k)
     (spared-next refs q a l
-    ∙ met-untouched (fateOf (at refs q)) a (length (drop (suc q) refs)) (spared a (drop (suc q) refs))
+    ∙ met-untouched (fateOf (at refs q)) a (length (drop (suc q) refs)) (keptYounger a (drop (suc q) refs))
     (none q n (le-refl (suc q))))
     ∙ omega arith)
     (eq-or-lt-of-le h)
@@ -71,11 +72,11 @@ spared-skip refs p (suc q) a h l none =
 -- no reference from p on has executed to the address: all stay
 pub spared-all : (refs : List Ref) (p a : ℕ) → p ≤ length refs
     → ((k : ℕ) → p ≤ k → k < length refs → touches a (fateOf (at refs k)) ≡ false)
-    → p + spared a (drop p refs) ≡ length refs
+    → p + keptYounger a (drop p refs) ≡ length refs
 spared-all refs p a h none =
     spared-skip refs p (length refs) a h (le-refl (length refs)) none ∙ omega (arith, spared-end refs a)
 
-met-le : (f : Fate) (a all rest : ℕ) → rest ≤ all → met f a all rest ≤ suc all
+met-le : (f : Fate) (a all rest : ℕ) → rest ≤ all → keptFrom f a all rest ≤ suc all
 met-le waiting a all rest h = suc-le-suc h
 met-le other a all rest h = suc-le-suc h
 met-le (loaded b) a all rest h = go (eqb b a)
@@ -89,14 +90,14 @@ met-le (stored b v) a all rest h = go (eqb b a)
     go true = le-refl (suc all)
     go false = suc-le-suc h
 
-spared-le : (refs : List Ref) (a : ℕ) → spared a refs ≤ length refs
-unfolding spared
+spared-le : (refs : List Ref) (a : ℕ) → keptYounger a refs ≤ length refs
+unfolding keptYounger
 spared-le [] a = zero-le
-spared-le (ref n f ∷ refs) a = met-le f a (length refs) (spared a refs) (spared-le refs a)
+spared-le (ref n f ∷ refs) a = met-le f a (length refs) (keptYounger a refs) (spared-le refs a)
 
 -- the store itself stays, and no more than all do
 pub checked-after : (P : State) (p a : ℕ) → p < length (P .refs)
-    → (p < checked P p a) × (checked P p a ≤ length (P .refs))
+    → (p < keptAfterStore P p a) × (keptAfterStore P p a ≤ length (P .refs))
 checked-after P p a h =
     (omega arith, omega (arith, spared-le (drop (suc p) (P .refs)) a, length-drop (suc p) (P .refs)))
 
@@ -110,12 +111,12 @@ untouched-at (ref n f ∷ refs) a (suc k) e h =
 
 -- an address without a row: nothing to violate
 pub untouched-checked : (P : State) (p a : ℕ) → p < length (P .refs) → touched a (P .refs) ≡ false
-    → checked P p a ≡ length (P .refs)
+    → keptAfterStore P p a ≡ length (P .refs)
 untouched-checked P p a h e = spared-all (P .refs) (suc p) a h (λ k l. untouched-at (P .refs) a k e)
 
 module _ (t : Table) (rules : Rules t) (a r k : ℕ) (own : RowFor t a r k) where
   -- row q bears the mark of the stage: its address is a exactly where row r bears that mark
-  same-row : (q p : ℕ) → q < 64 → p < k → mark t q (stageOf t p) ≡ true
+  same-row : (q p : ℕ) → q < rowsIn (t .banks) → p < k → mark t q (stageOf t p) ≡ true
       → eqb (address t q) a ≡ mark t r (stageOf t p)
   same-row q p l h m = go (mark t r (stageOf t p)) refl
     where
@@ -156,23 +157,23 @@ rowMarks t r = marked (t .oldest) (t .stages) (bitOr (getD (t .loads) r 0) (getD
 module _ (t : Table) (rules : Rules t) (a r : ℕ) (own : RowFor t a r (t .live)) where
   -- a mark's kind decides
   met-load : (q all rest : ℕ) → q < t .live → loadMark t r (stageOf t q) ≡ true
-      → met (fateAt t (stageOf t q)) a all rest ≡ 0
+      → keptFrom (fateAt t (stageOf t q)) a all rest ≡ 0
   met-load q all rest h e =
-      ap (λ (f : Fate). met f a all rest) (fate-load t rules r (stageOf t q) (own .row) e)
+      ap (λ (f : Fate). keptFrom f a all rest) (fate-load t rules r (stageOf t q) (own .row) e)
       ∙ ap (λ (b : Bool). cond b 0 (suc rest))
       (eq-eqb (address t r) a (own .own q h (mark-load t r (stageOf t q) e)))
 
   met-store : (q all rest : ℕ) → q < t .live → storeMark t r (stageOf t q) ≡ true
-      → met (fateAt t (stageOf t q)) a all rest ≡ suc all
+      → keptFrom (fateAt t (stageOf t q)) a all rest ≡ suc all
   met-store q all rest h e =
-      ap (λ (f : Fate). met f a all rest) (fate-store t rules r (stageOf t q) (own .row) e)
+      ap (λ (f : Fate). keptFrom f a all rest) (fate-store t rules r (stageOf t q) (own .row) e)
       ∙ ap (λ (b : Bool). cond b (suc all) (suc rest))
       (eq-eqb (address t r) a (own .own q h (mark-store t r (stageOf t q) e)))
 
   -- the search and the walk at position q: m is where the search stops above it, `all` references are younger
   meet : (q m all rest : ℕ) → q < t .live → suc q + all ≡ t .live → leaving t r m ≡ suc q + rest
       → (b c : Bool) → loadMark t r (stageOf t q) ≡ b → storeMark t r (stageOf t q) ≡ c
-      → leaving t r (cond (b || c) q m) ≡ q + met (fateAt t (stageOf t q)) a all rest
+      → leaving t r (cond (b || c) q m) ≡ q + keptFrom (fateAt t (stageOf t q)) a all rest
   meet q m all rest h l on true c e d =
       ap₂ (λ (b c : Bool). cond (b && c) q (t .live)) (lt-ltb q (t .live) h) e
       ∙ omega (arith, met-load q all rest h e)
@@ -188,24 +189,25 @@ module _ (t : Table) (rules : Rules t) (a r : ℕ) (own : RowFor t a r (t .live)
       )
 
   walk : (k q : ℕ) → q + k ≡ t .live
-      → leaving t r (seek (rowMarks t r) k q) ≡ q + spared a (drop q (view t .refs))
+      → leaving t r (seek (rowMarks t r) k q) ≡ q + keptYounger a (drop q (view t .refs))
   unfolding seek
   walk zero q h =
       let e : q ≡ length (view t .refs) = omega (arith, length-refs t) in
       ap (λ (b : Bool). cond (b && loadMark t r (stageOf t q)) q (t .live)) (le-ltb q (t .live) (omega arith))
-      ∙ omega (arith, ap (λ (j : ℕ). spared a (drop j (view t .refs))) e ∙ spared-end (view t .refs) a)
+      ∙ omega (arith, ap (λ (j : ℕ). keptYounger a (drop j (view t .refs))) e ∙ spared-end (view t .refs) a)
   walk (suc k) q h =
       let n : q < t .live = omega arith in
       let younger = length (drop (suc q) (view t .refs)) in
-      let rest = spared a (drop (suc q) (view t .refs)) in
+      let rest = keptYounger a (drop (suc q) (view t .refs)) in
       ap (λ (b : Bool). leaving t r (cond b q (seek (rowMarks t r) k (suc q))))
       (has-or (getD (t .loads) r 0) (getD (t .stores) r 0) (stageOf t q))
       ∙ meet q (seek (rowMarks t r) k (suc q)) younger rest n
       (omega (arith, length-drop (suc q) (view t .refs), length-refs t)) (walk k (suc q) (omega arith))
       (loadMark t r (stageOf t q)) (storeMark t r (stageOf t q)) refl refl
-      ∙ ap (λ (x : Ref). q + met (fateOf x) a younger rest) (sym (at-refs t q n))
+      ∙ ap (λ (x : Ref). q + keptFrom (fateOf x) a younger rest) (sym (at-refs t q n))
       ∙ ap (λ (j : ℕ). q + j) (sym (spared-next (view t .refs) q a (omega (arith, length-refs t))))
 
 pub violates-checked : (t : Table) → Rules t → (a r p : ℕ) → p < t .live → RowFor t a r (t .live)
-    → violates (t .oldest) (t .stages) (t .live) (getD (t .loads) r 0) (getD (t .stores) r 0) p ≡ checked (view t) p a
+    → violationPoint (t .oldest) (t .stages) (t .live) (getD (t .loads) r 0) (getD (t .stores) r 0) p ≡ keptAfterStore (view t)
+    p a
 violates-checked t rules a r p h own = walk t rules a r own (t .live - suc p) (suc p) (omega arith)

@@ -9,16 +9,16 @@ use lib.ListN.{getD, take}
 use Rattle.table.specs.Reference.{Fate, waiting, other, loaded, stored, Ref, ref, State}
 
 -- the word at address a after a reference, where w stood there before it: an executed store to a puts its own
-abbrev pub after : Fate → ℕ → ℕ → ℕ
-after waiting a w = w
-after other a w = w
-after (loaded b) a w = w
-after (stored b v) a w = cond (eqb b a) v w
+abbrev pub wordAfter : Fate → ℕ → ℕ → ℕ
+wordAfter waiting a w = w
+wordAfter other a w = w
+wordAfter (loaded b) a w = w
+wordAfter (stored b v) a w = cond (eqb b a) v w
 
 -- the word at address a that a reference sees which is younger than all of these
 unfoldable pub seen : List Ref → ℕ → ℕ → ℕ
 seen [] a w = w
-seen (ref n f ∷ refs) a w = seen refs a (after f a w)
+seen (ref n f ∷ refs) a w = seen refs a (wordAfter f a w)
 
 -- what a load of address a at position p takes; memory has no word at W or more, so 0 is read there
 abbrev pub forwarded : State → List ℕ → ℕ → ℕ → ℕ

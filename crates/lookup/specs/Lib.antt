@@ -3,4 +3,4 @@ pub mod Forwarding
 pub mod Violation
 pub mod Rows
 pub mod Outcome
-pub mod Search
+pub mod computed

@@ -10,23 +10,23 @@ use lib.Dec.{ltb}
 use lib.ListN.{length}
 use Rattle.table.specs.Bank.{bank}
 use Rattle.table.specs.Reference.{Fate, waiting, other, loaded, stored, State}
-use Rattle.table.specs.Moves.{keeping, became}
-use Rattle.lookup.specs.Violation.{checked}
-use Rattle.lookup.specs.Rows.{touched, used, youngest}
+use Rattle.table.specs.Moves.{squashTo, withFate}
+use Rattle.lookup.specs.Violation.{keptAfterStore}
+use Rattle.lookup.specs.Rows.{touched, rowsInUse, youngestRow}
 
 -- taking a row for the reference at position p, whose address has none and is of bank h
-abbrev pub room : State → ℕ → ℕ → ℕ
-room P p h =
-    cond (ltb (used (P .banks) h (P .refs)) (P .rows)) (length (P .refs))
-    (cond (ltb p (youngest (P .banks) h (P .refs))) (youngest (P .banks) h (P .refs)) 0)
+abbrev pub allocateRow : State → ℕ → ℕ → ℕ
+allocateRow P p h =
+    cond (ltb (rowsInUse (P .banks) h (P .refs)) (P .rows)) (length (P .refs))
+    (cond (ltb p (youngestRow (P .banks) h (P .refs))) (youngestRow (P .banks) h (P .refs)) 0)
 
 -- the reference at position p executes to this fate
-abbrev pub leaves : State → ℕ → Fate → ℕ
-leaves P p waiting = length (P .refs)
-leaves P p other = length (P .refs)
-leaves P p (loaded a) = cond (touched a (P .refs)) (length (P .refs)) (room P p (bank (P .banks) a))
-leaves P p (stored a v) = cond (touched a (P .refs)) (checked P p a) (room P p (bank (P .banks) a))
+abbrev pub survivors : State → ℕ → Fate → ℕ
+survivors P p waiting = length (P .refs)
+survivors P p other = length (P .refs)
+survivors P p (loaded a) = cond (touched a (P .refs)) (length (P .refs)) (allocateRow P p (bank (P .banks) a))
+survivors P p (stored a v) = cond (touched a (P .refs)) (keptAfterStore P p a) (allocateRow P p (bank (P .banks) a))
 
 -- the state after it
 abbrev pub executes : State → ℕ → Fate → State
-executes P p f = became (keeping P (leaves P p f)) p f
+executes P p f = withFate (squashTo P (survivors P p f)) p f

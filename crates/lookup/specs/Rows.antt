@@ -23,24 +23,24 @@ touched a [] = false
 touched a (ref n f ∷ refs) = touches a f || touched a refs
 
 -- address b is of bank h, and none of these older references has executed to it
-abbrev pub firstTo : ℕ → ℕ → ℕ → List Ref → Bool
-firstTo banks h b older = eqb (bank banks b) h && not (touched b older)
+abbrev pub firstAccess : ℕ → ℕ → ℕ → List Ref → Bool
+firstAccess banks h b older = eqb (bank banks b) h && not (touched b older)
 
 -- a reference with this fate, after these older ones, is the oldest mark of a row of bank h
-abbrev pub opensBy : ℕ → ℕ → List Ref → Fate → Bool
-opensBy banks h older waiting = false
-opensBy banks h older other = false
-opensBy banks h older (loaded b) = firstTo banks h b older
-opensBy banks h older (stored b v) = firstTo banks h b older
+abbrev pub allocatesBy : ℕ → ℕ → List Ref → Fate → Bool
+allocatesBy banks h older waiting = false
+allocatesBy banks h older other = false
+allocatesBy banks h older (loaded b) = firstAccess banks h b older
+allocatesBy banks h older (stored b v) = firstAccess banks h b older
 
 -- the reference at position p is the oldest mark of a row of bank h
-abbrev pub opens : ℕ → ℕ → List Ref → ℕ → Bool
-opens banks h refs p = opensBy banks h (take p refs) (fateOf (at refs p))
+abbrev pub allocatesRow : ℕ → ℕ → List Ref → ℕ → Bool
+allocatesRow banks h refs p = allocatesBy banks h (take p refs) (fateOf (at refs p))
 
 -- how many rows of bank h are in use
-abbrev pub used : ℕ → ℕ → List Ref → ℕ
-used banks h refs = count (opens banks h refs) (length refs)
+abbrev pub rowsInUse : ℕ → ℕ → List Ref → ℕ
+rowsInUse banks h refs = count (allocatesRow banks h refs) (length refs)
 
 -- the oldest mark of the row of bank h whose oldest mark is youngest
-abbrev pub youngest : ℕ → ℕ → List Ref → ℕ
-youngest banks h refs = last (opens banks h refs) (length refs)
+abbrev pub youngestRow : ℕ → ℕ → List Ref → ℕ
+youngestRow banks h refs = last (allocatesRow banks h refs) (length refs)

@@ -10,17 +10,17 @@ use Rattle.table.specs.Reference.{Fate, waiting, other, loaded, stored, Ref, re
 
 -- How many of the references from one with this fate on stay: `all` are younger than it, and `rest` of those stay if the walk
 -- goes on.
-abbrev pub met : Fate → ℕ → ℕ → ℕ → ℕ
-met waiting a all rest = suc rest
-met other a all rest = suc rest
-met (loaded b) a all rest = cond (eqb b a) 0 (suc rest)
-met (stored b v) a all rest = cond (eqb b a) (suc all) (suc rest)
+abbrev pub keptFrom : Fate → ℕ → ℕ → ℕ → ℕ
+keptFrom waiting a all rest = suc rest
+keptFrom other a all rest = suc rest
+keptFrom (loaded b) a all rest = cond (eqb b a) 0 (suc rest)
+keptFrom (stored b v) a all rest = cond (eqb b a) (suc all) (suc rest)
 
 -- how many of these younger references stay when an older store to address a executes
-unfoldable pub spared : ℕ → List Ref → ℕ
-spared a [] = 0
-spared a (ref n f ∷ refs) = met f a (length refs) (spared a refs)
+unfoldable pub keptYounger : ℕ → List Ref → ℕ
+keptYounger a [] = 0
+keptYounger a (ref n f ∷ refs) = keptFrom f a (length refs) (keptYounger a refs)
 
 -- how many references stay when the one at position p stores to address a
-abbrev pub checked : State → ℕ → ℕ → ℕ
-checked P p a = suc p + spared a (drop (suc p) (P .refs))
+abbrev pub keptAfterStore : State → ℕ → ℕ → ℕ
+keptAfterStore P p a = suc p + keptYounger a (drop (suc p) (P .refs))

@@ -2,11 +2,15 @@
 // mark, the row to evict.
 //
 // Inner crate: helpers on lent arrays. Positions are of the window of `stages` stages from stage `oldest` on.
+use table::ROWS;
+use table::SLOTS;
+use table::STAGES;
 ghost use mathlib.Core.Path.{_≡_};
 ghost use Prim.Native.Nat.{_-_, _≤_, _<_};
 ghost use lib.ListN.{length, getD};
-ghost use Rattle.table.specs.Check.{marksOf};
-ghost use Rattle.lookup.specs.Search.{
+ghost use Rattle.table.specs.Limits.{banksMost, rowsMost, stagesMost, slots, rowsIn};
+ghost use Rattle.table.specs.computed.Check.{marksOf};
+ghost use Rattle.lookup.specs.computed.Search.{
   find,
   seek,
   chosen,
@@ -14,10 +18,10 @@ ghost use Rattle.lookup.specs.Search.{
   marked,
   nearest,
   forward,
-  violates,
+  violationPoint,
   oldestMark,
   bankMark,
-  taken,
+  allocatedRow,
   rowOf,
   loadPlace,
   storePlace,
@@ -47,7 +51,7 @@ pub fn word(memory: &[u32], address: u32) -> u32
 
 // One more than the position of the nearest mark of `stores` older than position `p`, or 0.
 pub fn nearest_store(oldest: usize, stages: usize, stores: u32, p: usize) -> usize
-    requires { ⌜ (oldest < stages) × (p ≤ stages) × (stages ≤ 16) ⌝ }
+    requires { ⌜ (oldest < stages) × (p ≤ stages) × (stages ≤ stagesMost) ⌝ }
     ensures { λ r. ⌜ r ≡ nearest oldest stages stores p ⌝ }
 {
     let mut q = p;
@@ -64,26 +68,26 @@ pub fn nearest_store(oldest: usize, stages: usize, stores: u32, p: usize) -> usi
 pub fn forwarded<'a>(
     oldest: usize,
     stages: usize,
-    stores: &'a [u32; 64],
-    values: &'a [u32; 1024],
+    stores: &'a [u32; SLOTS],
+    values: &'a [u32; STAGES],
     r: usize,
     p: usize,
     memory: u32,
 ) -> u32
-    requires { ⌜ (oldest < stages) × (p ≤ stages) × (stages ≤ 16) × (r < 64) ⌝ }
-    requires { ⌜ (length (now stores) ≡ 64) × (length (now values) ≡ 1024) ⌝ }
+    requires { ⌜ (oldest < stages) × (p ≤ stages) × (stages ≤ stagesMost) × (r < slots) ⌝ }
+    requires { ⌜ (length (now stores) ≡ slots) × (length (now values) ≡ stagesMost) ⌝ }
     ensures { λ w. ⌜ w ≡ forward oldest stages (now (stores .entry)) (now (values .entry)) r p memory ⌝ }
 {
     let q = nearest_store(oldest, stages, stores[r], p);
     if q == 0 {
         return memory;
     }
-    values[r * 16 + marks::stage_at(oldest, stages, q - 1)]
+    values[marks::stage_at(oldest, stages, q - 1)]
 }
 
 // The first position from `from` on, below `live`, that is marked in `set`; `live` where none is.
 fn next_mark(oldest: usize, stages: usize, live: usize, set: u32, from: usize) -> usize
-    requires { ⌜ (oldest < stages) × (live ≤ stages) × (stages ≤ 16) × (from ≤ live) ⌝ }
+    requires { ⌜ (oldest < stages) × (live ≤ stages) × (stages ≤ stagesMost) × (from ≤ live) ⌝ }
     ensures { λ r. ⌜ (r ≤ live) × (r ≡ seek (marked oldest stages set) (live - from) from) ⌝ }
 {
     let mut q = from;
@@ -105,8 +109,8 @@ pub fn first_met(
     store: u32,
     p: usize,
 ) -> usize
-    requires { ⌜ (oldest < stages) × (live ≤ stages) × (stages ≤ 16) × (p < live) ⌝ }
-    ensures { λ r. ⌜ r ≡ violates oldest stages live load store p ⌝ }
+    requires { ⌜ (oldest < stages) × (live ≤ stages) × (stages ≤ stagesMost) × (p < live) ⌝ }
+    ensures { λ r. ⌜ r ≡ violationPoint oldest stages live load store p ⌝ }
 {
     let q = next_mark(oldest, stages, live, load | store, p + 1);
     if q < live {
@@ -122,12 +126,12 @@ fn row_mark<'a>(
     oldest: usize,
     stages: usize,
     live: usize,
-    loads: &'a [u32; 64],
-    stores: &'a [u32; 64],
+    loads: &'a [u32; SLOTS],
+    stores: &'a [u32; SLOTS],
     r: usize,
 ) -> usize
-    requires { ⌜ (oldest < stages) × (live ≤ stages) × (stages ≤ 16) × (r < 64) ⌝ }
-    requires { ⌜ (length (now loads) ≡ 64) × (length (now stores) ≡ 64) ⌝ }
+    requires { ⌜ (oldest < stages) × (live ≤ stages) × (stages ≤ stagesMost) × (r < slots) ⌝ }
+    requires { ⌜ (length (now loads) ≡ slots) × (length (now stores) ≡ slots) ⌝ }
     ensures { λ m. ⌜ m ≡ oldestMark oldest stages live (marksOf (now (loads .entry)) (now (stores .entry)) r) ⌝ }
 {
     next_mark(oldest, stages, live, loads[r] | stores[r], 0)
@@ -139,19 +143,20 @@ fn youngest_row<'a>(
     stages: usize,
     live: usize,
     rows: usize,
-    loads: &'a [u32; 64],
-    stores: &'a [u32; 64],
+    loads: &'a [u32; SLOTS],
+    stores: &'a [u32; SLOTS],
     b: usize,
 ) -> usize
-    requires { ⌜ (oldest < stages) × (live ≤ stages) × (stages ≤ 16) × (0 < rows) × (rows ≤ 8) × (b < 8) ⌝ }
-    requires { ⌜ (length (now loads) ≡ 64) × (length (now stores) ≡ 64) ⌝ }
+    requires { ⌜ (oldest < stages) × (live ≤ stages) × (stages ≤ stagesMost)
+        × (0 < rows) × (rows ≤ rowsMost) × (b < banksMost) ⌝ }
+    requires { ⌜ (length (now loads) ≡ slots) × (length (now stores) ≡ slots) ⌝ }
     ensures { λ r. ⌜ (r < rows) × (r ≡ chosen (bankMark oldest stages live (now (loads .entry)) (now (stores .entry)) b) rows) ⌝ }
 {
     let mut best = 0;
-    let mut mark = row_mark(oldest, stages, live, loads, stores, b * 8);
+    let mut mark = row_mark(oldest, stages, live, loads, stores, b * ROWS);
     let mut i = 1;
     while i < rows {
-        let m = row_mark(oldest, stages, live, loads, stores, b * 8 + i);
+        let m = row_mark(oldest, stages, live, loads, stores, b * ROWS + i);
         if mark < m {
             best = i;
             mark = m;
@@ -162,13 +167,13 @@ fn youngest_row<'a>(
 }
 
 // One more than the place in bank `b` of a free row, or 0.
-fn free_row<'a>(rows: usize, loads: &'a [u32; 64], stores: &'a [u32; 64], b: usize) -> usize
-    requires { ⌜ (rows ≤ 8) × (b < 8) × (length (now loads) ≡ 64) × (length (now stores) ≡ 64) ⌝ }
+fn free_row<'a>(rows: usize, loads: &'a [u32; SLOTS], stores: &'a [u32; SLOTS], b: usize) -> usize
+    requires { ⌜ (rows ≤ rowsMost) × (b < banksMost) × (length (now loads) ≡ slots) × (length (now stores) ≡ slots) ⌝ }
     ensures { λ r. ⌜ (r ≤ rows) × (r ≡ find (free (now (loads .entry)) (now (stores .entry)) b) rows) ⌝ }
 {
     let mut i = rows;
     while 0 < i {
-        let r = b * 8 + (i - 1);
+        let r = b * ROWS + (i - 1);
         if (loads[r] | stores[r]) == 0 {
             return i;
         }
@@ -183,24 +188,25 @@ pub fn take_row<'a>(
     stages: usize,
     live: usize,
     rows: usize,
-    loads: &'a [u32; 64],
-    stores: &'a [u32; 64],
+    loads: &'a [u32; SLOTS],
+    stores: &'a [u32; SLOTS],
     b: usize,
     p: usize,
 ) -> Place
-    requires { ⌜ (oldest < stages) × (live ≤ stages) × (stages ≤ 16) × (0 < rows) × (rows ≤ 8) × (b < 8) ⌝ }
-    requires { ⌜ (length (now loads) ≡ 64) × (length (now stores) ≡ 64) ⌝ }
-    ensures { λ r. ⌜ r ≡ taken oldest stages live rows (now (loads .entry)) (now (stores .entry)) b p ⌝ }
+    requires { ⌜ (oldest < stages) × (live ≤ stages) × (stages ≤ stagesMost)
+        × (0 < rows) × (rows ≤ rowsMost) × (b < banksMost) ⌝ }
+    requires { ⌜ (length (now loads) ≡ slots) × (length (now stores) ≡ slots) ⌝ }
+    ensures { λ r. ⌜ r ≡ allocatedRow oldest stages live rows (now (loads .entry)) (now (stores .entry)) b p ⌝ }
 {
     let i = free_row(rows, loads, stores, b);
     if i != 0 {
         return Place {
-            row: b * 8 + (i - 1),
+            row: b * ROWS + (i - 1),
             left: live,
         };
     }
     let y = youngest_row(oldest, stages, live, rows, loads, stores, b);
-    let r = b * 8 + y;
+    let r = b * ROWS + y;
     let m = row_mark(oldest, stages, live, loads, stores, r);
     if p < m {
         return Place { row: r, left: m };
@@ -211,19 +217,19 @@ pub fn take_row<'a>(
 // One more than the place in bank `b` of the row of address `a`, or 0.
 pub fn row_of<'a>(
     rows: usize,
-    addresses: &'a [u32; 64],
-    loads: &'a [u32; 64],
-    stores: &'a [u32; 64],
+    addresses: &'a [u32; SLOTS],
+    loads: &'a [u32; SLOTS],
+    stores: &'a [u32; SLOTS],
     b: usize,
     a: u32,
 ) -> usize
-    requires { ⌜ (rows ≤ 8) × (b < 8) ⌝ }
-    requires { ⌜ (length (now addresses) ≡ 64) × (length (now loads) ≡ 64) × (length (now stores) ≡ 64) ⌝ }
+    requires { ⌜ (rows ≤ rowsMost) × (b < banksMost) ⌝ }
+    requires { ⌜ (length (now addresses) ≡ slots) × (length (now loads) ≡ slots) × (length (now stores) ≡ slots) ⌝ }
     ensures { λ r. ⌜ (r ≤ rows) × (r ≡ rowOf rows (now (addresses .entry)) (now (loads .entry)) (now (stores .entry)) b a) ⌝ }
 {
     let mut i = rows;
     while 0 < i {
-        let r = b * 8 + (i - 1);
+        let r = b * ROWS + (i - 1);
         if !((loads[r] | stores[r]) == 0) & (addresses[r] == a) {
             return i;
         }
@@ -238,23 +244,25 @@ pub fn load_place<'a>(
     stages: usize,
     live: usize,
     rows: usize,
-    addresses: &'a [u32; 64],
-    loads: &'a [u32; 64],
-    stores: &'a [u32; 64],
+    addresses: &'a [u32; SLOTS],
+    loads: &'a [u32; SLOTS],
+    stores: &'a [u32; SLOTS],
     b: usize,
     a: u32,
     p: usize,
 ) -> Place
-    requires { ⌜ (oldest < stages) × (live ≤ stages) × (stages ≤ 16) × (0 < rows) × (rows ≤ 8) × (b < 8) ⌝ }
-    requires { ⌜ (length (now addresses) ≡ 64) × (length (now loads) ≡ 64) × (length (now stores) ≡ 64) ⌝ }
-    ensures { λ r. ⌜ r ≡ loadPlace oldest stages live rows (now (addresses .entry)) (now (loads .entry)) (now (stores .entry)) b a p ⌝ }
+    requires { ⌜ (oldest < stages) × (live ≤ stages) × (stages ≤ stagesMost)
+        × (0 < rows) × (rows ≤ rowsMost) × (b < banksMost) ⌝ }
+    requires { ⌜ (length (now addresses) ≡ slots) × (length (now loads) ≡ slots) × (length (now stores) ≡ slots) ⌝ }
+    ensures { λ r. ⌜ r
+        ≡ loadPlace oldest stages live rows (now (addresses .entry)) (now (loads .entry)) (now (stores .entry)) b a p ⌝ }
 {
     let i = row_of(rows, addresses, loads, stores, b, a);
     if i == 0 {
         return take_row(oldest, stages, live, rows, loads, stores, b, p);
     }
     Place {
-        row: b * 8 + (i - 1),
+        row: b * ROWS + (i - 1),
         left: live,
     }
 }
@@ -265,45 +273,49 @@ pub fn store_place<'a>(
     stages: usize,
     live: usize,
     rows: usize,
-    addresses: &'a [u32; 64],
-    loads: &'a [u32; 64],
-    stores: &'a [u32; 64],
+    addresses: &'a [u32; SLOTS],
+    loads: &'a [u32; SLOTS],
+    stores: &'a [u32; SLOTS],
     b: usize,
     a: u32,
     p: usize,
 ) -> Place
-    requires { ⌜ (oldest < stages) × (live ≤ stages) × (stages ≤ 16) × (0 < rows) × (rows ≤ 8) × (b < 8) × (p < live) ⌝ }
-    requires { ⌜ (length (now addresses) ≡ 64) × (length (now loads) ≡ 64) × (length (now stores) ≡ 64) ⌝ }
-    ensures { λ r. ⌜ r ≡ storePlace oldest stages live rows (now (addresses .entry)) (now (loads .entry)) (now (stores .entry)) b a p ⌝ }
+    requires { ⌜ (oldest < stages) × (live ≤ stages) × (stages ≤ stagesMost)
+        × (0 < rows) × (rows ≤ rowsMost) × (b < banksMost) × (p < live) ⌝ }
+    requires { ⌜ (length (now addresses) ≡ slots) × (length (now loads) ≡ slots) × (length (now stores) ≡ slots) ⌝ }
+    ensures { λ r. ⌜ r
+        ≡ storePlace oldest stages live rows (now (addresses .entry)) (now (loads .entry)) (now (stores .entry)) b a p ⌝ }
 {
     let i = row_of(rows, addresses, loads, stores, b, a);
     if i == 0 {
         return take_row(oldest, stages, live, rows, loads, stores, b, p);
     }
-    let r = b * 8 + (i - 1);
+    let r = b * ROWS + (i - 1);
     Place {
         row: r,
         left: first_met(oldest, stages, live, loads[r], stores[r], p),
     }
 }
 
-// What the marks say of stage `s`.
+// What the marks of `banks` banks say of stage `s`.
 pub fn mark_at<'a>(
-    addresses: &'a [u32; 64],
-    loads: &'a [u32; 64],
-    stores: &'a [u32; 64],
-    values: &'a [u32; 1024],
+    banks: usize,
+    addresses: &'a [u32; SLOTS],
+    loads: &'a [u32; SLOTS],
+    stores: &'a [u32; SLOTS],
+    values: &'a [u32; STAGES],
     s: usize,
 ) -> Mark
-    requires { ⌜ (s < 16) × (length (now addresses) ≡ 64) × (length (now loads) ≡ 64) ⌝ }
-    requires { ⌜ (length (now stores) ≡ 64) × (length (now values) ≡ 1024) ⌝ }
-    ensures { λ r. ⌜ r ≡ markOf (now (addresses .entry)) (now (loads .entry)) (now (stores .entry)) (now (values .entry)) s 64 ⌝ }
+    requires { ⌜ (banks ≤ banksMost) × (s < stagesMost) × (length (now addresses) ≡ slots) × (length (now loads) ≡ slots) ⌝ }
+    requires { ⌜ (length (now stores) ≡ slots) × (length (now values) ≡ stagesMost) ⌝ }
+    ensures { λ r. ⌜ r
+        ≡ markOf (now (addresses .entry)) (now (loads .entry)) (now (stores .entry)) (now (values .entry)) s (rowsIn banks) ⌝ }
 {
-    let mut i = 64;
+    let mut i = banks * ROWS;
     while 0 < i {
         let r = i - 1;
         if marks::contains(stores[r], s) {
-            return Mark::Store(addresses[r], values[r * 16 + s]);
+            return Mark::Store(addresses[r], values[s]);
         }
         if marks::contains(loads[r], s) {
             return Mark::Load(addresses[r]);

@@ -4,12 +4,17 @@
 ghost use mathlib.Core.Path.{_≡_};
 ghost use Prim.Native.Nat.{_+_, _≤_, _<_, _^_};
 ghost use lib.Bits.{bitOr};
-ghost use Rattle.marks.specs.Stages.{has};
+ghost use Rattle.marks.specs.Stages.{width, has};
 ghost use Rattle.marks.specs.Circle.{stage, position, firsts};
+
+// The bits of a mark word, and the word with all of them.
+const WIDTH: usize = 32;
+
+const ONES: u32 = 4294967295;
 
 // Whether stage `k` is in the set `word`.
 pub fn contains(word: u32, k: usize) -> bool
-    requires { ⌜ k < 32 ⌝ }
+    requires { ⌜ k < width ⌝ }
     ensures { λ r. ⌜ r ≡ has word k ⌝ }
 {
     (word >> k) % 2 == 1
@@ -17,7 +22,7 @@ pub fn contains(word: u32, k: usize) -> bool
 
 // The set `word` with stage `k`.
 pub fn including(word: u32, k: usize) -> u32
-    requires { ⌜ k < 32 ⌝ }
+    requires { ⌜ k < width ⌝ }
     ensures { λ r. ⌜ r ≡ bitOr word (2 ^ k) ⌝ }
 {
     word | (1 << k)
@@ -25,7 +30,7 @@ pub fn including(word: u32, k: usize) -> u32
 
 // The stage at position `p` of a window that starts at stage `oldest` of `stages`.
 pub fn stage_at(oldest: usize, stages: usize, p: usize) -> usize
-    requires { ⌜ (oldest < stages) × (p ≤ stages) × (stages ≤ 32) ⌝ }
+    requires { ⌜ (oldest < stages) × (p ≤ stages) × (stages ≤ width) ⌝ }
     ensures { λ r. ⌜ r ≡ stage oldest stages p ⌝ }
 {
     let sum = oldest + p;
@@ -34,7 +39,7 @@ pub fn stage_at(oldest: usize, stages: usize, p: usize) -> usize
 
 // The position of stage `s` in that window.
 pub fn position_of(oldest: usize, stages: usize, s: usize) -> usize
-    requires { ⌜ (oldest < stages) × (s < stages) × (stages ≤ 32) ⌝ }
+    requires { ⌜ (oldest < stages) × (s < stages) × (stages ≤ width) ⌝ }
     ensures { λ r. ⌜ r ≡ position oldest stages s ⌝ }
 {
     if oldest <= s {
@@ -44,16 +49,17 @@ pub fn position_of(oldest: usize, stages: usize, s: usize) -> usize
     }
 }
 
-// The set of the stages at the first `count` positions.
+// The set of the stages at the first `count` positions: as many ones from bit `oldest` on, turned in `stages` bits. What
+// passes bit `stages` comes back at bit 0. The empty set stands apart, and the way back takes two shifts, so that no shift is
+// by WIDTH where `stages` is WIDTH.
 pub fn first_stages(oldest: usize, stages: usize, count: usize) -> u32
-    requires { ⌜ (oldest < stages) × (count ≤ stages) × (stages ≤ 32) ⌝ }
+    requires { ⌜ (oldest < stages) × (count ≤ stages) × (stages ≤ width) ⌝ }
     ensures { λ r. ⌜ r ≡ firsts oldest stages count ⌝ }
 {
-    let mut word: u32 = 0;
-    let mut i = 0;
-    while i < count {
-        word = including(word, stage_at(oldest, stages, i));
-        i += 1;
+    if count == 0 {
+        return 0;
     }
-    word
+    let all = ONES >> (WIDTH - stages);
+    let run = all >> (stages - count);
+    ((run << oldest) & all) | ((run >> (stages - 1 - oldest)) >> 1)
 }

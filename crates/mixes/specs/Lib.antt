@@ -1,2 +1,2 @@
--- Turns: the checksums, and the turns that they are of.
+-- Turns: the checksum of an engine's answers, and the turns that it is of.
 pub mod Turns

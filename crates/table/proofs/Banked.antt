@@ -14,7 +14,7 @@ use borrow.Author.Tests.{eq-eqb}
 use Rattle.marks.specs.Stages.{has}
 use Rattle.marks.specs.Counting.{every}
 use Rattle.marks.proofs.Sets.{has-or, same-set}
-use Rattle.table.specs.Check.{marksOf, taken, rowFits}
+use Rattle.table.specs.computed.Check.{marksOf, marksBelow, rowFits}
 
 union-assoc : (a b c : ℕ) → bitOr (bitOr a b) c ≡ bitOr a (bitOr b c)
 union-assoc a b c = same-set _ _ (λ k. simp has-or (or-assoc (has a k) (has b k) (has c k)))
@@ -38,20 +38,20 @@ module _ (loads stores : List ℕ) (n : ℕ) where
   marks-from i = rw (getD-drop n loads, getD-drop n stores)
 
   pub taken-more : (k : ℕ)
-      → bitOr (taken loads stores n) (taken (drop n loads) (drop n stores) k) ≡ taken loads stores (n + k)
-  unfolding taken
-  taken-more zero = or-zero-r (taken loads stores n) ∙ ap (taken loads stores) (sym (add-zero n))
+      → bitOr (marksBelow loads stores n) (marksBelow (drop n loads) (drop n stores) k) ≡ marksBelow loads stores (n + k)
+  unfolding marksBelow
+  taken-more zero = or-zero-r (marksBelow loads stores n) ∙ ap (marksBelow loads stores) (sym (add-zero n))
   taken-more (suc k) =
-      sym (union-assoc (taken loads stores n) (taken (drop n loads) (drop n stores) k) _)
-      ∙ ap₂ bitOr (taken-more k) (marks-from k) ∙ ap (taken loads stores) (sym (add-suc n k))
+      sym (union-assoc (marksBelow loads stores n) (marksBelow (drop n loads) (drop n stores) k) _)
+      ∙ ap₂ bitOr (taken-more k) (marks-from k) ∙ ap (marksBelow loads stores) (sym (add-suc n k))
 
-  pub free-more : (banks rows usable : ℕ) (addresses : List ℕ) (k : ℕ) → taken (drop n loads) (drop n stores) k ≡ 0
+  pub free-more : (banks rows usable : ℕ) (addresses : List ℕ) (k : ℕ) → marksBelow (drop n loads) (drop n stores) k ≡ 0
       → every (rowFits banks rows usable addresses loads stores) n
       ≡ every (rowFits banks rows usable addresses loads stores) (n + k)
-  unfolding every taken rowFits
+  unfolding every marksBelow rowFits
   free-more banks rows usable addresses zero e = ap (every _) (sym (add-zero n))
   free-more banks rows usable addresses (suc k) e =
-      let both = or-zero (taken (drop n loads) (drop n stores) k) (marksOf (drop n loads) (drop n stores) k) e in
+      let both = or-zero (marksBelow (drop n loads) (drop n stores) k) (marksOf (drop n loads) (drop n stores) k) e in
       let test = rowFits banks rows usable addresses loads stores in
       let passes : test (n + k) ≡ true = rw (eq-eqb (marksOf loads stores (n + k)) 0 (sym (marks-from k) ∙ both .1)) in
       free-more banks rows usable addresses k (both .0)

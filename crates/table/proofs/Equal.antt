@@ -14,6 +14,7 @@ use Rattle.marks.specs.Circle.{stage, position}
 use Rattle.marks.specs.Stages.{has}
 use Rattle.marks.proofs.Turns.{stage-lt, position-stage, stage-position}
 use Rattle.table.specs.declared.Table.{Table}
+use Rattle.table.specs.Limits.{rowsIn}
 use Rattle.table.specs.Bank.{bank}
 use Rattle.table.specs.Reference.{Fate, waiting, other, loaded, stored, ref, numberOf, fateOf, at, State}
 use Rattle.table.specs.Rules.{Live, Rules}
@@ -26,7 +27,8 @@ use Rattle.table.proofs.Fates.{fate-load, fate-store, fate-other, fate-
 
 module _ (t u : Table) (rules : Rules t) (rules′ : Rules u) (same : Same t u) where
   -- a row of u has no mark where none of t has one
-  bare-over : (s : ℕ) → ((r : ℕ) → r < 64 → mark t r s ≡ false) → (r : ℕ) → r < 64 → mark u r s ≡ false
+  bare-over : (s : ℕ) → ((r : ℕ) → r < rowsIn (t .banks) → mark t r s ≡ false)
+      → (r : ℕ) → r < rowsIn (u .banks) → mark u r s ≡ false
   bare-over s none r h =
       not-eq-not .0
       (λ e.
@@ -55,7 +57,7 @@ module _ (t u : Table) (rules : Rules t) (rules′ : Rules u) (same : Same t u) 
 
   same-ref : (p : ℕ) → p < t .live → refAt u p ≡ refAt t p
   same-ref p h =
-      let room = rules .room in
+      let room = rules .live-bounded in
       let s = stageOf t p in
       let live : Live t s =
       record {
@@ -112,10 +114,10 @@ module _ (t : Table) (rules : Rules t) (s : ℕ) where
       go (stores r h m) = ap ran (fate-store t rules r s h m) ∙ sym (rules .executed r s h (mark-store t r s m))
 
   -- the row of a load
-  reader : (a : ℕ) → fateAt t s ≡ loaded a → (r : ℕ) × (r < 64) × (loadMark t r s ≡ true) × (address t r ≡ a)
+  reader : (a : ℕ) → fateAt t s ≡ loaded a → (r : ℕ) × (r < rowsIn (t .banks)) × (loadMark t r s ≡ true) × (address t r ≡ a)
   reader a f = go (fated t s)
     where
-      go : Fated t s → (r : ℕ) × (r < 64) × (loadMark t r s ≡ true) × (address t r ≡ a)
+      go : Fated t s → (r : ℕ) × (r < rowsIn (t .banks)) × (loadMark t r s ≡ true) × (address t r ≡ a)
       go (waits e) = impossible (cc (fate-waiting t rules s e))
       go (bare e none) = impossible (cc (fate-other t rules s e none))
       go (loads r h m) = (r, h, m, cc (fate-load t rules r s h m))
@@ -123,10 +125,10 @@ module _ (t : Table) (rules : Rules t) (s : ℕ) where
 
   -- the row of a store, and its word there
   writer : (a v : ℕ) → fateAt t s ≡ stored a v
-      → (r : ℕ) × (r < 64) × (storeMark t r s ≡ true) × (address t r ≡ a) × (value t r s ≡ v)
+      → (r : ℕ) × (r < rowsIn (t .banks)) × (storeMark t r s ≡ true) × (address t r ≡ a) × (value t s ≡ v)
   writer a v f = go (fated t s)
     where
-      go : Fated t s → (r : ℕ) × (r < 64) × (storeMark t r s ≡ true) × (address t r ≡ a) × (value t r s ≡ v)
+      go : Fated t s → (r : ℕ) × (r < rowsIn (t .banks)) × (storeMark t r s ≡ true) × (address t r ≡ a) × (value t s ≡ v)
       go (waits e) = impossible (cc (fate-waiting t rules s e))
       go (bare e none) = impossible (cc (fate-other t rules s e none))
       go (loads r h m) = impossible (cc (fate-load t rules r s h m))
@@ -156,42 +158,44 @@ module _ (t u : Table) (rules : Rules t) (rules′ : Rules u) (one : view u ≡ 
   executed-over s live = sym (fate-ran u rules′ s) ∙ ap ran (fate-over s live) ∙ fate-ran t rules s
 
   -- a load of row r of t is a load of a row of u, and so a store
-  load-there : (r s : ℕ) → r < 64 → loadMark t r s ≡ true
-      → (q : ℕ) × (q < 64) × (loadMark u q s ≡ true) × (address u q ≡ address t r)
+  load-there : (r s : ℕ) → r < rowsIn (t .banks) → loadMark t r s ≡ true
+      → (q : ℕ) × (q < rowsIn (u .banks)) × (loadMark u q s ≡ true) × (address u q ≡ address t r)
   load-there r s h m =
       reader u rules′ s (address t r)
       (fate-over s (rules .live r s h (mark-load t r s m)) ∙ fate-load t rules r s h m)
 
-  store-there : (r s : ℕ) → r < 64 → storeMark t r s ≡ true
-      → (q : ℕ) × (q < 64) × (storeMark u q s ≡ true) × (address u q ≡ address t r) × (value u q s ≡ value t r s)
+  store-there : (r s : ℕ) → r < rowsIn (t .banks) → storeMark t r s ≡ true
+      → (q : ℕ) × (q < rowsIn (u .banks)) × (storeMark u q s ≡ true) × (address u q ≡ address t r) × (value u s ≡ value t s)
   store-there r s h m =
-      writer u rules′ s (address t r) (value t r s)
+      writer u rules′ s (address t r) (value t s)
       (fate-over s (rules .live r s h (mark-store t r s m)) ∙ fate-store t rules r s h m)
 
   -- of that row, where it is known: row q of u has a mark and r's address
-  load-over : (r q v s : ℕ) → r < 64 → q < 64 → mark u q v ≡ true → address u q ≡ address t r
+  load-over : (r q v s : ℕ) → r < rowsIn (t .banks) → q < rowsIn (u .banks) → mark u q v ≡ true
+      → address u q ≡ address t r
       → loadMark t r s ≡ true → loadMark u q s ≡ true
   load-over r q v s h l n a m =
       let w = load-there r s h m in
       let e : w .0 ≡ q = rules′ .one-address (w .0) q s v (w .1) l (mark-load u (w .0) s (w .2)) n (w .3 ∙ sym a) in
       ap (λ (k : ℕ). loadMark u k s) (sym e) ∙ w .2
 
-  store-over : (r q v s : ℕ) → r < 64 → q < 64 → mark u q v ≡ true → address u q ≡ address t r
-      → storeMark t r s ≡ true → (storeMark u q s ≡ true) × (value u q s ≡ value t r s)
+  store-over : (r q v s : ℕ) → r < rowsIn (t .banks) → q < rowsIn (u .banks) → mark u q v ≡ true
+      → address u q ≡ address t r
+      → storeMark t r s ≡ true → (storeMark u q s ≡ true) × (value u s ≡ value t s)
   store-over r q v s h l n a m =
       let w = store-there r s h m in
       let e : w .0 ≡ q = rules′ .one-address (w .0) q s v (w .1) l (mark-store u (w .0) s (w .2)) n (w .3 ∙ sym a) in
-      (ap (λ (k : ℕ). storeMark u k s) (sym e) ∙ w .2, ap (λ (k : ℕ). value u k s) (sym e) ∙ w .4)
+      (ap (λ (k : ℕ). storeMark u k s) (sym e) ∙ w .2, w .4)
 
-  row-there : (r s : ℕ) → r < 64 → mark t r s ≡ true
-      → (q : ℕ) × (q < 64) × (mark u q s ≡ true) × (address u q ≡ address t r)
+  row-there : (r s : ℕ) → r < rowsIn (t .banks) → mark t r s ≡ true
+      → (q : ℕ) × (q < rowsIn (u .banks)) × (mark u q s ≡ true) × (address u q ≡ address t r)
   row-there r s h m =
       ⊎-elim
       (λ n. let w = load-there r s h n in (w .0, w .1, mark-load u (w .0) s (w .2), w .3))
       (λ n. let w = store-there r s h n in (w .0, w .1, mark-store u (w .0) s (w .2), w .3))
       (mark-kind t r s m)
 
-row-over : (t u : Table) → Rules t → Rules u → view u ≡ view t → (r s : ℕ) → r < 64 → mark t r s ≡ true
+row-over : (t u : Table) → Rules t → Rules u → view u ≡ view t → (r s : ℕ) → r < rowsIn (t .banks) → mark t r s ≡ true
     → (q : ℕ) × SameRow t u r q
 row-over t u rules rules′ one r s h m =
     let (q, l, n, a) = row-there t u rules rules′ one r s h m in

@@ -11,6 +11,7 @@ use native.Mathlib.Omega.{arith}
 use lib.ListN.{length}
 use Rattle.marks.specs.Stages.{has}
 use Rattle.table.specs.declared.Table.{Table}
+use Rattle.table.specs.Limits.{rowsIn}
 use Rattle.table.specs.Reference.{Fate, waiting, other, loaded, stored, blank, at}
 use Rattle.table.specs.Rules.{Rules}
 use Rattle.table.specs.View.{address, loadMark, storeMark, mark, value, rowFate, markFate, fateAt, refAt, view}
@@ -61,34 +62,36 @@ row-marked false true a v d e h = refl
 row-marked false false a v d e h = absurd (true≢false (sym h))
 
 module _ (t u : Table) (s : ℕ)
-    (loads : (r : ℕ) → r < 64 → loadMark u r s ≡ loadMark t r s)
-    (stores : (r : ℕ) → r < 64 → storeMark u r s ≡ storeMark t r s)
-    (addresses : (r : ℕ) → r < 64 → mark t r s ≡ true → address u r ≡ address t r)
-    (values : (r : ℕ) → r < 64 → storeMark t r s ≡ true → value u r s ≡ value t r s) where
-  marks-same : (k : ℕ) → k ≤ 64 → markFate u s k ≡ markFate t s k
+    (loads : (r : ℕ) → r < rowsIn (t .banks) → loadMark u r s ≡ loadMark t r s)
+    (stores : (r : ℕ) → r < rowsIn (t .banks) → storeMark u r s ≡ storeMark t r s)
+    (addresses : (r : ℕ) → r < rowsIn (t .banks) → mark t r s ≡ true → address u r ≡ address t r)
+    (values : (r : ℕ) → r < rowsIn (t .banks) → storeMark t r s ≡ true → value u s ≡ value t s) where
+  marks-same : (k : ℕ) → k ≤ rowsIn (t .banks) → markFate u s k ≡ markFate t s k
   unfolding markFate
   marks-same zero h = refl
   marks-same (suc k) h =
-      ap₂ (λ (st ld : Bool). says st ld (address u k) (value u k s) (markFate u s k)) (stores k h) (loads k h)
-      ∙ row-same (storeMark t k s) (loadMark t k s) (address u k) (address t k) (value u k s) (value t k s)
+      ap₂ (λ (st ld : Bool). says st ld (address u k) (value u s) (markFate u s k)) (stores k h) (loads k h)
+      ∙ row-same (storeMark t k s) (loadMark t k s) (address u k) (address t k) (value u s) (value t s)
       (markFate u s k) (addresses k h) (values k h)
       ∙ ap (rowFate t s k) (marks-same k (omega arith))
 
--- two tables with the same marks at a stage, and the same addresses and values there, give it one fate
-pub fates-same : (t u : Table) (s : ℕ) → has (u .executed) s ≡ has (t .executed) s
-    → ((r : ℕ) → r < 64 → loadMark u r s ≡ loadMark t r s) → ((r : ℕ) → r < 64 → storeMark u r s ≡ storeMark t r s)
-    → ((r : ℕ) → r < 64 → mark t r s ≡ true → address u r ≡ address t r)
-    → ((r : ℕ) → r < 64 → storeMark t r s ≡ true → value u r s ≡ value t r s) → fateAt u s ≡ fateAt t s
-fates-same t u s executed loads stores addresses values =
+-- two tables with as many banks and the same marks at a stage, and the same addresses and values there, give it one fate
+pub fates-same : (t u : Table) (s : ℕ) → u .banks ≡ t .banks → has (u .executed) s ≡ has (t .executed) s
+    → ((r : ℕ) → r < rowsIn (t .banks) → loadMark u r s ≡ loadMark t r s)
+    → ((r : ℕ) → r < rowsIn (t .banks) → storeMark u r s ≡ storeMark t r s)
+    → ((r : ℕ) → r < rowsIn (t .banks) → mark t r s ≡ true → address u r ≡ address t r)
+    → ((r : ℕ) → r < rowsIn (t .banks) → storeMark t r s ≡ true → value u s ≡ value t s) → fateAt u s ≡ fateAt t s
+fates-same t u s banks executed loads stores addresses values =
     ap₂ (λ (b : Bool) (f : Fate). cond b f waiting) executed
-    (marks-same t u s loads stores addresses values 64 (le-refl 64))
+    (ap (λ (n : ℕ). markFate u s (rowsIn n)) banks
+    ∙ marks-same t u s loads stores addresses values (rowsIn (t .banks)) (le-refl (rowsIn (t .banks))))
 
 -- a stage by its marks: not executed, executed without a mark, or with a mark of row r
 pub data Fated (t : Table) (s : ℕ) : Type 0 where
   waits : has (t .executed) s ≡ false → Fated t s
-  bare : has (t .executed) s ≡ true → ((r : ℕ) → r < 64 → mark t r s ≡ false) → Fated t s
-  loads : (r : ℕ) → r < 64 → loadMark t r s ≡ true → Fated t s
-  stores : (r : ℕ) → r < 64 → storeMark t r s ≡ true → Fated t s
+  bare : has (t .executed) s ≡ true → ((r : ℕ) → r < rowsIn (t .banks) → mark t r s ≡ false) → Fated t s
+  loads : (r : ℕ) → r < rowsIn (t .banks) → loadMark t r s ≡ true → Fated t s
+  stores : (r : ℕ) → r < rowsIn (t .banks) → storeMark t r s ≡ true → Fated t s
 
 -- one of the first k rows has a mark at s, or none has
 abbrev Looked : Table → ℕ → ℕ → Type 0
@@ -112,56 +115,59 @@ fated t s = go (has (t .executed) s) refl
     go false e = waits e
     go true e =
         ⊎-elim
-        (λ (w : (r : ℕ) × (r < 64) × (mark t r s ≡ true)).
+        (λ (w : (r : ℕ) × (r < rowsIn (t .banks)) × (mark t r s ≡ true)).
         ⊎-elim (λ m. loads (w .0) (w .1) m) (λ m. stores (w .0) (w .1) m) (mark-kind t (w .0) s (w .2)))
         (λ none. bare e none)
-        (look t s 64)
+        (look t s (rowsIn (t .banks)))
 
 unmarked : (t : Table) (s k : ℕ) → ((r : ℕ) → r < k → mark t r s ≡ false) → markFate t s k ≡ other
 unfolding markFate
 unmarked t s zero h = refl
 unmarked t s (suc k) h =
-    row-bare (storeMark t k s) (loadMark t k s) (address t k) (value t k s) (markFate t s k) (h k (le-refl (suc k)))
+    row-bare (storeMark t k s) (loadMark t k s) (address t k) (value t s) (markFate t s k) (h k (le-refl (suc k)))
     ∙ unmarked t s k (λ r l. h r (omega arith))
 
 module _ (t : Table) (rules : Rules t) where
   -- the fate that the marks of the first k rows give, where row r below k has one
-  marked : (r s : ℕ) → r < 64 → mark t r s ≡ true → (k : ℕ) → k ≤ 64 → r < k → markFate t s k ≡ rowFate t s r other
+  marked : (r s : ℕ) → r < rowsIn (t .banks) → mark t r s ≡ true → (k : ℕ) → k ≤ rowsIn (t .banks) → r < k
+      → markFate t s k ≡ rowFate t s r other
   unfolding markFate
   marked r s h m zero b l = absurd (not-suc-le-zero l)
   marked r s h m (suc k) b l =
       ⊎-elim
       (λ (e : r ≡ k).
-      row-marked (storeMark t k s) (loadMark t k s) (address t k) (value t k s) (markFate t s k) other
+      row-marked (storeMark t k s) (loadMark t k s) (address t k) (value t s) (markFate t s k) other
       (ap (λ (j : ℕ). mark t j s) (sym e) ∙ m)
       ∙ ap (λ (j : ℕ). rowFate t s j other) (sym e))
       (λ (d : r < k).
-      row-bare (storeMark t k s) (loadMark t k s) (address t k) (value t k s) (markFate t s k)
+      row-bare (storeMark t k s) (loadMark t k s) (address t k) (value t s) (markFate t s k)
       (not-eq-not .0 (λ e. ne-of-lt d (rules .one-row r k s h b m e)))
       ∙ marked r s h m k (omega arith) d)
       (eq-or-lt-of-le (le-of-suc-le-suc l))
 
   -- the fate of a stage with a mark of row r
-  fate-marked : (r s : ℕ) → r < 64 → mark t r s ≡ true → fateAt t s ≡ rowFate t s r other
+  fate-marked : (r s : ℕ) → r < rowsIn (t .banks) → mark t r s ≡ true → fateAt t s ≡ rowFate t s r other
   fate-marked r s h m =
-      ap₂ (λ (b : Bool) (f : Fate). cond b f waiting) (rules .executed r s h m) (marked r s h m 64 (le-refl 64) h)
+      ap₂ (λ (b : Bool) (f : Fate). cond b f waiting) (rules .executed r s h m)
+      (marked r s h m (rowsIn (t .banks)) (le-refl (rowsIn (t .banks))) h)
 
-  pub fate-load : (r s : ℕ) → r < 64 → loadMark t r s ≡ true → fateAt t s ≡ loaded (address t r)
+  pub fate-load : (r s : ℕ) → r < rowsIn (t .banks) → loadMark t r s ≡ true → fateAt t s ≡ loaded (address t r)
   fate-load r s h m =
       fate-marked r s h (mark-load t r s m)
-      ∙ ap₂ (λ (st ld : Bool). says st ld (address t r) (value t r s) other)
+      ∙ ap₂ (λ (st ld : Bool). says st ld (address t r) (value t s) other)
       (not-eq-not {b = false} .0 (rules .one-mark r s h m)) m
 
-  pub fate-store : (r s : ℕ) → r < 64 → storeMark t r s ≡ true → fateAt t s ≡ stored (address t r) (value t r s)
+  pub fate-store : (r s : ℕ) → r < rowsIn (t .banks) → storeMark t r s ≡ true → fateAt t s ≡ stored (address t r) (value t s)
   fate-store r s h m =
       fate-marked r s h (mark-store t r s m)
-      ∙ ap (λ (st : Bool). says st (loadMark t r s) (address t r) (value t r s) other) m
+      ∙ ap (λ (st : Bool). says st (loadMark t r s) (address t r) (value t s) other) m
 
-  pub fate-other : (s : ℕ) → has (t .executed) s ≡ true → ((r : ℕ) → r < 64 → mark t r s ≡ false) → fateAt t s ≡ other
-  fate-other s e h = ap₂ (λ (b : Bool) (f : Fate). cond b f waiting) e (unmarked t s 64 h)
+  pub fate-other : (s : ℕ) → has (t .executed) s ≡ true → ((r : ℕ) → r < rowsIn (t .banks) → mark t r s ≡ false)
+      → fateAt t s ≡ other
+  fate-other s e h = ap₂ (λ (b : Bool) (f : Fate). cond b f waiting) e (unmarked t s (rowsIn (t .banks)) h)
 
   pub fate-waiting : (s : ℕ) → has (t .executed) s ≡ false → fateAt t s ≡ waiting
-  fate-waiting s e = ap (λ (b : Bool). cond b (markFate t s 64) waiting) e
+  fate-waiting s e = ap (λ (b : Bool). cond b (markFate t s (rowsIn (t .banks))) waiting) e
 
 -- the live references of the view, by position
 pub length-refs : (t : Table) → length (view t .refs) ≡ t .live

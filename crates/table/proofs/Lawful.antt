@@ -22,11 +22,11 @@ use Rattle.marks.proofs.Sets.{has-or, has-and, has-zero, member, inside, inside
 use Rattle.marks.proofs.Turns.{firsts-has, firsts-out}
 use Rattle.marks.proofs.Counts.{every-at, every-from}
 use Rattle.table.specs.declared.Table.{Table}
-use Rattle.table.specs.Limits.{rowsMost, rowsAll, sizesFit}
+use Rattle.table.specs.Limits.{rowsMost, rowsIn, sizesFit}
 use Rattle.table.specs.Bank.{bank}
 use Rattle.table.specs.View.{address, storeMark, mark}
 use Rattle.table.specs.Rules.{Live, Rules}
-use Rattle.table.specs.Check.{marksOf, taken, otherAddress, rowFits, usable, lawfulBy, lawful}
+use Rattle.table.specs.computed.Check.{marksOf, marksBelow, otherAddress, rowFits, usable, lawfulBy, lawful}
 
 -- what a test of several parts says of each
 four : (a b c d : Bool) → (a && b && c && d) ≡ true → (a ≡ true) × (b ≡ true) × (c ≡ true) × (d ≡ true)
@@ -53,28 +53,28 @@ or-from false b h = h refl
 
 -- the stages taken by the rows below k are those that bear a mark in one of them
 module _ (loads stores : List ℕ) where
-  taken-has : (k r s : ℕ) → r < k → has (marksOf loads stores r) s ≡ true → has (taken loads stores k) s ≡ true
-  unfolding taken
+  pub taken-has : (k r s : ℕ) → r < k → has (marksOf loads stores r) s ≡ true → has (marksBelow loads stores k) s ≡ true
+  unfolding marksBelow
   taken-has zero r s l h = absurd (not-suc-le-zero l)
   taken-has (suc k) r s l h =
-      has-or (taken loads stores k) (marksOf loads stores k) s
+      has-or (marksBelow loads stores k) (marksOf loads stores k) s
       ∙ ⊎-elim
       (λ (q : r ≡ k).
-      ap (λ (t : Bool). has (taken loads stores k) s || t)
-      (ap (λ (x : ℕ). has (marksOf loads stores x) s) (sym q) ∙ h) ∙ or-true (has (taken loads stores k) s))
+      ap (λ (t : Bool). has (marksBelow loads stores k) s || t)
+      (ap (λ (x : ℕ). has (marksOf loads stores x) s) (sym q) ∙ h) ∙ or-true (has (marksBelow loads stores k) s))
       (λ (q : r < k). ap (λ (t : Bool). t || has (marksOf loads stores k) s) (taken-has k r s q h))
       (eq-or-lt-of-le (le-of-suc-le-suc l))
 
-  taken-from : (k s : ℕ) → has (taken loads stores k) s ≡ true
+  pub taken-from : (k s : ℕ) → has (marksBelow loads stores k) s ≡ true
       → (r : ℕ) × (r < k) × (has (marksOf loads stores r) s ≡ true)
-  unfolding taken
+  unfolding marksBelow
   taken-from zero s h = absurd (true≢false (sym h ∙ has-zero s))
   taken-from (suc k) s h =
-      go (has (taken loads stores k) s) refl (sym (has-or (taken loads stores k) (marksOf loads stores k) s) ∙ h)
+      go (has (marksBelow loads stores k) s) refl (sym (has-or (marksBelow loads stores k) (marksOf loads stores k) s) ∙ h)
       (taken-from k s)
     where
-      go : (t : Bool) → has (taken loads stores k) s ≡ t → (t || has (marksOf loads stores k) s) ≡ true
-          → (has (taken loads stores k) s ≡ true → (r : ℕ) × (r < k) × (has (marksOf loads stores r) s ≡ true))
+      go : (t : Bool) → has (marksBelow loads stores k) s ≡ t → (t || has (marksOf loads stores k) s) ≡ true
+          → (has (marksBelow loads stores k) s ≡ true → (r : ℕ) × (r < k) × (has (marksOf loads stores r) s ≡ true))
           → (r : ℕ) × (r < suc k) × (has (marksOf loads stores r) s ≡ true)
       go true e o below = let w = below e in (w .0, omega arith, w .2)
       go false e o below = (k, omega arith, o)
@@ -97,7 +97,7 @@ alone t r = otherAddress (t .addresses) (t .loads) (t .stores) (r / rowsMost) (a
 record Row (t : Table) (r : ℕ) : Type 0 where
   one-kind : bitAnd (getD (t .loads) r 0) (getD (t .stores) r 0) ≡ 0
   usable : bitAnd (marks t r) (usableOf t) ≡ marks t r
-  fresh : bitAnd (marks t r) (taken (t .loads) (t .stores) r) ≡ 0
+  fresh : bitAnd (marks t r) (marksBelow (t .loads) (t .stores) r) ≡ 0
   in-bank : r / rowsMost ≡ bank (t .banks) (address t r)
   in-rows : r % rowsMost < t .rows
   others : (i : ℕ) → i < r % rowsMost → (marks t (r / rowsMost * rowsMost + i) ≡ 0 → ⊥)
@@ -110,7 +110,7 @@ module _ (t : Table) where
       let w =
       six (eqb (bitAnd (getD (t .loads) r 0) (getD (t .stores) r 0)) 0)
       (eqb (bitAnd (marks t r) (usableOf t)) (marks t r))
-      (eqb (bitAnd (marks t r) (taken (t .loads) (t .stores) r)) 0)
+      (eqb (bitAnd (marks t r) (marksBelow (t .loads) (t .stores) r)) 0)
       (eqb (r / rowsMost) (bank (t .banks) (address t r)))
       (ltb (r % rowsMost) (t .rows))
       (every (alone t r) (r % rowsMost))
@@ -157,25 +157,25 @@ module _ (t : Table) where
   -- the sizes, the window and each row pass their tests
   parts : lawful t ≡ true
       → (sizesFit (t .banks) (t .rows) (t .stages) (t .words) ≡ true)
-      × (t .live ≤ t .stages) × (t .oldest < t .stages) × ((r : ℕ) → r < rowsAll → Fits t r)
+      × (t .live ≤ t .stages) × (t .oldest < t .stages) × ((r : ℕ) → r < rowsIn (t .banks) → Fits t r)
   unfolding lawfulBy
   parts h =
       let w =
       four (sizesFit (t .banks) (t .rows) (t .stages) (t .words)) (leb (t .live) (t .stages))
       (ltb (t .oldest) (t .stages))
-      (every (rowFits (t .banks) (t .rows) (usableOf t) (t .addresses) (t .loads) (t .stores)) rowsAll) h in
-      (w .0, leb-true _ _ (w .1), ltb-true _ _ (w .2), every-at _ rowsAll (w .3))
+      (every (rowFits (t .banks) (t .rows) (usableOf t) (t .addresses) (t .loads) (t .stores)) (rowsIn (t .banks))) h in
+      (w .0, leb-true _ _ (w .1), ltb-true _ _ (w .2), every-at _ (rowsIn (t .banks)) (w .3))
 
   -- what the words of every row with a mark say of two rows
-  module _ (rows : (r s : ℕ) → r < rowsAll → mark t r s ≡ true → Row t r) where
+  module _ (rows : (r s : ℕ) → r < rowsIn (t .banks) → mark t r s ≡ true → Row t r) where
     -- the later of two rows bears no mark of the earlier's stages
-    fresh-mark : (r q s : ℕ) → q < rowsAll → r < q → mark t r s ≡ true → mark t q s ≡ true → ⊥
+    fresh-mark : (r q s : ℕ) → q < rowsIn (t .banks) → r < q → mark t r s ≡ true → mark t q s ≡ true → ⊥
     fresh-mark r q s l o m n =
-        apart (marks t q) (taken (t .loads) (t .stores) q) (rows q s l n .fresh) s (marked q s n)
+        apart (marks t q) (marksBelow (t .loads) (t .stores) q) (rows q s l n .fresh) s (marked q s n)
         (taken-has (t .loads) (t .stores) q r s o (marked r s m))
 
     -- the later of two rows has not the earlier's address
-    fresh-address : (r q s u : ℕ) → q < rowsAll → r < q → mark t r s ≡ true → mark t q u ≡ true
+    fresh-address : (r q s u : ℕ) → q < rowsIn (t .banks) → r < q → mark t r s ≡ true → mark t q u ≡ true
         → address t r ≡ address t q → ⊥
     fresh-address r q s u l o m n e =
         let x = rows r s (omega arith) m in
@@ -212,7 +212,7 @@ lawful-rules t h =
     let w = parts t h in
     record {
       sizes = w .0;
-      room = w .1;
+      live-bounded = w .1;
       start = w .2;
       live = λ r s l m. usable-live t (w .1) (w .2) s (on-usable r s l m) .0;
       executed = λ r s l m. usable-live t (w .1) (w .2) s (on-usable r s l m) .1;
@@ -231,19 +231,19 @@ lawful-rules t h =
       in-rows = λ r s l m. rows r s l m .in-rows;
     }
   where
-    rows : (r s : ℕ) → r < rowsAll → mark t r s ≡ true → Row t r
+    rows : (r s : ℕ) → r < rowsIn (t .banks) → mark t r s ≡ true → Row t r
     rows r s l m = fits-row t r (parts t h .3 r l) (not-free t r s m)
 
-    on-usable : (r s : ℕ) → r < rowsAll → mark t r s ≡ true → has (usableOf t) s ≡ true
+    on-usable : (r s : ℕ) → r < rowsIn (t .banks) → mark t r s ≡ true → has (usableOf t) s ≡ true
     on-usable r s l m = inside (marks t r) (usableOf t) (rows r s l m .usable) s (marked t r s m)
 
 pub rules-lawful : (t : Table) → Rules t → lawful t ≡ true
 unfolding lawfulBy
 rules-lawful t w =
-    ap₂ _&&_ (ap₂ _&&_ (ap₂ _&&_ (w .sizes) (le-leb _ _ (w .room))) (lt-ltb _ _ (w .start)))
-    (every-from _ rowsAll (λ r l. row-fits t r (λ used. row r l (member (marks t r) used))))
+    ap₂ _&&_ (ap₂ _&&_ (ap₂ _&&_ (w .sizes) (le-leb _ _ (w .live-bounded))) (lt-ltb _ _ (w .start)))
+    (every-from _ (rowsIn (t .banks)) (λ r l. row-fits t r (λ used. row r l (member (marks t r) used))))
   where
-    row : (r : ℕ) → r < rowsAll → (s : ℕ) × (has (marks t r) s ≡ true) → Row t r
+    row : (r : ℕ) → r < rowsIn (t .banks) → (s : ℕ) × (has (marks t r) s ≡ true) → Row t r
     row r l (s, m) =
         record {
           one-kind = apart-from (getD (t .loads) r 0) (getD (t .stores) r 0) (λ k. w .one-mark r k l);
@@ -251,9 +251,9 @@ rules-lawful t w =
               inside-from (marks t r) (usableOf t)
               (λ k a.
               let m = marked-from t r k a in
-              live-usable t (w .room) (w .start) k (w .live r k l m) (w .executed r k l m));
+              live-usable t (w .live-bounded) (w .start) k (w .live r k l m) (w .executed r k l m));
           fresh =
-              apart-from (marks t r) (taken (t .loads) (t .stores) r)
+              apart-from (marks t r) (marksBelow (t .loads) (t .stores) r)
               (λ k a b.
               let x = taken-from (t .loads) (t .stores) r k b in
               let e : r ≡ x .0 =

@@ -20,8 +20,8 @@ issued P =
     }
 
 -- the k oldest references stay: the others are squashed
-abbrev pub keeping : State → ℕ → State
-keeping P k =
+abbrev pub squashTo : State → ℕ → State
+squashTo P k =
     record {
       banks = P .banks;
       rows = P .rows;
@@ -33,8 +33,8 @@ keeping P k =
     }
 
 -- the oldest reference is committed: the window starts one stage later
-abbrev pub retired : State → State
-retired P =
+abbrev pub retire : State → State
+retire P =
     record {
       banks = P .banks;
       rows = P .rows;
@@ -46,8 +46,8 @@ retired P =
     }
 
 -- the reference at position p has this fate now
-abbrev pub became : State → ℕ → Fate → State
-became P p f =
+abbrev pub withFate : State → ℕ → Fate → State
+withFate P p f =
     record {
       banks = P .banks;
       rows = P .rows;

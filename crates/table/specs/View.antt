@@ -1,14 +1,15 @@
 -- The plain state of a table. It forgets a row's place in its bank, values without a store mark, and what stands at free
--- rows and at stages that are not live (specs/Same.antt says that it forgets nothing else).
+-- rows, at rows of banks that the sizes do not give and at stages that are not live (specs/Same.antt says that it forgets
+-- nothing else).
 -- Assumes nothing.
 use mathlib.Core.Bool.{Bool, cond, _||_}
 use mathlib.Core.List.{List, [], _∷_, _++_}
-use Prim.Native.Nat.{ℕ, zero, suc, _+_, _*_}
+use Prim.Native.Nat.{ℕ, zero, suc}
 use lib.ListN.{getD}
 use Rattle.marks.specs.Stages.{has}
 use Rattle.marks.specs.Circle.{stage}
 use Rattle.table.specs.declared.Table.{Table}
-use Rattle.table.specs.Limits.{rowsAll, stagesMost}
+use Rattle.table.specs.Limits.{rowsIn}
 use Rattle.table.specs.Reference.{Fate, waiting, other, loaded, stored, Ref, ref, State}
 
 -- the stage at position p of the window
@@ -30,12 +31,13 @@ storeMark t r s = has (getD (t .stores) r 0) s
 abbrev pub mark : Table → ℕ → ℕ → Bool
 mark t r s = loadMark t r s || storeMark t r s
 
-abbrev pub value : Table → ℕ → ℕ → ℕ
-value t r s = getD (t .values) (r * stagesMost + s) 0
+-- the word of the store of stage s
+abbrev pub value : Table → ℕ → ℕ
+value t s = getD (t .values) s 0
 
 -- what the marks of row r say of stage s; d where it bears none there
 abbrev pub rowFate : Table → ℕ → ℕ → Fate → Fate
-rowFate t s r d = cond (storeMark t r s) (stored (address t r) (value t r s)) (cond (loadMark t r s) (loaded (address t r)) d)
+rowFate t s r d = cond (storeMark t r s) (stored (address t r) (value t s)) (cond (loadMark t r s) (loaded (address t r)) d)
 
 -- what the marks of the first k rows say of stage s; without a mark it executed without memory
 unfoldable pub markFate : Table → ℕ → ℕ → Fate
@@ -43,7 +45,7 @@ markFate t s zero = other
 markFate t s (suc k) = rowFate t s k (markFate t s k)
 
 abbrev pub fateAt : Table → ℕ → Fate
-fateAt t s = cond (has (t .executed) s) (markFate t s rowsAll) waiting
+fateAt t s = cond (has (t .executed) s) (markFate t s (rowsIn (t .banks))) waiting
 
 -- the live reference at position p
 abbrev pub refAt : Table → ℕ → Ref

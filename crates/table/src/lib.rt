@@ -2,15 +2,27 @@
 //
 // Inner crate: the calls are in the crate `buffer`. The check runs over lent arrays, so that a call copies no table for it.
 ghost use mathlib.Core.Path.{_≡_};
-ghost use Prim.Native.Nat.{_+_, _*_, _<_};
+ghost use Prim.Native.Nat.{_+_, _*_, _≤_, _<_};
 ghost use lib.ListN.{length, drop};
 ghost use Rattle.marks.specs.Counting.{every};
-ghost use Rattle.table.specs.Limits.{sizesFit};
+ghost use Rattle.table.specs.Limits.{banksMost, rowsMost, slots, rowsIn, sizesFit};
 ghost use Rattle.table.specs.Bank.{bank};
-ghost use Rattle.table.specs.Check.{taken, otherAddress, rowFits, lawfulBy};
+ghost use Rattle.table.specs.computed.Check.{marksBelow, otherAddress, rowFits, lawfulBy};
 
-// Row i of bank b is at b * 8 + i of the arrays by row, and its value at stage s at (b * 8 + i) * 16 + s of `values`.
-// A mark word (load or store bits) has bit s for stage s. `executed` has the stages whose reference has executed.
+// The limits of the sizes: stages, rows a bank, banks, words. SLOTS is the length of the arrays by row.
+pub const STAGES: usize = 16;
+
+pub const ROWS: usize = 8;
+
+pub const BANKS: usize = 8;
+
+pub const SLOTS: usize = BANKS * ROWS;
+
+pub const WORDS: usize = 4096;
+
+// Row i of bank b is at b * ROWS + i of the arrays by row. A mark word (load or store bits) has bit s for stage s.
+// `executed` has the stages whose reference has executed, and `values` the word of a store by its stage, which bears its
+// mark in one row.
 pub struct Table {
     pub banks: usize,
     pub rows: usize,
@@ -20,11 +32,11 @@ pub struct Table {
     pub live: usize,
     pub next: u32,
     pub executed: u32,
-    pub numbers: [u32; 16],
-    pub addresses: [u32; 64],
-    pub loads: [u32; 64],
-    pub stores: [u32; 64],
-    pub values: [u32; 1024],
+    pub numbers: [u32; STAGES],
+    pub addresses: [u32; SLOTS],
+    pub loads: [u32; SLOTS],
+    pub stores: [u32; SLOTS],
+    pub values: [u32; STAGES],
 }
 
 // A reference's name (sequence tag): its stage and the number under which it was issued.
@@ -114,29 +126,29 @@ pub fn bank_of(banks: usize, address: u32) -> usize
 pub fn sizes_fit(banks: usize, rows: usize, stages: usize, words: usize) -> bool
     ensures { λ r. ⌜ r ≡ sizesFit banks rows stages words ⌝ }
 {
-    ((banks == 1) | (banks == 2) | (banks == 4) | (banks == 8))
-        & ((1 <= rows) & (rows <= 8))
-        & ((1 <= stages) & (stages <= 16))
-        & ((1 <= words) & (words <= 4096))
+    ((banks == 1) | (banks == 2) | (banks == 4) | (banks == BANKS))
+        & ((1 <= rows) & (rows <= ROWS))
+        & ((1 <= stages) & (stages <= STAGES))
+        & ((1 <= words) & (words <= WORDS))
 }
 
 // Whether no marked row among the first `i` of bank `b` has address `a`.
 pub fn address_alone<'a>(
-    addresses: &'a [u32; 64],
-    loads: &'a [u32; 64],
-    stores: &'a [u32; 64],
+    addresses: &'a [u32; SLOTS],
+    loads: &'a [u32; SLOTS],
+    stores: &'a [u32; SLOTS],
     b: usize,
     a: u32,
     i: usize,
 ) -> bool
-    requires { ⌜ (b < 8) × (i < 8) ⌝ }
-    requires { ⌜ (length (now addresses) ≡ 64) × (length (now loads) ≡ 64) × (length (now stores) ≡ 64) ⌝ }
+    requires { ⌜ (b < banksMost) × (i < rowsMost) ⌝ }
+    requires { ⌜ (length (now addresses) ≡ slots) × (length (now loads) ≡ slots) × (length (now stores) ≡ slots) ⌝ }
     ensures { λ r. ⌜ r ≡ every (otherAddress (now (addresses .entry)) (now (loads .entry)) (now (stores .entry)) b a) i ⌝ }
 {
     let mut alone = true;
     let mut k = 0;
     while k < i {
-        let r = b * 8 + k;
+        let r = b * ROWS + k;
         alone = alone & (((loads[r] | stores[r]) == 0) | !(addresses[r] == a));
         k += 1;
     }
@@ -149,13 +161,13 @@ pub fn row_fits<'a>(
     rows: usize,
     allowed: u32,
     before: u32,
-    addresses: &'a [u32; 64],
-    loads: &'a [u32; 64],
-    stores: &'a [u32; 64],
+    addresses: &'a [u32; SLOTS],
+    loads: &'a [u32; SLOTS],
+    stores: &'a [u32; SLOTS],
     r: usize,
 ) -> bool
-    requires { ⌜ (r < 64) × (0 < banks) × (before ≡ taken (now loads) (now stores) r) ⌝ }
-    requires { ⌜ (length (now addresses) ≡ 64) × (length (now loads) ≡ 64) × (length (now stores) ≡ 64) ⌝ }
+    requires { ⌜ (r < slots) × (0 < banks) × (before ≡ marksBelow (now loads) (now stores) r) ⌝ }
+    requires { ⌜ (length (now addresses) ≡ slots) × (length (now loads) ≡ slots) × (length (now stores) ≡ slots) ⌝ }
     ensures { λ t. ⌜ t ≡ rowFits banks rows allowed (now (addresses .entry)) (now (loads .entry)) (now (stores .entry)) r ⌝ }
 {
     let load = loads[r];
@@ -168,20 +180,21 @@ pub fn row_fits<'a>(
     let own = ((load & store) == 0)
         & ((marks & allowed) == marks)
         & ((marks & before) == 0)
-        & (r / 8 == bank_of(banks, address))
-        & (r % 8 < rows);
-    own & address_alone(addresses, loads, stores, r / 8, address, r % 8)
+        & (r / ROWS == bank_of(banks, address))
+        & (r % ROWS < rows);
+    own & address_alone(addresses, loads, stores, r / ROWS, address, r % ROWS)
 }
 
 // The stages that bear a mark in bank `b`.
-pub fn bank_marks<'a>(loads: &'a [u32; 64], stores: &'a [u32; 64], b: usize) -> u32
-    requires { ⌜ (b < 8) × (length (now loads) ≡ 64) × (length (now stores) ≡ 64) ⌝ }
-    ensures { λ r. ⌜ r ≡ taken (drop (b * 8) (now (loads .entry))) (drop (b * 8) (now (stores .entry))) 8 ⌝ }
+pub fn bank_marks<'a>(loads: &'a [u32; SLOTS], stores: &'a [u32; SLOTS], b: usize) -> u32
+    requires { ⌜ (b < banksMost) × (length (now loads) ≡ slots) × (length (now stores) ≡ slots) ⌝ }
+    ensures { λ r. ⌜ r
+        ≡ marksBelow (drop (b * rowsMost) (now (loads .entry))) (drop (b * rowsMost) (now (stores .entry))) rowsMost ⌝ }
 {
     let mut all: u32 = 0;
     let mut i = 0;
-    while i < 8 {
-        let r = b * 8 + i;
+    while i < ROWS {
+        let r = b * ROWS + i;
         all = all | (loads[r] | stores[r]);
         i += 1;
     }
@@ -194,21 +207,22 @@ pub fn bank_fits<'a>(
     rows: usize,
     allowed: u32,
     before: u32,
-    addresses: &'a [u32; 64],
-    loads: &'a [u32; 64],
-    stores: &'a [u32; 64],
+    addresses: &'a [u32; SLOTS],
+    loads: &'a [u32; SLOTS],
+    stores: &'a [u32; SLOTS],
     b: usize,
 ) -> bool
-    requires { ⌜ (b < 8) × (0 < banks) × (before ≡ taken (now loads) (now stores) (b * 8)) ⌝ }
-    requires { ⌜ (length (now addresses) ≡ 64) × (length (now loads) ≡ 64) × (length (now stores) ≡ 64) ⌝ }
+    requires { ⌜ (b < banksMost) × (0 < banks) × (before ≡ marksBelow (now loads) (now stores) (b * rowsMost)) ⌝ }
+    requires { ⌜ (length (now addresses) ≡ slots) × (length (now loads) ≡ slots) × (length (now stores) ≡ slots) ⌝ }
     ensures { λ t. ⌜ t
-        ≡ every (λ i. rowFits banks rows allowed (now (addresses .entry)) (now (loads .entry)) (now (stores .entry)) (b * 8 + i)) 8 ⌝ }
+        ≡ every (λ i. rowFits banks rows allowed (now (addresses .entry)) (now (loads .entry)) (now (stores .entry))
+        (b * rowsMost + i)) rowsMost ⌝ }
 {
     let mut fit = true;
     let mut marked = before;
     let mut i = 0;
-    while i < 8 {
-        let r = b * 8 + i;
+    while i < ROWS {
+        let r = b * ROWS + i;
         fit = fit & row_fits(banks, rows, allowed, marked, addresses, loads, stores, r);
         marked = marked | (loads[r] | stores[r]);
         i += 1;
@@ -216,23 +230,26 @@ pub fn bank_fits<'a>(
     fit
 }
 
-// Whether every row is free or keeps the rules. The rows of a bank without marks are free, and none of them is checked.
+// Whether every row of the banks in use is free or keeps the rules. The rows of a bank without marks are free, and none of
+// them is checked.
 pub fn rows_fit<'a>(
     banks: usize,
     rows: usize,
     allowed: u32,
-    addresses: &'a [u32; 64],
-    loads: &'a [u32; 64],
-    stores: &'a [u32; 64],
+    addresses: &'a [u32; SLOTS],
+    loads: &'a [u32; SLOTS],
+    stores: &'a [u32; SLOTS],
 ) -> bool
-    requires { ⌜ 0 < banks ⌝ }
-    requires { ⌜ (length (now addresses) ≡ 64) × (length (now loads) ≡ 64) × (length (now stores) ≡ 64) ⌝ }
-    ensures { λ t. ⌜ t ≡ every (rowFits banks rows allowed (now (addresses .entry)) (now (loads .entry)) (now (stores .entry))) 64 ⌝ }
+    requires { ⌜ (0 < banks) × (banks ≤ banksMost) ⌝ }
+    requires { ⌜ (length (now addresses) ≡ slots) × (length (now loads) ≡ slots) × (length (now stores) ≡ slots) ⌝ }
+    ensures { λ t. ⌜ t
+        ≡ every (rowFits banks rows allowed (now (addresses .entry)) (now (loads .entry)) (now (stores .entry)))
+        (rowsIn banks) ⌝ }
 {
     let mut fit = true;
     let mut before: u32 = 0;
     let mut b = 0;
-    while b < 8 {
+    while b < banks {
         let used = bank_marks(loads, stores, b);
         if used != 0 {
             fit = fit & bank_fits(banks, rows, allowed, before, addresses, loads, stores, b);
@@ -252,13 +269,14 @@ pub fn keeps_rules<'a>(
     oldest: usize,
     live: usize,
     executed: u32,
-    addresses: &'a [u32; 64],
-    loads: &'a [u32; 64],
-    stores: &'a [u32; 64],
+    addresses: &'a [u32; SLOTS],
+    loads: &'a [u32; SLOTS],
+    stores: &'a [u32; SLOTS],
 ) -> bool
-    requires { ⌜ (length (now addresses) ≡ 64) × (length (now loads) ≡ 64) × (length (now stores) ≡ 64) ⌝ }
+    requires { ⌜ (length (now addresses) ≡ slots) × (length (now loads) ≡ slots) × (length (now stores) ≡ slots) ⌝ }
     ensures { λ r. ⌜ r
-        ≡ lawfulBy banks rows stages words oldest live executed (now (addresses .entry)) (now (loads .entry)) (now (stores .entry)) ⌝ }
+        ≡ lawfulBy banks rows stages words oldest live executed
+        (now (addresses .entry)) (now (loads .entry)) (now (stores .entry)) ⌝ }
 {
     if !sizes_fit(banks, rows, stages, words) {
         return false;

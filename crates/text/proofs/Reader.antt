@@ -13,8 +13,8 @@ use lib.ListN.{length, getD, take, set, length-append, drop-of-length-le}
 use lib.Seq.{length-take-le, take-suc-set, slice, slice-cons}
 use borrow.Author.Tests.{ltb-true, ltb-false, leb-true, lt-ltb, le-ltb, le-leb, lt-leb, ne-eqb}
 use Rattle.text.specs.Fields.{Open, empty, value, Reading, bad, reading, digit, comma, byte, bytes}
-use Rattle.text.specs.Fields.{closed, fields, written}
-use Rattle.text.specs.Reader.{largest, capacity, state, few, fitting}
+use Rattle.text.specs.Fields.{closed, fields, fieldsText}
+use Rattle.text.specs.computed.Reader.{largest, capacity, state, few, fitting}
 use Rattle.text.proofs.Trip.{digit-byte, digit-first, Within, fields-written, written-fields}
 
 few-in : (ns : List ℕ) (o : Open) → length ns < 64 → few (reading ns o) ≡ reading ns o
@@ -252,12 +252,12 @@ fitting-some (some ms) ns e = go (leb (length ms) 64) refl e
 
 -- a line that is read is its fields as they are written
 pub fitting-fields : (bs ns : List ℕ) → fitting (fields largest bs) ≡ some ns
-    → (bs ≡ written ns) × Within largest ns × (length ns ≤ capacity)
+    → (bs ≡ fieldsText ns) × Within largest ns × (length ns ≤ capacity)
 fitting-fields bs ns e =
     let f = fitting-some (fields largest bs) ns e in
     let w = written-fields largest bs ns (f .0) in
     (w .0, w .1, f .1)
 
 pub fitting-written : (n : ℕ) (ns : List ℕ) → Within largest (n ∷ ns) → length (n ∷ ns) ≤ capacity
-    → fitting (fields largest (written (n ∷ ns))) ≡ some (n ∷ ns)
+    → fitting (fields largest (fieldsText (n ∷ ns))) ≡ some (n ∷ ns)
 fitting-written n ns w h = ap fitting (fields-written largest n ns w) ∙ rw (le-leb (length (n ∷ ns)) capacity h)

@@ -16,7 +16,7 @@ use lib.Seq.{append-snoc}
 use borrow.Author.Tests.{eqb-true, leb-true, ltb-true, ltb-false, lt-ltb, le-leb, ne-eqb}
 use Rattle.text.specs.Decimal.{decimal}
 use Rattle.text.specs.Fields.{Open, empty, value, Reading, bad, reading, digit, comma, byte, bytes}
-use Rattle.text.specs.Fields.{closed, fields, written}
+use Rattle.text.specs.Fields.{closed, fields, fieldsText}
 use Rattle.text.proofs.Digits.{decimal-small, decimal-more}
 
 -- every number is at most the limit
@@ -76,19 +76,19 @@ pub decimal-read : (limit x : ℕ) (ns : List ℕ) → x ≤ limit
 decimal-read limit x ns h = read-below (suc x) limit x ns (omega arith) h
 
 fields-after : (limit : ℕ) (n : ℕ) (ns done : List ℕ) → Within limit (n ∷ ns)
-    → closed (bytes limit (reading done empty) (written (n ∷ ns))) ≡ some (done ++ (n ∷ ns))
-unfolding written bytes
+    → closed (bytes limit (reading done empty) (fieldsText (n ∷ ns))) ≡ some (done ++ (n ∷ ns))
+unfolding fieldsText bytes
 fields-after limit n [] done h = ap closed (decimal-read limit n done (h 0))
 fields-after limit n (m ∷ ns) done h =
     ap closed
-    (bytes-append limit (reading done empty) (decimal n) (44 ∷ written (m ∷ ns))
-    ∙ ap (λ (r : Reading). bytes limit r (44 ∷ written (m ∷ ns))) (decimal-read limit n done (h 0)))
+    (bytes-append limit (reading done empty) (decimal n) (44 ∷ fieldsText (m ∷ ns))
+    ∙ ap (λ (r : Reading). bytes limit r (44 ∷ fieldsText (m ∷ ns))) (decimal-read limit n done (h 0)))
     ∙ fields-after limit m ns (done ++ (n ∷ [])) (λ i. h (suc i))
     ∙ ap some (append-snoc done n (m ∷ ns))
 
 -- what is written is read back
 pub fields-written : (limit : ℕ) (n : ℕ) (ns : List ℕ) → Within limit (n ∷ ns)
-    → fields limit (written (n ∷ ns)) ≡ some (n ∷ ns)
+    → fields limit (fieldsText (n ∷ ns)) ≡ some (n ∷ ns)
 fields-written limit n ns h = fields-after limit n ns [] h
 
 -- fields as they are written, each with its comma
@@ -102,13 +102,13 @@ ended-snoc [] x = refl
 ended-snoc (n ∷ ns) x = rw (ended-snoc ns x) (simp append-assoc)
 
 written-cons : (n : ℕ) (ns : List ℕ) (x : ℕ)
-    → written (n ∷ (ns ++ (x ∷ []))) ≡ decimal n ++ (44 ∷ written (ns ++ (x ∷ [])))
-unfolding written
+    → fieldsText (n ∷ (ns ++ (x ∷ []))) ≡ decimal n ++ (44 ∷ fieldsText (ns ++ (x ∷ [])))
+unfolding fieldsText
 written-cons n [] x = refl
 written-cons n (m ∷ ns) x = refl
 
-written-snoc : (ns : List ℕ) (x : ℕ) → written (ns ++ (x ∷ [])) ≡ ended ns ++ decimal x
-unfolding ended written
+written-snoc : (ns : List ℕ) (x : ℕ) → fieldsText (ns ++ (x ∷ [])) ≡ ended ns ++ decimal x
+unfolding ended fieldsText
 written-snoc [] x = refl
 written-snoc (n ∷ ns) x =
     written-cons n ns x
@@ -197,15 +197,15 @@ bytes-read limit bs r (x ∷ xs) h =
     (bytes-read limit (bs ++ (x ∷ [])) (byte limit r x) xs (byte-read limit bs r x h))
 
 closed-read : (limit : ℕ) (bs ns : List ℕ) (r : Reading) → Read limit bs r → closed r ≡ some ns
-    → (bs ≡ written ns) × Within limit ns
+    → (bs ≡ fieldsText ns) × Within limit ns
 closed-read limit bs ns bad h e = absurd (let z : _≡_ {A = ℕ} 0 1 = cc in omega arith)
 closed-read limit bs ns (reading ms empty) h e = absurd (let z : _≡_ {A = ℕ} 0 1 = cc in omega arith)
 closed-read limit bs ns (reading ms (value x)) h e =
-    subst (λ (l : List ℕ). (bs ≡ written l) × Within limit l) (cc)
+    subst (λ (l : List ℕ). (bs ≡ fieldsText l) × Within limit l) (cc)
     (h .0 ∙ sym (written-snoc ms x), within-snoc limit ms x (h .1) (h .2))
 
 -- nothing else reads as it
-pub written-fields : (limit : ℕ) (bs ns : List ℕ) → fields limit bs ≡ some ns → (bs ≡ written ns) × Within limit ns
+pub written-fields : (limit : ℕ) (bs ns : List ℕ) → fields limit bs ≡ some ns → (bs ≡ fieldsText ns) × Within limit ns
 unfolding ended
 written-fields limit bs ns e =
     closed-read limit bs ns (bytes limit (reading [] empty) bs)

@@ -8,10 +8,10 @@ use lib.Dec.{eqb, leb, ltb}
 use Rattle.text.specs.Decimal.{decimal}
 
 -- numbers parted by commas (44), as they are written
-unfoldable pub written : List ℕ → List ℕ
-written [] = []
-written (n ∷ []) = decimal n
-written (n ∷ m ∷ ns) = decimal n ++ (44 ∷ written (m ∷ ns))
+unfoldable pub fieldsText : List ℕ → List ℕ
+fieldsText [] = []
+fieldsText (n ∷ []) = decimal n
+fieldsText (n ∷ m ∷ ns) = decimal n ++ (44 ∷ fieldsText (m ∷ ns))
 
 -- What is read so far: the fields before the last comma, and the field now open: none of its digits yet, or its value; a field
 -- that is 0 takes no further digit.

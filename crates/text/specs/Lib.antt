@@ -2,4 +2,4 @@
 pub mod Decimal
 pub mod Fields
 pub mod Lines
-pub mod Reader
+pub mod computed

@@ -10,7 +10,7 @@ ghost use lib.Seq.{sets, slice};
 ghost use Rattle.text.specs.Decimal.{decimal};
 ghost use Rattle.text.specs.Fields.{bad, byte, closed, fields};
 ghost use Rattle.text.specs.Lines.{lineAt};
-ghost use Rattle.text.specs.Reader.{largest, capacity, shown, few, fitting, told};
+ghost use Rattle.text.specs.computed.Reader.{largest, capacity, shown, few, fitting, parsedFields};
 
 // The fields of a line: the first `count` of `values`. While the line is read, `current` is the open
 // field, if it has digits (`begun`). Not `good`: the line is no list of numbers, or has too many.
@@ -111,13 +111,13 @@ fn close_field(n: Numbers) -> Numbers
 pub fn next_byte(n: Numbers, b: u8) -> Numbers
     ensures { λ r. ⌜ shown r ≡ few (byte largest (shown n) b) ⌝ }
 {
-    if b == 44 {
+    if b == b',' {
         return close_field(n);
     }
-    if b < 48 {
+    if b < b'0' {
         return spoiled(n);
     }
-    if 57 < b {
+    if b'9' < b {
         return spoiled(n);
     }
     add_digit(n, b as u32 - 48)
@@ -125,7 +125,7 @@ pub fn next_byte(n: Numbers, b: u8) -> Numbers
 
 // The end of the line closes the open field.
 fn finish_line(n: Numbers) -> Numbers
-    ensures fields { λ r. ⌜ told r ≡ fitting (closed (shown n)) ⌝ }
+    ensures fields { λ r. ⌜ parsedFields r ≡ fitting (closed (shown n)) ⌝ }
     ensures count { λ r. ⌜ r .count ≤ capacity ⌝ }
 {
     let k = n.count;
@@ -149,7 +149,7 @@ fn finish_line(n: Numbers) -> Numbers
 // up to 4294967295 parted by commas, at most 64 of them.
 pub fn read_fields(s: &[u8], from: usize, to: usize) -> Numbers
     requires { ⌜ to ≤ length (now s) ⌝ }
-    ensures fields { λ r. ⌜ told r ≡ fitting (fields largest (slice from to (now (s .entry)))) ⌝ }
+    ensures fields { λ r. ⌜ parsedFields r ≡ fitting (fields largest (slice from to (now (s .entry)))) ⌝ }
     ensures count { λ r. ⌜ r .count ≤ capacity ⌝ }
 {
     let mut n = Numbers {
@@ -184,7 +184,7 @@ pub fn line_at(s: &[u8], at: usize) -> Line
     }
     let mut i = at;
     while i < s.len() {
-        if s[i] == 10 {
+        if s[i] == b'\n' {
             return Line::Whole(at, i);
         }
         i += 1;

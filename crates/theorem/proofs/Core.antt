@@ -13,16 +13,26 @@ use lib.ListN.{length, getD, take, drop, set, replicate}
 use Rattle.table.specs.Reference
 use Rattle.table.specs.Reference.{waiting, other, loaded, stored}
 use Rattle.lookup.specs.Forwarding
-use Rattle.buffer.specs.Refusals.{faults}
-use Rattle.buffer.specs.Calls.{written}
-use Rattle.machine.specs.declared.Instruction.{Instruction}
-use Rattle.machine.specs.declared.Fate.{Fate}
-use Rattle.machine.specs.declared.Fate.the-variants.{Waiting, Executed}
-use Rattle.machine.specs.declared.Entry.{Entry}
-use Rattle.machine.specs.Program.{instructionAt, codeOf}
-use Rattle.theorem.specs.Sequential.{after}
-use Rattle.machine.specs.Window.{entryAt, became, leads, writesTo, valueOf, held, referenceBy, reference, outcome}
-use Rattle.machine.specs.Calls.{waits, valueBy, addressBy, registersAfter, target}
+use Rattle.engine.specs.Execution.{written}
+use Rattle.engine.specs.Conditions.{faults}
+use Rattle.machine_model.specs.declared.Instruction.{Instruction}
+use Rattle.machine_model.specs.declared.Fate.{Fate}
+use Rattle.machine_model.specs.declared.Fate.the-variants.{Waiting, Executed}
+use Rattle.machine_model.specs.declared.Entry.{Entry}
+use Rattle.machine_model.specs.Program.{instructionAt, codeOf}
+use Rattle.machine_model.specs.Window.{
+  entryAt,
+  entryWith,
+  successor,
+  writesTo,
+  valueOf,
+  registerSeen,
+  referenceBy,
+  reference,
+  evaluate,
+}
+use Rattle.machine_model.specs.Calls.{waits, valueBy, addressBy, registersAfter, target, refetch}
+use Rattle.theorem.specs.Sequential.{runAfter}
 
 -- entries oldest first, committed registers, memory, the next index, and the record and number of commits so far
 pub record Core : Type 0 where
@@ -36,11 +46,11 @@ pub record Core : Type 0 where
 -- the word at address a that is seen after these entries, where w stood before them
 unfoldable pub seenBy : List Entry → ℕ → ℕ → ℕ
 seenBy [] a w = w
-seenBy (e ∷ es) a w = seenBy es a (Forwarding.after (reference e) a w)
+seenBy (e ∷ es) a w = seenBy es a (Forwarding.wordAfter (reference e) a w)
 
 -- registers and memory as an entry at position p sees them
 abbrev pub registersAt : Core → ℕ → ℕ → Option ℕ
-registersAt c p k = held (take p (c .entries)) k (some (getD (c .registers) k 0))
+registersAt c p k = registerSeen (take p (c .entries)) k (some (getD (c .registers) k 0))
 
 abbrev pub memoryAt : Core → ℕ → ℕ → ℕ
 memoryAt c p a = seenBy (take p (c .entries)) a (getD (c .memory) a 0)
@@ -68,10 +78,6 @@ abbrev pub headIndex : List Entry → ℕ → ℕ
 headIndex [] next = next
 headIndex (e ∷ es) next = e .index
 
--- the first k entries stay, and issue goes on at the first that does not
-abbrev pub resumes : Core → ℕ → ℕ
-resumes c k = cond (ltb k (length (c .entries))) (entryAt (c .entries) k .index) (c .next)
-
 pub data Step (program : List ℕ) (c : Core) : Core → Type 0 where
   issuing : c .next < length program / 4
       → Step program c
@@ -84,14 +90,14 @@ pub data Step (program : List ℕ) (c : Core) : Core → Type 0 where
         commits = c .commits;
       })
   executing : (p left : ℕ) (f : Fate) → p < left → left ≤ length (c .entries) → entryAt (c .entries) p .fate ≡ Waiting
-      → outcome (entryAt (c .entries) p .instruction) (registersAt c p) (memoryAt c p) ≡ some f
+      → evaluate (entryAt (c .entries) p .instruction) (registersAt c p) (memoryAt c p) ≡ some f
       → Spares (referenceBy (entryAt (c .entries) p .instruction) f) (take (left - suc p) (drop (suc p) (c .entries)))
       → Step program c
       (record {
-        entries = take left (set (c .entries) p (became (entryAt (c .entries) p) f));
+        entries = take left (set (c .entries) p (entryWith (entryAt (c .entries) p) f));
         registers = c .registers;
         memory = c .memory;
-        next = resumes c left;
+        next = refetch (c .entries) left (c .next);
         record′ = c .record′;
         commits = c .commits;
       })
@@ -101,7 +107,7 @@ pub data Step (program : List ℕ) (c : Core) : Core → Type 0 where
         entries = take k (c .entries);
         registers = c .registers;
         memory = c .memory;
-        next = resumes c k;
+        next = refetch (c .entries) k (c .next);
         record′ = c .record′;
         commits = c .commits;
       })
@@ -121,26 +127,26 @@ pub data Step (program : List ℕ) (c : Core) : Core → Type 0 where
 -- an executed entry is what its instruction comes to over the registers and the memory that it sees
 abbrev pub Right : Instruction → (ℕ → Option ℕ) → (ℕ → ℕ) → Fate → Type 0
 Right i ρ μ Waiting = Unit {0}
-Right i ρ μ (Executed v a) = outcome i ρ μ ≡ some (Executed v a)
+Right i ρ μ (Executed v a) = evaluate i ρ μ ≡ some (Executed v a)
 
 -- Each entry is the program's instruction at its index, leads to the next one's index, and is right over what it sees.
 abbrev pub Good : List ℕ → ℕ → (ℕ → Option ℕ) → (ℕ → ℕ) → List Entry → Type 0
 Good program next ρ μ [] = Unit {0}
 Good program next ρ μ (e ∷ es) =
     Right (e .instruction) ρ μ (e .fate) × (e .instruction ≡ instructionAt program (e .index)) × (e .index < length program / 4)
-    × (leads e ≡ headIndex es next)
+    × (successor e ≡ headIndex es next)
     × Good program next (λ (k : ℕ). cond (writesTo (e .instruction) k) (valueOf (e .fate)) (ρ k))
-    (λ (a : ℕ). Forwarding.after (reference e) a (μ a))
+    (λ (a : ℕ). Forwarding.wordAfter (reference e) a (μ a))
     es
 
 -- What is kept: registers, memory and record are those of the sequential run after as many steps as were committed, whose
 -- next index is the oldest entry's, and the window is good over them. The record has four numbers a commit, so each of the
 -- run's steps was a real one.
 pub record Kept (program memory : List ℕ) (c : Core) : Type 0 where
-  pub registers : c .registers ≡ after program memory (c .commits) .registers
-  pub lent : c .memory ≡ after program memory (c .commits) .memory
-  pub record′ : c .record′ ≡ after program memory (c .commits) .record′
-  pub index : headIndex (c .entries) (c .next) ≡ after program memory (c .commits) .index
+  pub registers : c .registers ≡ runAfter program memory (c .commits) .registers
+  pub lent : c .memory ≡ runAfter program memory (c .commits) .memory
+  pub record′ : c .record′ ≡ runAfter program memory (c .commits) .record′
+  pub index : headIndex (c .entries) (c .next) ≡ runAfter program memory (c .commits) .index
   pub fours : length (c .record′) ≡ c .commits * 4
   pub good : Good program (c .next) (λ (k : ℕ). some (getD (c .registers) k 0)) (λ (a : ℕ). getD (c .memory) a 0) (c .entries)
 

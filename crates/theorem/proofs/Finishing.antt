@@ -3,7 +3,7 @@
 -- the answer with a commit's four numbers goes on, after any other the finish stops. So its numbers are four a commit, and the
 -- start of its list, as long as its answer tells, is those numbers.
 -- Assumes nothing.
-use mathlib.Core.Path.{_≡_, refl}
+use mathlib.Core.Path.{_≡_, refl, sym, subst}
 use mathlib.Core.Bool.{Bool, true, false, cond, _||_}
 use mathlib.Core.List.{List, [], _∷_, _++_, append-nil, append-assoc}
 use Prim.Native.Nat.{ℕ, zero, suc, _+_, _-_, _*_}
@@ -12,14 +12,27 @@ use native.Mathlib.Omega.{arith}
 use lib.Dec.{eqb, ltb}
 use lib.ListN.{length, drop}
 use lib.Seq.{take-at}
-use Rattle.buffer.specs.Refusals.{refusal, wrongLength}
-use Rattle.machine.specs.Window.{entryAt}
-use Rattle.machine.specs.Calls.{Plain, Call, issue, execute, squash, commit, finish, Answer, refused, position, executed}
-use Rattle.machine.specs.Calls.{done, committed, finished, Result, waits, programCheck, issues, executions, commits, begun}
-use Rattle.machine.specs.Calls.{ready, over, Way, goOn, stopped, finishes, finishing, respond}
-use Rattle.theorem.specs.Play.{recorded, counted}
-use Rattle.theorem.proofs.Linked.{Linked, coreOf, Steps, stays, steps-join, Links, steps-quiet}
-use Rattle.machine.specs.Calls.{issueChecks, executeChecks}
+use Rattle.engine.specs.Contract.{refused, named, executed, done, committed, finished}
+use Rattle.engine.specs.Conditions.{refusal}
+use Rattle.machine_model.specs.Window.{entryAt}
+use Rattle.machine_model.specs.Calls.{Plain, Call, issue, execute, squash, commit, finish, Answer, Result, waits, issueResult}
+use Rattle.machine_model.specs.Calls.{
+  executions,
+  commits,
+  begun,
+  ready,
+  programDone,
+  Drain,
+  continueOn,
+  drainStopped,
+  finishes,
+  finishing,
+  respond,
+}
+use Rattle.machine_model.specs.Calls.{issueChecks, executeChecks, finishChecks}
+use Rattle.theorem.specs.Play.{recorded, commitsIn}
+use Rattle.theorem.specs.computed.Linked.{Linked}
+use Rattle.theorem.proofs.Links.{coreOf, Steps, stays, steps-join, Links, steps-quiet}
 use Rattle.theorem.proofs.Linking.{issue-links, execute-links, squash-links, commit-links}
 
 -- what holds of both ways of a choice holds of the chosen one
@@ -28,14 +41,14 @@ either P true p q = p
 either P false p q = q
 
 -- the end of a way from X: its state is linked, its numbers and commits are those of steps, and the numbers are four a commit
-record Goes (program : List ℕ) (X : Plain) (memory : List ℕ) (w : Way) : Type 0 where
+record Goes (program : List ℕ) (X : Plain) (memory : List ℕ) (w : Drain) : Type 0 where
   linked : Linked program (w .state) (w .memory)
   steps : (rec : List ℕ) (n : ℕ)
       → Steps program (coreOf X memory rec n) (coreOf (w .state) (w .memory) (rec ++ w .numbers) (n + w .commits))
   fours : length (w .numbers) ≡ w .commits * 4
 
 goes-stopped : (program : List ℕ) (X : Plain) (memory : List ℕ) → Linked program X memory
-    → Goes program X memory (stopped X memory)
+    → Goes program X memory (drainStopped X memory)
 goes-stopped program X memory l =
     record { linked = l; steps = λ rec n. steps-quiet stays; fours = refl }
 
@@ -55,9 +68,9 @@ reaches-join r s = record { linked = s .linked; steps = λ rec n. steps-join (r 
 record Quiet (memory : List ℕ) (r : Result) : Type 0 where
   keeps : r .memory ≡ memory
   nothing : recorded (r .answer) (r .list) ≡ []
-  uncounted : counted (r .answer) ≡ 0
+  uncounted : commitsIn (r .answer) ≡ 0
 
-issue-quiet : (program : List ℕ) (X : Plain) (memory : List ℕ) → Quiet memory (issues program X memory)
+issue-quiet : (program : List ℕ) (X : Plain) (memory : List ℕ) → Quiet memory (issueResult program X memory)
 issue-quiet program X memory =
     either (Quiet memory) (eqb (refusal (issueChecks program X)) 0) (record { keeps = refl; nothing = refl; uncounted = refl })
     (record { keeps = refl; nothing = refl; uncounted = refl })
@@ -81,7 +94,8 @@ begun-reaches : (program : List ℕ) (X : Plain) (memory : List ℕ) → Linked 
     → Reaches program X (begun program X memory) memory
 begun-reaches program X memory l =
     either (λ Y. Reaches program X Y memory) (eqb (length (X .entries)) 0)
-    (quiet-reaches program X memory (issues program X memory) (issue-quiet program X memory) (issue-links program X memory l))
+    (quiet-reaches program X memory (issueResult program X memory) (issue-quiet program X memory) (issue-links program X memory
+    l))
     (reaches-self program X memory l)
 
 ready-reaches : (program : List ℕ) (X : Plain) (memory : List ℕ) → Linked program X memory
@@ -95,7 +109,7 @@ ready-reaches program X memory l =
     (execute-links program Y memory (b .linked) 0)))
     b
 
-reaches-goes : {program memory : List ℕ} {X Y : Plain} {w : Way} → Reaches program X Y memory → Goes program Y memory w
+reaches-goes : {program memory : List ℕ} {X Y : Plain} {w : Drain} → Reaches program X Y memory → Goes program Y memory w
     → Goes program X memory w
 reaches-goes r g =
     record { linked = g .linked; steps = λ rec n. steps-join (r .steps rec n) (g .steps rec n); fours = g .fours }
@@ -108,11 +122,11 @@ one-more n m = omega arith
 answer-goes : (program : List ℕ) (Y : Plain) (memory : List ℕ) → Linked program Y memory → (a : Answer) (Z : Plain)
     (words list : List ℕ)
     → Links program Y memory (record { answer = a; state = Z; memory = words; list = list })
-    → (rest : Way)
+    → (rest : Drain)
     → Goes program Z words rest
-    → Goes program Y memory (goOn a (stopped Y memory) rest)
+    → Goes program Y memory (continueOn a (drainStopped Y memory) rest)
 answer-goes program Y memory l (refused k) Z words list h rest g = goes-stopped program Y memory l
-answer-goes program Y memory l (position p) Z words list h rest g = goes-stopped program Y memory l
+answer-goes program Y memory l (named p) Z words list h rest g = goes-stopped program Y memory l
 answer-goes program Y memory l (executed v s) Z words list h rest g = goes-stopped program Y memory l
 answer-goes program Y memory l done Z words list h rest g = goes-stopped program Y memory l
 answer-goes program Y memory l (committed i c r v) Z words list h rest g =
@@ -135,7 +149,7 @@ finishes-goes program (suc k) places X memory l =
     let y = ready-reaches program X memory l in
     let r = commits program Y memory in
     let h = commit-links program Y memory (y .linked) in
-    either (Goes program X memory) (ltb places 4 || over X) (goes-stopped program X memory l)
+    either (Goes program X memory) (ltb places 4 || programDone X) (goes-stopped program X memory l)
     (reaches-goes y
     (answer-goes program Y memory (y .linked) (r .answer) (r .state) (r .memory) (r .list) h _
     (finishes-goes program k (places - 4) (r .state) (r .memory) (h .linked))))
@@ -145,11 +159,14 @@ pub finish-links : (program : List ℕ) (X : Plain) (memory : List ℕ) → Link
 finish-links program X memory l k list =
     let w = finishes program k (length list) X memory in
     let g = finishes-goes program k (length list) X memory l in
-    either (Links program X memory) (eqb (refusal (wrongLength (X .buffer .words) memory ∷ programCheck program X ∷ [])) 0)
+    either (Links program X memory) (eqb (refusal (finishChecks program X memory)) 0)
     (record {
       linked = g .linked;
       steps = λ rec n.
-          rw (take-at (w .numbers) (drop (length (w .numbers)) list) (w .commits * 4) (g .fours)) (g .steps rec n);
+          subst
+          (λ (l : List ℕ). Steps program (coreOf X memory rec n) (coreOf (w .state) (w .memory) (rec ++ l) (n + w .commits)))
+          (sym (take-at (w .numbers) (drop (length (w .numbers)) list) (w .commits * 4) (g .fours)))
+          (g .steps rec n);
     })
     (record { linked = l; steps = λ rec n. steps-quiet stays })
 

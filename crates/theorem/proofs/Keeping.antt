@@ -21,29 +21,29 @@ use Rattle.marks.proofs.Counts.{every-at}
 use Rattle.table.specs.Reference
 use Rattle.table.specs.Reference.{waiting, other, loaded, stored}
 use Rattle.lookup.specs.Forwarding
-use Rattle.buffer.specs.Refusals.{faults}
-use Rattle.buffer.specs.Calls.{written}
-use Rattle.machine.specs.declared.Instruction.{Instruction}
-use Rattle.machine.specs.declared.Instruction.the-variants.{Add, Sum, Load, Store}
-use Rattle.machine.specs.declared.Fate.{Fate}
-use Rattle.machine.specs.declared.Fate.the-variants.{Waiting, Executed}
-use Rattle.machine.specs.declared.Entry.{Entry}
-use Rattle.machine.specs.Program.{instructionAt, codeOf, wellFormed, wellFormedAt, programFits}
-use Rattle.theorem.specs.Sequential.{Run, does, faultsAt, ends, step, after}
-use Rattle.machine.specs.Window.{entryAt, became, writesTo, valueOf, held, referenceBy, reference, outcome}
-use Rattle.machine.specs.Calls.{waits, dOf, valueBy, addressBy, registersAfter, target}
+use Rattle.engine.specs.Execution.{written}
+use Rattle.engine.specs.Conditions.{faults}
+use Rattle.machine_model.specs.declared.Instruction.{Instruction}
+use Rattle.machine_model.specs.declared.Instruction.the-variants.{Add, Sum, Load, Store}
+use Rattle.machine_model.specs.declared.Fate.{Fate}
+use Rattle.machine_model.specs.declared.Fate.the-variants.{Waiting, Executed}
+use Rattle.machine_model.specs.declared.Entry.{Entry}
+use Rattle.machine_model.specs.Program.{instructionAt, codeOf, wellFormed, wellFormedAt, programFits, dOf}
+use Rattle.machine_model.specs.Window.{entryAt, entryWith, writesTo, valueOf, registerSeen, referenceBy, reference, evaluate}
+use Rattle.machine_model.specs.Calls.{waits, valueBy, addressBy, registersAfter, target, refetch}
+use Rattle.theorem.specs.Sequential.{Run, does, faultsAt, ends, step, runAfter}
 use Rattle.theorem.proofs.Core.{Core, Step, issuing, executing, squashing, committing, seenBy, registersAt, memoryAt}
-use Rattle.theorem.proofs.Core.{clear, Spares, headIndex, resumes, Right, Good, Kept, fresh}
+use Rattle.theorem.proofs.Core.{clear, Spares, headIndex, Right, Good, Kept, fresh}
 use Rattle.theorem.proofs.Knowing.{Tells, unknown-tells, good-more}
 
 -- ---- where issue goes on
 
-resumes-drop : (es : List Entry) (k next : ℕ)
+refetch-drop : (es : List Entry) (k next : ℕ)
     → cond (ltb k (length es)) (entryAt es k .index) next ≡ headIndex (drop k es) next
-resumes-drop [] zero next = refl
-resumes-drop [] (suc k) next = rw (leb·suc-zero (suc k))
-resumes-drop (e ∷ es) zero next = rw (lt-ltb 0 (suc (length es)) (omega arith))
-resumes-drop (e ∷ es) (suc k) next = rw (leb·suc-suc (suc k) (length es)) (resumes-drop es k next)
+refetch-drop [] zero next = refl
+refetch-drop [] (suc k) next = rw (leb·suc-zero (suc k))
+refetch-drop (e ∷ es) zero next = rw (lt-ltb 0 (suc (length es)) (omega arith))
+refetch-drop (e ∷ es) (suc k) next = rw (leb·suc-suc (suc k) (length es)) (refetch-drop es k next)
 
 head-take : (k : ℕ) (es : List Entry) (next : ℕ) → headIndex (take k es) (headIndex (drop k es) next) ≡ headIndex es next
 head-take zero es next = refl
@@ -52,7 +52,7 @@ head-take (suc k) (e ∷ es) next = refl
 
 -- an entry that executes keeps its index
 head-set : (p left : ℕ) (es : List Entry) (next : ℕ) (f : Fate)
-    → headIndex (take left (set es p (became (entryAt es p) f))) (headIndex (drop left es) next) ≡ headIndex es next
+    → headIndex (take left (set es p (entryWith (entryAt es p) f))) (headIndex (drop left es) next) ≡ headIndex es next
 head-set p zero es next f = refl
 head-set p (suc left) [] next f = refl
 head-set zero (suc left) (e ∷ es) next f = refl
@@ -83,7 +83,7 @@ module _ (program : List ℕ) (next : ℕ) where
 
 -- ---- execute
 
-right-of : (i : Instruction) (ρ : ℕ → Option ℕ) (μ : ℕ → ℕ) (f : Fate) → outcome i ρ μ ≡ some f → Right i ρ μ f
+right-of : (i : Instruction) (ρ : ℕ → Option ℕ) (μ : ℕ → ℕ) (f : Fate) → evaluate i ρ μ ≡ some f → Right i ρ μ f
 right-of i ρ μ Waiting h = tt
 right-of i ρ μ (Executed v a) h = h
 
@@ -93,7 +93,7 @@ told true f g w e = subst (λ (x : Fate). Tells (valueOf x) (valueOf g)) (sym e)
 told false f g w e = λ v h. h
 
 -- a store changes the memory where the entries that stay are clear
-changed : (r : Reference.Fate) (es : List Entry) → Spares r es → (b w : ℕ) → clear b es ≡ false → w ≡ Forwarding.after r b w
+changed : (r : Reference.Fate) (es : List Entry) → Spares r es → (b w : ℕ) → clear b es ≡ false → w ≡ Forwarding.wordAfter r b w
 changed waiting es spared b w h = refl
 changed other es spared b w h = refl
 changed (loaded a) es spared b w h = refl
@@ -106,12 +106,12 @@ changed (stored a v) es spared b w h = go (eqb a b) refl
 module _ (program : List ℕ) (next : ℕ) (f : Fate) where
   good-set : (p left : ℕ) (es : List Entry) (ρ : ℕ → Option ℕ) (μ : ℕ → ℕ) → p < left → left ≤ length es
       → entryAt es p .fate ≡ Waiting
-      → outcome (entryAt es p .instruction) (λ (k : ℕ). held (take p es) k (ρ k)) (λ (a : ℕ). seenBy (take p es) a (μ a))
+      → evaluate (entryAt es p .instruction) (λ (k : ℕ). registerSeen (take p es) k (ρ k)) (λ (a : ℕ). seenBy (take p es) a (μ a))
       ≡ some f
       → Spares (referenceBy (entryAt es p .instruction) f) (take (left - suc p) (drop (suc p) es))
       → Good program next ρ μ es
-      → Good program (headIndex (drop left es) next) ρ μ (take left (set es p (became (entryAt es p) f)))
-  unfolding held seenBy
+      → Good program (headIndex (drop left es) next) ρ μ (take left (set es p (entryWith (entryAt es p) f)))
+  unfolding registerSeen seenBy
   good-set p zero es ρ μ l m w o s g = absurd (not-suc-le-zero l)
   good-set p (suc left) [] ρ μ l m w o s g = tt
   good-set zero (suc left) (e ∷ es) ρ μ l m w o s g =
@@ -123,7 +123,7 @@ module _ (program : List ℕ) (next : ℕ) (f : Fate) where
         g .3 ∙ sym (head-take left es next),
         good-more program (headIndex (drop left es) next) (take left es) _ _ _ _
             (λ k. told (writesTo (e .instruction) k) (e .fate) f (ρ k) w)
-            (λ b h. ap (λ (x : Fate). Forwarding.after (referenceBy (e .instruction) x) b (μ b)) w
+            (λ b h. ap (λ (x : Fate). Forwarding.wordAfter (referenceBy (e .instruction) x) b (μ b)) w
             ∙ changed (referenceBy (e .instruction) f) (take left es) spared b (μ b) h)
             (good-take program next left es _ _ (g .4)),
       )
@@ -153,7 +153,7 @@ past r i f =
 
 -- what an instruction comes to over the run's registers and memory
 abbrev coming : Run → Instruction → Option Fate
-coming r i = outcome i (λ (k : ℕ). some (getD (r .registers) k 0)) (λ (a : ℕ). getD (r .memory) a 0)
+coming r i = evaluate i (λ (k : ℕ). some (getD (r .registers) k 0)) (λ (a : ℕ). getD (r .memory) a 0)
 
 -- the run's step does what a commit with fate f does, and faults where that does
 abbrev Does : Run → Instruction → Fate → Type 0
@@ -166,7 +166,7 @@ does-so r (Load d s imm) f h = subst (Does r (Load d s imm)) (Option·some-injec
 does-so r (Store d s imm) f h = subst (Does r (Store d s imm)) (Option·some-injective _ f h) (refl, refl)
 
 right-known : (i : Instruction) (ρ : ℕ → Option ℕ) (μ : ℕ → ℕ) (f : Fate) → waits f ≡ false → Right i ρ μ f
-    → outcome i ρ μ ≡ some f
+    → evaluate i ρ μ ≡ some f
 right-known i ρ μ Waiting w h = absurd (true≢false w)
 right-known i ρ μ (Executed v a) w h = h
 
@@ -176,9 +176,9 @@ runOf c e = record { registers = c .registers; memory = c .memory; index = e .in
 
 module _ (program memory : List ℕ) (c : Core) (e : Entry) (es : List Entry) (kept : Kept program memory c)
     (at : c .entries ≡ e ∷ es) where
-  run-is : after program memory (c .commits) ≡ runOf c e
+  run-is : runAfter program memory (c .commits) ≡ runOf c e
   run-is =
-      let oldest : e .index ≡ after program memory (c .commits) .index =
+      let oldest : e .index ≡ runAfter program memory (c .commits) .index =
       ap (λ (l : List Entry). headIndex l (c .next)) (sym at) ∙ kept .index in
       λ i. record {
         registers = sym (kept .registers) i;
@@ -201,15 +201,15 @@ module _ (program memory : List ℕ) (c : Core) (e : Entry) (es : List Entry) (k
     comes = right-known (e .instruction) _ _ (e .fate) w (good-oldest .0)
 
     -- the run ends before an executed oldest entry only where that faults
-    ends-so : ends program (after program memory (c .commits)) ≡ faults (length (c .memory)) (reference e)
+    ends-so : ends program (runAfter program memory (c .commits)) ≡ faults (length (c .memory)) (reference e)
     ends-so =
         ap (ends program) run-is
         ∙ rw (lt-leb (length program / 4) (e .index) (good-oldest .2), ← good-oldest .1)
         (does-so (runOf c e) (e .instruction) (e .fate) comes .1)
 
     run-goes : faults (length (c .memory)) (reference e) ≡ false
-        → after program memory (suc (c .commits)) ≡ past (runOf c e) (e .instruction) (e .fate)
-    unfolding after
+        → runAfter program memory (suc (c .commits)) ≡ past (runOf c e) (e .instruction) (e .fate)
+    unfolding runAfter
     run-goes f =
         ap (step program) run-is
         ∙ ap (λ (t : Bool). cond t (runOf c e) (does (runOf c e) (instructionAt program (e .index))))
@@ -236,7 +236,7 @@ seen-register l (Load d s imm) (Executed v a) k w h = set-test some l d k v h
 seen-register l (Store d s imm) (Executed v a) k w h = refl
 
 seen-word : (memory : List ℕ) (r : Reference.Fate) (b : ℕ) → faults (length memory) r ≡ false
-    → Forwarding.after r b (getD memory b 0) ≡ getD (written memory r) b 0
+    → Forwarding.wordAfter r b (getD memory b 0) ≡ getD (written memory r) b 0
 seen-word memory waiting b h = refl
 seen-word memory other b h = refl
 seen-word memory (loaded a) b h = refl
@@ -250,13 +250,13 @@ does-length r (Sum d s k) = length-set (r .registers) d _
 does-length r (Load d s imm) = length-set (r .registers) d _
 does-length r (Store d s imm) = refl
 
-after-length : (program memory : List ℕ) (n : ℕ) → length (after program memory n .registers) ≡ 8
-unfolding after
+after-length : (program memory : List ℕ) (n : ℕ) → length (runAfter program memory n .registers) ≡ 8
+unfolding runAfter
 after-length program memory zero = refl
 after-length program memory (suc n) = go (ends program r) ∙ after-length program memory n
   where
     r : Run
-    r = after program memory n
+    r = runAfter program memory n
 
     go : (t : Bool) → length (cond t r (does r (instructionAt program (r .index))) .registers) ≡ length (r .registers)
     go true = refl
@@ -300,7 +300,7 @@ d-fits program i fits h =
 -- ---- the laws
 
 pub kept-fresh : (program memory : List ℕ) → Kept program memory (fresh memory)
-unfolding after
+unfolding runAfter
 kept-fresh program memory = record { registers = refl; lent = refl; record′ = refl; index = refl; fours = refl; good = tt }
 
 module _ (program memory : List ℕ) where
@@ -315,7 +315,7 @@ module _ (program memory : List ℕ) where
         entries = es;
         registers = c .registers;
         memory = c .memory;
-        next = resumes c k;
+        next = refetch (c .entries) k (c .next);
         record′ = c .record′;
         commits = c .commits;
       })
@@ -324,11 +324,11 @@ module _ (program memory : List ℕ) where
         registers = kept .registers;
         lent = kept .lent;
         record′ = kept .record′;
-        index = ap (headIndex es) (resumes-drop (c .entries) k (c .next)) ∙ same ∙ kept .index;
+        index = ap (headIndex es) (refetch-drop (c .entries) k (c .next)) ∙ same ∙ kept .index;
         fours = kept .fours;
         good = subst
             (λ (n : ℕ). Good program n (λ (j : ℕ). some (getD (c .registers) j 0)) (λ (a : ℕ). getD (c .memory) a 0) es)
-            (sym (resumes-drop (c .entries) k (c .next)))
+            (sym (refetch-drop (c .entries) k (c .next)))
             good;
       }
 
@@ -376,7 +376,7 @@ kept-step program memory fits {c} kept (issuing h) =
       good = good-append program (c .next) (c .entries) _ _ h (kept .good);
     }
 kept-step program memory fits {c} kept (executing p left f l m w o s) =
-    kept-cut program memory c left (take left (set (c .entries) p (became (entryAt (c .entries) p) f))) kept
+    kept-cut program memory c left (take left (set (c .entries) p (entryWith (entryAt (c .entries) p) f))) kept
     (head-set p left (c .entries) (c .next) f)
     (good-set program (c .next) f p left (c .entries) _ _ l m w o s (kept .good))
 kept-step program memory fits {c} kept (squashing k) =
@@ -387,7 +387,7 @@ kept-step program memory fits {c} kept (committing e es at w f) = kept-commit pr
 -- where the run has ended nothing commits
 pub none-after : (program memory : List ℕ) → programFits program ≡ true → {c d : Core} → Kept program memory c
     → Step program c d
-    → ends program (after program memory (c .commits)) ≡ true
+    → ends program (runAfter program memory (c .commits)) ≡ true
     → d .commits ≡ c .commits
 none-after program memory fits kept (issuing h) end = refl
 none-after program memory fits kept (executing p left f l m w o s) end = refl
@@ -401,21 +401,21 @@ or-false false b e = refl
 
 -- where it has not, an instruction is left to issue into an empty window
 pub issue-left : (program memory : List ℕ) (c : Core) → Kept program memory c
-    → ends program (after program memory (c .commits)) ≡ false
+    → ends program (runAfter program memory (c .commits)) ≡ false
     → c .entries ≡ []
     → c .next < length program / 4
 issue-left program memory c kept goes empty =
-    let next : c .next ≡ after program memory (c .commits) .index =
+    let next : c .next ≡ runAfter program memory (c .commits) .index =
     ap (λ (l : List Entry). headIndex l (c .next)) (sym empty) ∙ kept .index in
-    omega (arith, leb-false (length program / 4) (after program memory (c .commits) .index) (or-false _ _ goes))
+    omega (arith, leb-false (length program / 4) (runAfter program memory (c .commits) .index) (or-false _ _ goes))
 
 -- the oldest entry's operands are known
 pub oldest-known : (c : Core) (e : Entry) (es : List Entry) → c .entries ≡ e ∷ es
-    → (v : ℕ) × (a : ℕ) × (outcome (e .instruction) (registersAt c 0) (memoryAt c 0) ≡ some (Executed v a))
-unfolding held
+    → (v : ℕ) × (a : ℕ) × (evaluate (e .instruction) (registersAt c 0) (memoryAt c 0) ≡ some (Executed v a))
+unfolding registerSeen
 oldest-known c e es at = go (e .instruction)
   where
-    go : (i : Instruction) → (v : ℕ) × (a : ℕ) × (outcome i (registersAt c 0) (memoryAt c 0) ≡ some (Executed v a))
+    go : (i : Instruction) → (v : ℕ) × (a : ℕ) × (evaluate i (registersAt c 0) (memoryAt c 0) ≡ some (Executed v a))
     go (Add d s imm) = (_, _, refl)
     go (Sum d s k) = (_, _, refl)
     go (Load d s imm) = (_, _, refl)
@@ -424,7 +424,7 @@ oldest-known c e es at = go (e .instruction)
 -- and an executed one does not fault
 pub commit-clean : (program memory : List ℕ) → programFits program ≡ true → (c : Core) (e : Entry) (es : List Entry)
     → Kept program memory c
-    → ends program (after program memory (c .commits)) ≡ false
+    → ends program (runAfter program memory (c .commits)) ≡ false
     → c .entries ≡ e ∷ es
     → waits (e .fate) ≡ false
     → faults (length (c .memory)) (reference e) ≡ false

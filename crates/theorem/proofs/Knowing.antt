@@ -12,13 +12,13 @@ use borrow.Author.Tests.{eq-eqb}
 use Rattle.table.specs.Reference
 use Rattle.table.specs.Reference.{waiting, other, loaded, stored}
 use Rattle.lookup.specs.Forwarding
-use Rattle.machine.specs.declared.Instruction.{Instruction}
-use Rattle.machine.specs.declared.Instruction.the-variants.{Add, Sum, Load, Store}
-use Rattle.machine.specs.declared.Fate.{Fate}
-use Rattle.machine.specs.declared.Fate.the-variants.{Waiting, Executed}
-use Rattle.machine.specs.declared.Entry.{Entry}
-use Rattle.machine.specs.Program.{sum}
-use Rattle.machine.specs.Window.{writesTo, valueOf, referenceBy, reference, with₂}
+use Rattle.machine_model.specs.declared.Instruction.{Instruction}
+use Rattle.machine_model.specs.declared.Instruction.the-variants.{Add, Sum, Load, Store}
+use Rattle.machine_model.specs.declared.Fate.{Fate}
+use Rattle.machine_model.specs.declared.Fate.the-variants.{Waiting, Executed}
+use Rattle.machine_model.specs.declared.Entry.{Entry}
+use Rattle.machine_model.specs.Program.{sum}
+use Rattle.machine_model.specs.Window.{writesTo, valueOf, referenceBy, reference, with₂}
 use Rattle.theorem.proofs.Core.{clearBy, clear, Right, Good}
 
 -- what x tells, y tells too
@@ -81,7 +81,7 @@ module _ (μ μ′ : ℕ → ℕ) (es : List Entry) where
   same-read (stored a v) agree = tt
 
   same-past : (r : Reference.Fate) → ((b : ℕ) → clearBy r b (clear b es) ≡ false → μ b ≡ μ′ b)
-      → (b : ℕ) → clear b es ≡ false → Forwarding.after r b (μ b) ≡ Forwarding.after r b (μ′ b)
+      → (b : ℕ) → clear b es ≡ false → Forwarding.wordAfter r b (μ b) ≡ Forwarding.wordAfter r b (μ′ b)
   same-past waiting agree b e = agree b e
   same-past other agree b e = agree b e
   same-past (loaded a) agree b e = agree b (past-load (eqb a b) (clear b es) e)

@@ -1,12 +1,12 @@
 -- Core: the window alone, its steps, and what is kept of it. Knowing, Keeping: each step keeps it. Paired: the buffer's
--- references beside the window's entries. Linked: the plain state over the window alone. Linking: each call is steps of the
+-- references beside the window's entries. Links: the plain state over the window alone. Linking: each call is steps of the
 -- window. Finishing: so is a finish. Record: the record theorem. Witness: a history that it speaks of, computed. Closing: the
 -- record theorem of the calls, from their contracts.
 pub mod Core
 pub mod Knowing
 pub mod Keeping
 pub mod Paired
-pub mod Linked
+pub mod Links
 pub mod Linking
 pub mod Finishing
 pub mod Record

@@ -20,24 +20,34 @@ use Rattle.table.specs.Reference
 use Rattle.table.specs.Reference.{waiting, other, loaded, stored, Ref, ref, numberOf, fateOf, at}
 use Rattle.table.proofs.Sizes.{Sizes, sizes}
 use Rattle.lookup.specs.Forwarding.{seen}
-use Rattle.buffer.specs.Refusals.{when, refusal, faults}
-use Rattle.buffer.specs.Calls.{written}
-use Rattle.machine.specs.declared.Instruction.{Instruction}
-use Rattle.machine.specs.declared.Instruction.the-variants.{Add, Sum, Load, Store}
-use Rattle.machine.specs.declared.Fate.{Fate}
-use Rattle.machine.specs.declared.Fate.the-variants.{Waiting, Executed}
-use Rattle.machine.specs.declared.Entry.{Entry}
-use Rattle.machine.specs.Program.{programFits, codeOf, instructionAt}
-use Rattle.machine.specs.Window.{entryAt, became, held, referenceBy, reference, outcome}
-use Rattle.machine.specs.Calls
-use Rattle.machine.specs.Calls.{Plain, waits, dOf, sOf, immOf, same, like, programCheck, issues, coming}
-use Rattle.machine.specs.Calls.{known, unknown, stay, executions, squashes, commits, openChecks, opened}
-use Rattle.machine.specs.Calls.{issueChecks, executeChecks, commitChecks}
-use Rattle.machine.proofs.Preparing.{oldest-leaves}
+use Rattle.engine.specs.Execution.{written}
+use Rattle.engine.specs.Conditions.{when, refusal, faults}
+use Rattle.machine_model.specs.declared.Instruction.{Instruction}
+use Rattle.machine_model.specs.declared.Instruction.the-variants.{Add, Sum, Load, Store}
+use Rattle.machine_model.specs.declared.Fate.{Fate}
+use Rattle.machine_model.specs.declared.Fate.the-variants.{Waiting, Executed}
+use Rattle.machine_model.specs.declared.Entry.{Entry}
+use Rattle.machine_model.specs.Program.{programFits, codeOf, instructionAt, dOf, sOf, immOf, same}
+use Rattle.machine_model.specs.Window.{entryAt, entryWith, registerSeen, referenceBy, reference, evaluate}
+use Rattle.machine_model.specs.Calls
+use Rattle.machine_model.specs.Calls.{
+  Plain,
+  waits,
+  matchesProgram,
+  programCheck,
+  issueResult,
+  evaluated,
+  known,
+  unknown,
+  survivorsOf,
+  executions,
+}
+use Rattle.machine_model.specs.Calls.{squashes, commits, openChecks, opened, issueChecks, executeChecks, commitChecks}
+use Rattle.machine_model.proofs.OldestReady.{oldest-leaves}
+use Rattle.theorem.specs.computed.Linked.{Linked}
 use Rattle.theorem.proofs.Core.{issuing, executing, squashing, committing}
 use Rattle.theorem.proofs.Paired.{Each, each-next, each-take, each-drop, each-set, Fated, seen-paired, owed}
-use Rattle.theorem.proofs.Linked.{steps-quiet, judged-links, passes, program-passes, lent-passes}
-pub use Rattle.theorem.proofs.Linked.{Linked, coreOf, Steps, stays, goes, steps-join, Links}
+use Rattle.theorem.proofs.Links.{steps-quiet, judged-links, passes, program-passes, lent-passes, stays, goes, Links}
 
 -- ---- opening
 
@@ -60,7 +70,7 @@ linked-open banks rows stages words program memory z =
       fits = fits;
       counted = whole program fits;
       paired = refl;
-      room = zero-le;
+      live-bounded = zero-le;
       fates = λ p h. absurd (not-suc-le-zero h);
       alike = λ p h. absurd (not-suc-le-zero h);
     }
@@ -75,7 +85,7 @@ same-refl i =
 
 -- an entry is the program's instruction at its index
 abbrev Alike : List ℕ → ℕ → Ref → Entry → Type 0
-Alike program count r e = like program count e ≡ true
+Alike program count r e = matchesProgram program count e ≡ true
 
 module _ (program : List ℕ) (X : Plain) (memory : List ℕ) (linked : Linked program X memory) where
   abbrev fated : Each Fated (X .buffer .refs) (X .entries)
@@ -84,7 +94,7 @@ module _ (program : List ℕ) (X : Plain) (memory : List ℕ) (linked : Linked p
   abbrev all-alike : Each (Alike program (X .count)) (X .buffer .refs) (X .entries)
   all-alike = (linked .paired, linked .alike)
 
-  pub issue-links : Links program X memory (issues program X memory)
+  pub issue-links : Links program X memory (issueResult program X memory)
   issue-links =
       judged-links program X memory (refusal (issueChecks program X)) _ linked
       (λ z.
@@ -101,9 +111,9 @@ module _ (program : List ℕ) (X : Plain) (memory : List ℕ) (linked : Linked p
           fits = linked .fits;
           counted = linked .counted;
           paired = moved .0;
-          room = omega (
+          live-bounded = omega (
             arith,
-            linked .room,
+            linked .live-bounded,
             eqb-false (length (X .entries)) (X .buffer .stages) (five .0),
             length-append (X .entries) (e ∷ []),
           );
@@ -128,15 +138,15 @@ is-known (some f) h = refl
 module _ (program : List ℕ) (X : Plain) (memory : List ℕ) (linked : Linked program X memory) (p : ℕ) where
   -- the entry at position p executes to fate f
   executing-links : (f : Fate) → p < length (X .entries) → waits (entryAt (X .entries) p .fate) ≡ true
-      → coming X memory p ≡ some f → (stay X p f ≡ 0 → ⊥)
-      → Links program X memory (Calls.executing X memory p f (stay X p f))
+      → evaluated X memory p ≡ some f → (survivorsOf X p f ≡ 0 → ⊥)
+      → Links program X memory (Calls.executing X memory p f (survivorsOf X p f))
   executing-links f live w comes runs =
       let refs = X .buffer .refs in
       let es = X .entries in
-      let left = stay X p f in
+      let left = survivorsOf X p f in
       let i = entryAt es p .instruction in
       let r : Ref = ref (numberOf (at (take left refs) p)) (referenceBy i f) in
-      let e = became (entryAt es p) f in
+      let e = entryWith (entryAt es p) f in
       let all = fated program X memory linked in
       let o = owed (X .buffer) es all p (omega (arith, linked .paired)) (referenceBy i f) runs in
       let moves = take-set-lt left es p e (o .after) in
@@ -150,7 +160,7 @@ module _ (program : List ℕ) (X : Plain) (memory : List ℕ) (linked : Linked p
           fits = linked .fits;
           counted = linked .counted;
           paired = rw moves (moved .0);
-          room = omega (arith, linked .room, length-take left (set es p e), length-set es p e);
+          live-bounded = omega (arith, linked .live-bounded, length-take left (set es p e), length-set es p e);
           fates = rw moves (moved .1);
           alike = rw moves (each-set likes (take left refs) (take left es) liked p r e (linked .alike p live) .1);
         };
@@ -158,7 +168,7 @@ module _ (program : List ℕ) (X : Plain) (memory : List ℕ) (linked : Linked p
             steps-quiet
             (goes stays
             (executing p left f (o .after) (omega (arith, o .within, linked .paired)) (is-waiting (entryAt es p .fate) w)
-            (ap (outcome i (λ (k : ℕ). held (take p es) k (some (getD (X .registers) k 0))))
+            (ap (evaluate i (λ (k : ℕ). registerSeen (take p es) k (some (getD (X .registers) k 0))))
             (fun-ext (λ a. sym (seen-paired (take p refs) (take p es) a (getD memory a 0) (each-take Fated refs es all p))))
             ∙ comes)
             (o .spares)));
@@ -171,11 +181,11 @@ module _ (program : List ℕ) (X : Plain) (memory : List ℕ) (linked : Linked p
       let passed = sym (lent-passes program X memory linked (drop 2 (executeChecks program X memory p))) ∙ z in
       let seven = passes (leb (length (X .entries)) p) 6 _ passed in
       let eight = passes (not (waits (entryAt (X .entries) p .fate))) 7 _ (seven .1) in
-      let nine = passes (unknown (coming X memory p)) 8 _ (eight .1) in
-      let ten = passes (eqb (stay X p (known (coming X memory p))) 0) 9 0 (nine .1) in
-      executing-links (known (coming X memory p)) (leb-false (length (X .entries)) p (seven .0))
-      (not-false (waits (entryAt (X .entries) p .fate)) (eight .0)) (is-known (coming X memory p) (nine .0))
-      (eqb-false (stay X p (known (coming X memory p))) 0 (ten .0)))
+      let nine = passes (unknown (evaluated X memory p)) 8 _ (eight .1) in
+      let ten = passes (eqb (survivorsOf X p (known (evaluated X memory p))) 0) 9 0 (nine .1) in
+      executing-links (known (evaluated X memory p)) (leb-false (length (X .entries)) p (seven .0))
+      (not-false (waits (entryAt (X .entries) p .fate)) (eight .0)) (is-known (evaluated X memory p) (nine .0))
+      (eqb-false (survivorsOf X p (known (evaluated X memory p))) 0 (ten .0)))
 
   -- ---- squash
   pub squash-links : Links program X memory (squashes program X memory p)
@@ -190,7 +200,7 @@ module _ (program : List ℕ) (X : Plain) (memory : List ℕ) (linked : Linked p
           fits = linked .fits;
           counted = linked .counted;
           paired = moved .0;
-          room = omega (arith, linked .room, length-take p (X .entries));
+          live-bounded = omega (arith, linked .live-bounded, length-take p (X .entries));
           fates = moved .1;
           alike =
               each-take (Alike program (X .count)) (X .buffer .refs) (X .entries) (all-alike program X memory linked) p .1;
@@ -230,7 +240,7 @@ module _ (program : List ℕ) (X : Plain) (memory : List ℕ) (linked : Linked p
           fits = linked .fits;
           counted = linked .counted;
           paired = moved .0;
-          room = omega (arith, linked .room, length-drop 1 (X .entries));
+          live-bounded = omega (arith, linked .live-bounded, length-drop 1 (X .entries));
           fates = moved .1;
           alike =
               each-drop (Alike program (X .count)) (X .buffer .refs) (X .entries) (all-alike program X memory linked) 1 .1;
@@ -249,15 +259,15 @@ skips : (c : Bool) (k rest : ℕ) → c ≡ false → rest ≡ 0 → cond c k re
 skips c k rest h z = rw (h, z)
 
 -- an instruction whose registers are all known comes to something
-all-known : (i : Instruction) (registers memory : ℕ → ℕ) → unknown (outcome i (λ (k : ℕ). some (registers k)) memory) ≡ false
+all-known : (i : Instruction) (registers memory : ℕ → ℕ) → unknown (evaluate i (λ (k : ℕ). some (registers k)) memory) ≡ false
 all-known (Add d s imm) registers memory = refl
 all-known (Sum d s r) registers memory = refl
 all-known (Load d s imm) registers memory = refl
 all-known (Store d s imm) registers memory = refl
 
 -- the operands of the oldest are the committed registers
-oldest-comes : (X : Plain) (memory : List ℕ) → unknown (coming X memory 0) ≡ false
-unfolding held
+oldest-comes : (X : Plain) (memory : List ℕ) → unknown (evaluated X memory 0) ≡ false
+unfolding registerSeen
 oldest-comes X memory =
     all-known (entryAt (X .entries) 0 .instruction) (λ (k : ℕ). getD (X .registers) k 0)
     (λ (a : ℕ). seen (take 0 (X .buffer .refs)) a (getD memory a 0))
@@ -284,10 +294,10 @@ module _ (program : List ℕ) (X : Plain) (memory : List ℕ) (linked : Linked p
         (skips _ 8 _ (ap (λ (f : Fate). not (waits f)) oldest ∙ ap not w)
         (skips _ 9 _ (oldest-comes X memory)
         (skips _ 10 0
-        (ne-eqb (stay X 0 (known (coming X memory 0))) 0
+        (ne-eqb (survivorsOf X 0 (known (evaluated X memory 0))) 0
         (oldest-leaves (X .buffer) (size .some-row) (omega (arith, linked .paired))
         (linked .fates 0 live ∙ ap (referenceBy i) (oldest ∙ is-waiting (e .fate) w))
-        (referenceBy i (known (coming X memory 0)))))
+        (referenceBy i (known (evaluated X memory 0)))))
         refl)))
 
     module _ (executed : waits (e .fate) ≡ false) (clean : faults (length memory) (reference e) ≡ false) where

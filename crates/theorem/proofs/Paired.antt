@@ -15,13 +15,13 @@ use borrow.Author.Tests.{ltb-true, ltb-false, eqb-true, eqb-false}
 use Rattle.marks.specs.Counting.{last}
 use Rattle.table.specs.Bank.{bank}
 use Rattle.table.specs.Reference.{Fate, waiting, other, loaded, stored, Ref, ref, blank, fateOf, at, State}
-use Rattle.lookup.specs.Forwarding.{after, seen}
-use Rattle.lookup.specs.Violation.{met, spared, checked}
-use Rattle.lookup.specs.Rows.{touched, used, youngest}
-use Rattle.lookup.specs.Outcome.{room, leaves}
+use Rattle.lookup.specs.Forwarding.{wordAfter, seen}
+use Rattle.lookup.specs.Violation.{keptFrom, keptYounger, keptAfterStore}
+use Rattle.lookup.specs.Rows.{touched, rowsInUse, youngestRow}
+use Rattle.lookup.specs.Outcome.{allocateRow, survivors}
 use Rattle.lookup.proofs.Violations.{checked-after, untouched-checked}
-use Rattle.machine.specs.declared.Entry.{Entry}
-use Rattle.machine.specs.Window.{blankEntry, entryAt, reference}
+use Rattle.machine_model.specs.declared.Entry.{Entry}
+use Rattle.machine_model.specs.Window.{blankEntry, entryAt, reference}
 use Rattle.theorem.proofs.Core.{seenBy, clearBy, clear, Spares}
 
 -- the lists have one length, and what stands at each position is related
@@ -85,11 +85,11 @@ seen-paired [] [] a w all = refl
 seen-paired [] (e ∷ es) a w all = absurd (omega (arith, all .0))
 seen-paired (r ∷ rs) [] a w all = absurd (omega (arith, all .0))
 seen-paired (ref n f ∷ rs) (e ∷ es) a w all =
-    seen-paired rs es a (after f a w) (each-drop Fated (ref n f ∷ rs) (e ∷ es) all 1)
-    ∙ ap (λ (g : Fate). seenBy es a (after g a w)) (all .1 0 (omega arith))
+    seen-paired rs es a (wordAfter f a w) (each-drop Fated (ref n f ∷ rs) (e ∷ es) all 1)
+    ∙ ap (λ (g : Fate). seenBy es a (wordAfter g a w)) (all .1 0 (omega arith))
 
 -- one entry before others that are clear: the walk went past it, or it is a store to the address
-clear-met : (f : Fate) (a all rest m : ℕ) (b : Bool) → suc m ≤ met f a all rest → (m ≤ rest → b ≡ true)
+clear-met : (f : Fate) (a all rest m : ℕ) (b : Bool) → suc m ≤ keptFrom f a all rest → (m ≤ rest → b ≡ true)
     → clearBy f a b ≡ true
 clear-met waiting a all rest m b l h = h (omega arith)
 clear-met other a all rest m b l h = h (omega arith)
@@ -105,14 +105,14 @@ clear-met (stored c v) a all rest m b l h = go (eqb c a) l
     go false i = h (omega arith)
 
 -- entries that a store to the address spares are clear
-clear-spared : (rs : List Ref) (es : List Entry) (a m : ℕ) → Each Fated rs es → m ≤ spared a rs → clear a (take m es) ≡ true
-unfolding spared clear
+clear-spared : (rs : List Ref) (es : List Entry) (a m : ℕ) → Each Fated rs es → m ≤ keptYounger a rs → clear a (take m es) ≡ true
+unfolding keptYounger clear
 clear-spared rs es a zero all l = refl
 clear-spared rs [] a (suc m) all l = refl
 clear-spared [] (e ∷ es) a (suc m) all l = absurd (omega arith)
 clear-spared (ref n f ∷ rs) (e ∷ es) a (suc m) all l =
-    clear-met (reference e) a (length rs) (spared a rs) m (clear a (take m es))
-    (subst (λ (g : Fate). suc m ≤ met g a (length rs) (spared a rs)) (all .1 0 (omega arith)) l)
+    clear-met (reference e) a (length rs) (keptYounger a rs) m (clear a (take m es))
+    (subst (λ (g : Fate). suc m ≤ keptFrom g a (length rs) (keptYounger a rs)) (all .1 0 (omega arith)) l)
     (clear-spared rs es a m (each-drop Fated (ref n f ∷ rs) (e ∷ es) all 1))
 
 last-le : (f : ℕ → Bool) (n : ℕ) → last f n ≤ n
@@ -125,17 +125,17 @@ last-le f (suc n) = go (f n) (last-le f n)
     go false h = omega arith
 
 -- a row is taken without a squash, or from the references that stay before the one that is squashed
-room-after : (P : State) (p h : ℕ) → p < length (P .refs) → (room P p h ≡ 0 → ⊥)
-    → (p < room P p h) × (room P p h ≤ length (P .refs))
+room-after : (P : State) (p h : ℕ) → p < length (P .refs) → (allocateRow P p h ≡ 0 → ⊥)
+    → (p < allocateRow P p h) × (allocateRow P p h ≤ length (P .refs))
 room-after P p h live =
-    go (ltb (used (P .banks) h (P .refs)) (P .rows)) (ltb p (youngest (P .banks) h (P .refs))) refl
+    go (ltb (rowsInUse (P .banks) h (P .refs)) (P .rows)) (ltb p (youngestRow (P .banks) h (P .refs))) refl
   where
-    go : (t u : Bool) → ltb p (youngest (P .banks) h (P .refs)) ≡ u
-        → (cond t (length (P .refs)) (cond u (youngest (P .banks) h (P .refs)) 0) ≡ 0 → ⊥)
-        → (p < cond t (length (P .refs)) (cond u (youngest (P .banks) h (P .refs)) 0))
-        × (cond t (length (P .refs)) (cond u (youngest (P .banks) h (P .refs)) 0) ≤ length (P .refs))
+    go : (t u : Bool) → ltb p (youngestRow (P .banks) h (P .refs)) ≡ u
+        → (cond t (length (P .refs)) (cond u (youngestRow (P .banks) h (P .refs)) 0) ≡ 0 → ⊥)
+        → (p < cond t (length (P .refs)) (cond u (youngestRow (P .banks) h (P .refs)) 0))
+        × (cond t (length (P .refs)) (cond u (youngestRow (P .banks) h (P .refs)) 0) ≤ length (P .refs))
     go true u e some = (live, le-refl (length (P .refs)))
-    go false true e some = (ltb-true p (youngest (P .banks) h (P .refs)) e, last-le _ _)
+    go false true e some = (ltb-true p (youngestRow (P .banks) h (P .refs)) e, last-le _ _)
     go false false e some = absurd (some refl)
 
 -- what the buffer owes of an execution at position p to this fate that leaves `left`
@@ -155,7 +155,7 @@ module _ (P : State) (es : List Entry) (all : Each Fated (P .refs) es) (p : ℕ)
       }
 
   -- a store that leaves no more than the check of its address's row does
-  owed-store : (a v left : ℕ) → p < left → left ≤ checked P p a → Owed P es p left (stored a v)
+  owed-store : (a v left : ℕ) → p < left → left ≤ keptAfterStore P p a → Owed P es p left (stored a v)
   owed-store a v left h l =
       record {
         after = h;
@@ -165,23 +165,23 @@ module _ (P : State) (es : List Entry) (all : Each Fated (P .refs) es) (p : ℕ)
             (each-drop Fated (P .refs) es all (suc p)) (omega arith);
       }
 
-  pub owed : (f : Fate) → (leaves P p f ≡ 0 → ⊥) → Owed P es p (leaves P p f) f
+  pub owed : (f : Fate) → (survivors P p f ≡ 0 → ⊥) → Owed P es p (survivors P p f) f
   owed waiting some = owed-none waiting (λ ys. tt)
   owed other some = owed-none other (λ ys. tt)
   owed (loaded a) some = go (touched a (P .refs)) some
     where
-      go : (t : Bool) → (cond t (length (P .refs)) (room P p (bank (P .banks) a)) ≡ 0 → ⊥)
-          → Owed P es p (cond t (length (P .refs)) (room P p (bank (P .banks) a))) (loaded a)
+      go : (t : Bool) → (cond t (length (P .refs)) (allocateRow P p (bank (P .banks) a)) ≡ 0 → ⊥)
+          → Owed P es p (cond t (length (P .refs)) (allocateRow P p (bank (P .banks) a))) (loaded a)
       go true none = owed-none (loaded a) (λ ys. tt)
       go false none =
           let h = room-after P p (bank (P .banks) a) live none in
           record { after = h .0; within = h .1; spares = tt }
   owed (stored a v) some = go (touched a (P .refs)) refl some
     where
-      go : (t : Bool) → touched a (P .refs) ≡ t → (cond t (checked P p a) (room P p (bank (P .banks) a)) ≡ 0 → ⊥)
-          → Owed P es p (cond t (checked P p a) (room P p (bank (P .banks) a))) (stored a v)
+      go : (t : Bool) → touched a (P .refs) ≡ t → (cond t (keptAfterStore P p a) (allocateRow P p (bank (P .banks) a)) ≡ 0 → ⊥)
+          → Owed P es p (cond t (keptAfterStore P p a) (allocateRow P p (bank (P .banks) a))) (stored a v)
       go true e none =
-          owed-store a v (checked P p a) (checked-after P p a live .0) (le-refl (checked P p a))
+          owed-store a v (keptAfterStore P p a) (checked-after P p a live .0) (le-refl (keptAfterStore P p a))
       go false e none =
           let h = room-after P p (bank (P .banks) a) live none in
-          owed-store a v (room P p (bank (P .banks) a)) (h .0) (rw (untouched-checked P p a live e) (h .1))
+          owed-store a v (allocateRow P p (bank (P .banks) a)) (h .0) (rw (untouched-checked P p a live e) (h .1))

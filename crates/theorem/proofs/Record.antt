@@ -1,8 +1,5 @@
--- THE RECORD THEOREM. Open the machine on sizes B, R, n and W with a program and a memory, and let x be what any list of calls
--- comes to, refused ones among them. Let `run` be the sequential run of the program from the memory as lent at opening, after
--- as many steps as x has commits. Then the record of x is the record of the run, four numbers a commit, and the committed
--- registers and the memory are the run's. As long as the run has not ended, `next`, at most three calls that 01 names, are all
--- accepted after x and commit one instruction more. Once it has ended, no further calls commit anything.
+-- THE RECORD THEOREM. Open the machine on sizes B, R, n and W with a program and a memory: what any list of calls comes to,
+-- refused ones among them, is true of the sequential run of the program from that memory (Truth).
 --
 -- Every call keeps that the state is linked and that the window is kept (Held): a call is some steps of the window (Finishing),
 -- and each step keeps what is kept (Keeping). The equations are part of that. A step after the run's end commits nothing, so
@@ -20,39 +17,25 @@ use lib.Dec.{eqb, leb}
 use lib.ListN.{length, take, drop, set}
 use borrow.Author.Tests.{eqb-false, ne-eqb}
 use Rattle.lookup.specs.Forwarding.{seen}
-use Rattle.buffer.specs.Refusals.{refusal}
-use Rattle.machine.specs.declared.Fate.{Fate}
-use Rattle.machine.specs.declared.Fate.the-variants.{Waiting}
-use Rattle.machine.specs.declared.Entry.{Entry}
-use Rattle.machine.specs.Program.{programFits, instructionAt}
-use Rattle.theorem.specs.Sequential.{Run, after, ends}
-use Rattle.machine.specs.Window.{entryAt, became, held}
-use Rattle.machine.specs.Calls.{Plain, Call, issue, execute, commit, Result, waits, judged, coming, known, unknown, stay}
-use Rattle.machine.specs.Calls.{executing, respond, openChecks, opened}
-use Rattle.theorem.specs.Play.{recorded, counted, Played, plays, play, start, needed, isRefused, accepted}
+use Rattle.engine.specs.Contract.{judged}
+use Rattle.engine.specs.Conditions.{refusal}
+use Rattle.engine.proofs.Meeting.{judged-accepted}
+use Rattle.machine_model.specs.declared.Fate.{Fate}
+use Rattle.machine_model.specs.declared.Fate.the-variants.{Waiting}
+use Rattle.machine_model.specs.declared.Entry.{Entry}
+use Rattle.machine_model.specs.Program.{programFits, instructionAt}
+use Rattle.machine_model.specs.Window.{entryAt, entryWith, registerSeen}
+use Rattle.machine_model.specs.Calls.{Plain, Call, issue, execute, commit, Result, waits, evaluated, known, unknown, survivorsOf}
+use Rattle.machine_model.specs.Calls.{executing, respond, openChecks, opened, issueChecks, executeChecks, commitChecks}
+use Rattle.theorem.specs.Sequential.{runAfter, ends}
+use Rattle.theorem.specs.Truth.{run, next, Truth}
+use Rattle.theorem.specs.Play.{recorded, commitsIn, Played, plays, play, start, isRefused, allAccepted}
+use Rattle.theorem.specs.computed.Linked.{Linked}
 use Rattle.theorem.proofs.Core.{Core, Kept, seenBy}
 use Rattle.theorem.proofs.Keeping.{kept-fresh, kept-step, none-after, issue-left, oldest-known, commit-clean}
-use Rattle.machine.proofs.Answering.{judged-accepted}
-use Rattle.theorem.proofs.Linked.{Linked, coreOf, Steps, stays, goes, passes, lent-passes}
-use Rattle.machine.specs.Calls.{issueChecks, executeChecks, commitChecks}
-use Rattle.theorem.proofs.Linking.{linked-open}
-use Rattle.theorem.proofs.Linking.{issue-accepted, execute-accepted, commit-accepted}
+use Rattle.theorem.proofs.Links.{coreOf, Steps, stays, goes, passes, lent-passes}
+use Rattle.theorem.proofs.Linking.{linked-open, issue-accepted, execute-accepted, commit-accepted}
 use Rattle.theorem.proofs.Finishing.{respond-links}
-
-abbrev pub run : List ℕ → List ℕ → Played → Run
-run program memory x = after program memory (x .commits)
-
-abbrev pub next : Played → List Call
-next x = needed (x .state)
-
-pub record Truth (program memory : List ℕ) (x : Played) : Type 0 where
-  pub record-is : x .record′ ≡ run program memory x .record′
-  pub record-grows : length (x .record′) ≡ x .commits * 4
-  pub registers-are : x .state .registers ≡ run program memory x .registers
-  pub memory-is : x .memory ≡ run program memory x .memory
-  pub goes-on : ends program (run program memory x) ≡ false
-      → (accepted program x (next x) ≡ true) × (length (next x) ≤ 3) × (play program x (next x) .commits ≡ suc (x .commits))
-  pub stops : ends program (run program memory x) ≡ true → (more : List Call) → play program x more .commits ≡ x .commits
 
 -- what every call keeps
 record Held (program memory : List ℕ) (x : Played) : Type 0 where
@@ -66,31 +49,31 @@ played x r =
       state = r .state;
       memory = r .memory;
       record′ = x .record′ ++ recorded (r .answer) (r .list);
-      commits = x .commits + counted (r .answer);
+      commits = x .commits + commitsIn (r .answer);
     }
 
 -- ---- the oldest entry
 
 -- what it comes to is known
 oldest-fate : (X : Plain) (memory : List ℕ) (e : Entry) (es : List Entry) → X .entries ≡ e ∷ es
-    → waits (known (coming X memory 0)) ≡ false
-unfolding held seen seenBy
+    → waits (known (evaluated X memory 0)) ≡ false
+unfolding registerSeen seen seenBy
 oldest-fate X memory e es q = rw (q, oldest-known (coreOf X memory [] 0) e es q .2)
 
 -- where its execution is accepted, it is among those that stay
 oldest-stays : (program : List ℕ) (X : Plain) (memory : List ℕ) → Linked program X memory
     → refusal (executeChecks program X memory 0) ≡ 0
-    → 0 < stay X 0 (known (coming X memory 0))
+    → 0 < survivorsOf X 0 (known (evaluated X memory 0))
 oldest-stays program X memory l z =
     let passed = sym (lent-passes program X memory l (drop 2 (executeChecks program X memory 0))) ∙ z in
     let seven = passes (leb (length (X .entries)) 0) 6 _ passed in
     let eight = passes (not (waits (entryAt (X .entries) 0 .fate))) 7 _ (seven .1) in
-    let nine = passes (unknown (coming X memory 0)) 8 _ (eight .1) in
-    let ten = passes (eqb (stay X 0 (known (coming X memory 0))) 0) 9 0 (nine .1) in
-    omega (arith, eqb-false (stay X 0 (known (coming X memory 0))) 0 (ten .0))
+    let nine = passes (unknown (evaluated X memory 0)) 8 _ (eight .1) in
+    let ten = passes (eqb (survivorsOf X 0 (known (evaluated X memory 0))) 0) 9 0 (nine .1) in
+    omega (arith, eqb-false (survivorsOf X 0 (known (evaluated X memory 0))) 0 (ten .0))
 
 oldest-executed : (l : List Entry) (e : Entry) (es : List Entry) (f : Fate) (left : ℕ) → l ≡ e ∷ es → 0 < left
-    → (rest : List Entry) × (take left (set l 0 (became (entryAt l 0) f)) ≡ became e f ∷ rest)
+    → (rest : List Entry) × (take left (set l 0 (entryWith (entryAt l 0) f)) ≡ entryWith e f ∷ rest)
 oldest-executed l e es f zero q h = absurd (omega arith)
 oldest-executed l e es f (suc left) q h = (take left es, rw q)
 
@@ -101,7 +84,7 @@ module _ (program memory : List ℕ) where
   kept-steps f k (goes s h) = kept-step program memory f (kept-steps f k s) h
 
   none-steps : programFits program ≡ true → {c d : Core} → Kept program memory c → Steps program c d
-      → ends program (after program memory (c .commits)) ≡ true
+      → ends program (runAfter program memory (c .commits)) ≡ true
       → d .commits ≡ c .commits
   none-steps f k stays e = refl
   none-steps f k (goes s h) e =
@@ -132,12 +115,12 @@ module _ (program memory : List ℕ) where
 
   -- these calls are at most three, all accepted, and commit once
   abbrev Next : Played → List Call → Type 0
-  Next x calls = (accepted program x calls ≡ true) × (length calls ≤ 3) × (play program x calls .commits ≡ suc (x .commits))
+  Next x calls = (allAccepted program x calls ≡ true) × (length calls ≤ 3) × (play program x calls .commits ≡ suc (x .commits))
 
   -- the same of a call with result r and these calls after it
   abbrev Then : Played → List Call → Result → Type 0
   Then x calls r =
-      Held program memory (played x r) → (not (isRefused (r .answer)) && accepted program (played x r) calls ≡ true)
+      Held program memory (played x r) → (not (isRefused (r .answer)) && allAccepted program (played x r) calls ≡ true)
       × (suc (length calls) ≤ 3)
       × (play program (played x r) calls .commits ≡ suc (x .commits))
 
@@ -151,7 +134,7 @@ module _ (program memory : List ℕ) where
       → x .state .entries ≡ e ∷ es
       → waits (e .fate) ≡ false
       → Next x (commit ∷ [])
-  unfolding accepted play respond
+  unfolding allAccepted play respond
   commit-next x h n e es q w =
       let clean = commit-clean program memory (h .linked .fits) _ e es (h .kept) n q w in
       accepted-then x [] (refusal (commitChecks program (x .state) (x .memory))) _
@@ -166,8 +149,8 @@ module _ (program memory : List ℕ) where
       → Then x (commit ∷ []) (executing (x .state) (x .memory) 0 f left)
   executed-then x n e es q f left w l h =
       let first = oldest-executed (x .state .entries) e es f left q l in
-      let same : ends program (after program memory (x .commits + 0)) ≡ false = rw add-zero n in
-      let c = commit-next _ h same (became e f) (first .0) (first .1) w in
+      let same : ends program (runAfter program memory (x .commits + 0)) ≡ false = rw add-zero n in
+      let c = commit-next _ h same (entryWith e f) (first .0) (first .1) w in
       (c .0, omega arith, omega (arith, c .2))
 
   execute-next : (x : Played) → Held program memory x → ends program (run program memory x) ≡ false → (e : Entry)
@@ -175,25 +158,25 @@ module _ (program memory : List ℕ) where
       → x .state .entries ≡ e ∷ es
       → waits (e .fate) ≡ true
       → Next x (execute 0 ∷ commit ∷ [])
-  unfolding accepted play respond
+  unfolding allAccepted play respond
   execute-next x h n e es q w =
       let X = x .state in
-      let f = known (coming X (x .memory) 0) in
+      let f = known (evaluated X (x .memory) 0) in
       let k = execute-accepted program X (x .memory) (h .linked) e es q w in
       accepted-then x (commit ∷ []) (refusal (executeChecks program X (x .memory) 0))
-      (executing X (x .memory) 0 f (stay X 0 f)) k
-      (executed-then x n e es q f (stay X 0 f) (oldest-fate X (x .memory) e es q)
+      (executing X (x .memory) 0 f (survivorsOf X 0 f)) k
+      (executed-then x n e es q f (survivorsOf X 0 f) (oldest-fate X (x .memory) e es q)
       (oldest-stays program X (x .memory) (h .linked) k))
       (held-plays x h (execute 0))
 
   issue-next : (x : Played) → Held program memory x → ends program (run program memory x) ≡ false → x .state .entries ≡ []
       → Next x (issue ∷ execute 0 ∷ commit ∷ [])
-  unfolding accepted play respond
+  unfolding allAccepted play respond
   issue-next x h n q =
       let X = x .state in
       let left = issue-left program memory _ (h .kept) n q in
       let e : Entry = record { instruction = instructionAt program (X .next); index = X .next; fate = Waiting } in
-      let same : ends program (after program memory (x .commits + 0)) ≡ false = rw add-zero n in
+      let same : ends program (runAfter program memory (x .commits + 0)) ≡ false = rw add-zero n in
       accepted-then x (execute 0 ∷ commit ∷ []) (refusal (issueChecks program X)) _
       (issue-accepted program X (x .memory) (h .linked) (ap length q) (omega (arith, h .linked .counted)))
       (λ h′.

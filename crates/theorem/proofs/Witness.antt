@@ -12,15 +12,16 @@ use Rattle.marks.specs.Counting.{count, last, every}
 use Rattle.table.specs.Bank.{home, bank}
 use Rattle.table.specs.Limits.{sizesFit}
 use Rattle.lookup.specs.Forwarding.{seen}
-use Rattle.lookup.specs.Violation.{spared}
+use Rattle.lookup.specs.Violation.{keptYounger}
 use Rattle.lookup.specs.Rows.{touched}
-use Rattle.machine.specs.Program.{programFits}
-use Rattle.theorem.specs.Sequential.{after}
-use Rattle.machine.specs.Window.{held}
-use Rattle.machine.specs.Calls.{Call, issue, execute, commit, finish, Answer, refused, position, executed, committed}
-use Rattle.machine.specs.Calls.{finished, finishes, respond, opened}
+use Rattle.engine.specs.Contract.{refused, named, executed, committed, finished}
+use Rattle.machine_model.specs.Program.{programFits}
+use Rattle.machine_model.specs.Window.{registerSeen}
+use Rattle.machine_model.specs.Calls.{Call, issue, execute, commit, finish, Answer, finishes, respond, opened}
+use Rattle.theorem.specs.Sequential.{runAfter}
 use Rattle.theorem.specs.Play.{Played, plays, play, start}
-use Rattle.theorem.proofs.Record.{Truth, record-theorem}
+use Rattle.theorem.specs.Truth.{Truth}
+use Rattle.theorem.proofs.Record.{record-theorem}
 
 -- r1 becomes 9; it is stored at 3; r2 loads 3; r3 loads 4
 abbrev program : List ℕ
@@ -50,16 +51,16 @@ answers x (c ∷ cs) = respond program c (x .state) (x .memory) .answer ∷ answ
 -- violation. After two commits the window stands at stages 2 and 0. The load of 4 takes the one row; the older load of 3
 -- evicts it and squashes from position 1. The finish commits that load, and then the other, issued and executed once more.
 pub answered : answers opening calls
-    ≡ refused 11 ∷ position 0 ∷ position 1 ∷ position 2 ∷ executed 5 none ∷ executed 0 none ∷ executed 0 (some 2)
+    ≡ refused 11 ∷ named 0 ∷ named 1 ∷ named 2 ∷ executed 5 none ∷ executed 0 none ∷ executed 0 (some 2)
     ∷ committed 0 1 1 9
     ∷ committed 1 4 3 9
-    ∷ position 0
-    ∷ position 1
+    ∷ named 0
+    ∷ named 1
     ∷ executed 6 none
     ∷ executed 9 (some 1)
     ∷ finished 2
     ∷ []
-unfolding answers play respond finishes every programFits seen spared touched count last home bank held
+unfolding answers play respond finishes every programFits seen keptYounger touched count last home bank registerSeen
 answered = refl
 
 abbrev wrap : Played
@@ -67,15 +68,15 @@ wrap = play program opening (take 11 calls)
 
 -- the two live entries stand at stages 2 and 0
 pub wrapped : (wrap .state .buffer .oldest ≡ 2) × (length (wrap .state .entries) ≡ 2) × (stage 2 3 1 ≡ 0)
-unfolding play respond every programFits seen spared touched count last home bank held
+unfolding play respond every programFits seen keptYounger touched count last home bank registerSeen
 wrapped = (refl, refl, refl)
 
 abbrev numbers : List ℕ
 numbers = 0 ∷ 1 ∷ 1 ∷ 9 ∷ 1 ∷ 4 ∷ 3 ∷ 9 ∷ 2 ∷ 3 ∷ 2 ∷ 9 ∷ 3 ∷ 3 ∷ 3 ∷ 6 ∷ []
 
 -- four commits, and what they recorded, as the sequential run does
-pub recorded : (x .record′ ≡ numbers) × (x .commits ≡ 4) × (after program memory 4 .record′ ≡ numbers)
-unfolding play respond finishes every programFits seen spared touched count last home bank held after
+pub recorded : (x .record′ ≡ numbers) × (x .commits ≡ 4) × (runAfter program memory 4 .record′ ≡ numbers)
+unfolding play respond finishes every programFits seen keptYounger touched count last home bank registerSeen runAfter
 recorded = (refl, refl, refl)
 
 -- and the theorem is about it: the opening passes its checks

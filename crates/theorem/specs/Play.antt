@@ -6,26 +6,27 @@ use mathlib.Core.List.{List, [], _∷_, _++_}
 use Prim.Native.Nat.{ℕ, _+_, _*_}
 use lib.Dec.{eqb}
 use lib.ListN.{length, take}
-use Rattle.machine.specs.Window.{entryAt}
-use Rattle.machine.specs.Calls.{Plain, Call, issue, execute, commit, Answer, refused, position, executed, done, committed, finished, waits, respond}
+use Rattle.engine.specs.Contract.{refused, named, executed, done, committed, finished}
+use Rattle.machine_model.specs.Window.{entryAt}
+use Rattle.machine_model.specs.Calls.{Plain, Call, issue, execute, commit, Answer, waits, respond}
 
 -- what an answer adds to the record, with the list as the call left it
 abbrev pub recorded : Answer → List ℕ → List ℕ
 recorded (refused k) list = []
-recorded (position p) list = []
+recorded (named p) list = []
 recorded (executed v s) list = []
 recorded done list = []
 recorded (committed i c r v) list = i ∷ c ∷ r ∷ v ∷ []
 recorded (finished n) list = take (n * 4) list
 
 -- how many commits an answer tells of
-abbrev pub counted : Answer → ℕ
-counted (refused k) = 0
-counted (position p) = 0
-counted (executed v s) = 0
-counted done = 0
-counted (committed i c r v) = 1
-counted (finished n) = n
+abbrev pub commitsIn : Answer → ℕ
+commitsIn (refused k) = 0
+commitsIn (named p) = 0
+commitsIn (executed v s) = 0
+commitsIn done = 0
+commitsIn (committed i c r v) = 1
+commitsIn (finished n) = n
 
 -- where a list of calls got to: state and memory, the record and the number of commits
 pub record Played : Type 0 where
@@ -42,7 +43,7 @@ plays program x c =
       state = r .state;
       memory = r .memory;
       record′ = x .record′ ++ recorded (r .answer) (r .list);
-      commits = x .commits + counted (r .answer);
+      commits = x .commits + commitsIn (r .answer);
     }
 
 -- the calls one after the other
@@ -63,14 +64,14 @@ needed X =
 
 abbrev pub isRefused : Answer → Bool
 isRefused (refused k) = true
-isRefused (position p) = false
+isRefused (named p) = false
 isRefused (executed v s) = false
 isRefused done = false
 isRefused (committed i c r v) = false
 isRefused (finished n) = false
 
 -- none of these calls, one after the other, is refused
-unfoldable pub accepted : List ℕ → Played → List Call → Bool
-accepted program x [] = true
-accepted program x (c ∷ cs) =
-    not (isRefused (respond program c (x .state) (x .memory) .answer)) && accepted program (plays program x c) cs
+unfoldable pub allAccepted : List ℕ → Played → List Call → Bool
+allAccepted program x [] = true
+allAccepted program x (c ∷ cs) =
+    not (isRefused (respond program c (x .state) (x .memory) .answer)) && allAccepted program (plays program x c) cs

@@ -6,9 +6,9 @@ use mathlib.Core.List.{List, [], _∷_, _++_}
 use Prim.Native.Nat.{ℕ, zero, suc, _+_, _/_}
 use lib.Dec.{leb}
 use lib.ListN.{length, getD, set, replicate}
-use Rattle.machine.specs.declared.Instruction.{Instruction}
-use Rattle.machine.specs.declared.Instruction.the-variants.{Add, Sum, Load, Store}
-use Rattle.machine.specs.Program.{instructionAt, sum}
+use Rattle.machine_model.specs.declared.Instruction.{Instruction}
+use Rattle.machine_model.specs.declared.Instruction.the-variants.{Add, Sum, Load, Store}
+use Rattle.machine_model.specs.Program.{instructionAt, sum}
 
 -- eight registers, the memory, the index of the next instruction, and a record of four numbers an instruction
 pub record Run : Type 0 where
@@ -18,8 +18,8 @@ pub record Run : Type 0 where
   pub record′ : List ℕ
 
 -- register d becomes v
-abbrev pub puts : Run → ℕ → ℕ → ℕ → Run
-puts r code d v =
+abbrev pub putsRegister : Run → ℕ → ℕ → ℕ → Run
+putsRegister r code d v =
     record {
       registers = set (r .registers) d v;
       memory = r .memory;
@@ -28,8 +28,8 @@ puts r code d v =
     }
 
 -- the word at address a becomes v
-abbrev pub writes : Run → ℕ → ℕ → ℕ → Run
-writes r code a v =
+abbrev pub putsWord : Run → ℕ → ℕ → ℕ → Run
+putsWord r code a v =
     record {
       registers = r .registers;
       memory = set (r .memory) a v;
@@ -46,10 +46,10 @@ addressOf r s imm = sum (register r s) imm
 
 -- what an instruction does
 abbrev pub does : Run → Instruction → Run
-does r (Add d s imm) = puts r 1 d (sum (register r s) imm)
-does r (Sum d s k) = puts r 2 d (sum (register r s) (register r k))
-does r (Load d s imm) = puts r 3 d (getD (r .memory) (addressOf r s imm) 0)
-does r (Store d s imm) = writes r 4 (addressOf r s imm) (register r d)
+does r (Add d s imm) = putsRegister r 1 d (sum (register r s) imm)
+does r (Sum d s k) = putsRegister r 2 d (sum (register r s) (register r k))
+does r (Load d s imm) = putsRegister r 3 d (getD (r .memory) (addressOf r s imm) 0)
+does r (Store d s imm) = putsWord r 4 (addressOf r s imm) (register r d)
 
 -- a load or store at an address of W or more is a fault
 abbrev pub faultsAt : Run → Instruction → Bool
@@ -66,6 +66,6 @@ abbrev pub step : List ℕ → Run → Run
 step program r = cond (ends program r) r (does r (instructionAt program (r .index)))
 
 -- the run after n steps from the memory as lent at opening
-unfoldable pub after : List ℕ → List ℕ → ℕ → Run
-after program memory zero = record { registers = replicate 8 0; memory = memory; index = 0; record′ = [] }
-after program memory (suc n) = step program (after program memory n)
+unfoldable pub runAfter : List ℕ → List ℕ → ℕ → Run
+runAfter program memory zero = record { registers = replicate 8 0; memory = memory; index = 0; record′ = [] }
+runAfter program memory (suc n) = step program (runAfter program memory n)

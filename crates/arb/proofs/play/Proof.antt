@@ -4,7 +4,8 @@ use mathlib.Core.Path.{_≡_, sym, _∙_}
 use Prim.Native.Nat.{_≤_}
 use lib.ListN.{length}
 use borrow.Author.Needs.{needs}
-use Rattle.script.specs.Playing.{longest, weight}
+use Rattle.script_model.specs.Playing.{longest}
+use Rattle.script_model.specs.computed.Invariant.{weight}
 use Rattle.arb.proofs.play.Statement.{statement}
 use Rattle.arb.proofs.play.Tie as tie
 

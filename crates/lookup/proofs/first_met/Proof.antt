@@ -9,7 +9,7 @@ use lib.Bits.{bitOr}
 use borrow.Author.Tests.{lt-ltb, le-ltb}
 use borrow.Author.Needs.{needs}
 use Rattle.marks.proofs.Turns.{stage-lt}
-use Rattle.lookup.specs.Search.{marked, metAt}
+use Rattle.lookup.specs.computed.Search.{marked, metAt}
 use Rattle.lookup.proofs.first_met.Statement.{statement}
 use Rattle.lookup.proofs.first_met.Tie as tie
 

@@ -1,5 +1,5 @@
 -- `lookup::forwarded` meets its contract: `q` is the definition's nearest store, and the two branches are its two
--- cases. The store found is older than p, so its stage is below 16 and the value's index below 1024.
+-- cases. The store found is older than p, so its stage is an index of the values.
 -- Assumes nothing.
 use Prim.Native.Nat.{_-_, _≤_, _<_}
 use native.Mathlib.Omega.{arith}
@@ -7,7 +7,8 @@ use lib.ListN.{getD}
 use borrow.Author.Tests.{ne-eqb}
 use borrow.Author.Needs.{needs}
 use Rattle.marks.proofs.Turns.{stage-lt}
-use Rattle.lookup.specs.Search.{marked}
+use Rattle.table.specs.Limits.{stagesMost}
+use Rattle.lookup.specs.computed.Search.{marked}
 use Rattle.lookup.proofs.Loops.{find-le}
 use Rattle.lookup.proofs.forwarded.Statement.{statement}
 use Rattle.lookup.proofs.forwarded.Tie as tie
@@ -22,7 +23,7 @@ older c =
       find-le (marked (args .oldest) (args .stages) (getD (args .stores .now) (args .r) 0)) (args .p),
     )
 
-stage-below : (c : tie.After-stage-at) → c .stage-at .result < 16
+stage-below : (c : tie.After-stage-at) → c .stage-at .result < stagesMost
 stage-below c =
     let start = c .before .before .before .before .pre .0 .0 in
     let l = older (c .before .before) in
@@ -40,20 +41,14 @@ nearest-store-requires c κs = search needs
 returns : tie.Need-returns
 returns c = rw (← c .before .nearest-store .ensures, c .if1 .taken)
 
-mul-result : tie.Need-mul-result
-mul-result c = search needs
-
 sub-stage-at : tie.Need-sub-stage-at
 sub-stage-at c = search needs
 
 stage-at-requires : tie.Need-stage-at-requires
 stage-at-requires c κs = omega (arith, older (c .before))
 
-add-result : tie.Need-add-result
-add-result c = omega (arith, stage-below c)
-
-mul-result-2 : tie.Need-mul-result-2
-mul-result-2 c = omega (arith, stage-below c)
+mul-result : tie.Need-mul-result
+mul-result c = omega (arith, stage-below c)
 
 element-copy-out-result : tie.Need-element-copy-out-result
 element-copy-out-result c = omega (arith, stage-below c)
@@ -71,10 +66,8 @@ forwarded-spec =
     element-copy-out-nearest-store
     nearest-store-requires
     returns
-    mul-result
     sub-stage-at
     stage-at-requires
-    add-result
-    mul-result-2
+    mul-result
     element-copy-out-result
     returns-2)

@@ -1,11 +1,11 @@
 -- `lookup::free_row` meets its contract. The loop's invariant: the search below `rows` finds what the search below `i`
--- finds. A turn looks at place i - 1 of the bank; its row is below 64.
+-- finds. A turn looks at place i - 1 of the bank; its row is an index of the arrays.
 -- Assumes nothing.
 use mathlib.Core.Path.{_≡_, refl, sym, _∙_}
 use Prim.Native.Nat.{_≤_}
 use native.Mathlib.Omega.{arith}
 use borrow.Author.Tests.{eq-eqb, ne-eqb}
-use Rattle.lookup.specs.Search.{find, free}
+use Rattle.lookup.specs.computed.Search.{find, free}
 use Rattle.lookup.proofs.Loops.{find-hit, find-miss, find-none}
 use Rattle.lookup.proofs.free_row.Statement.{statement}
 use Rattle.lookup.proofs.free_row.Tie as tie

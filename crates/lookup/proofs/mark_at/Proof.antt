@@ -1,42 +1,42 @@
--- `lookup::mark_at` meets its contract. The loop's invariant: what the marks of all rows say is what those of the first `i`
--- rows say. A turn looks at row i - 1, whose clause of `markOf` is the code's two tests.
+-- `lookup::mark_at` meets its contract. The loop's invariant: what the marks of the banks' rows say is what those of the
+-- first `i` rows say. A turn looks at row i - 1, whose clause of `markOf` is the code's two tests.
 -- Assumes nothing.
 use mathlib.Core.Bool.{true, false, cond}
 use mathlib.Core.List.{List}
 use mathlib.Core.Path.{_≡_, refl, sym, _∙_}
-use Prim.Native.Nat.{ℕ, suc, _+_, _-_, _*_, _≤_, _<_}
+use Prim.Native.Nat.{ℕ, suc, _-_, _≤_, _<_}
 use native.Mathlib.Omega.{arith}
 use lib.ListN.{getD}
 use Rattle.marks.specs.Stages.{has}
-use Rattle.table.specs.Limits.{rowsAll, stagesMost}
+use Rattle.table.specs.Limits.{rowsIn}
 use Rattle.lookup.specs.declared.Mark.the-variants.{Absent, Load, Store}
-use Rattle.lookup.specs.Search.{markOf}
+use Rattle.lookup.specs.computed.Search.{markOf}
 use Rattle.lookup.proofs.mark_at.Statement.{statement}
 use Rattle.lookup.proofs.mark_at.Tie as tie
 
 abbrev Inv-loop : tie.InvT-loop
-Inv-loop addresses loads stores values s i₀ i =
-    (i ≤ rowsAll) × (markOf addresses loads stores values s rowsAll ≡ markOf addresses loads stores values s i)
+Inv-loop banks addresses loads stores values s i₀ i =
+    (i ≤ rowsIn banks) × (markOf addresses loads stores values s (rowsIn banks) ≡ markOf addresses loads stores values s i)
 
 abbrev μ-loop : tie.MeasureT-loop
-μ-loop addresses loads stores values s i₀ i = i
+μ-loop banks addresses loads stores values s i₀ i = i
 
 module _ (addresses loads stores values : List ℕ) (s : ℕ) where
   clause : (k : ℕ) → markOf addresses loads stores values s (suc k)
-      ≡ cond (has (getD stores k 0) s) (Store (getD addresses k 0) (getD values (k * stagesMost + s) 0))
+      ≡ cond (has (getD stores k 0) s) (Store (getD addresses k 0) (getD values s 0))
       (cond (has (getD loads k 0) s) (Load (getD addresses k 0)) (markOf addresses loads stores values s k))
   unfolding markOf
   clause k = refl
 
   turn : (i : ℕ) → 0 < i → markOf addresses loads stores values s i
-      ≡ cond (has (getD stores (i - 1) 0) s) (Store (getD addresses (i - 1) 0) (getD values ((i - 1) * stagesMost + s) 0))
+      ≡ cond (has (getD stores (i - 1) 0) s) (Store (getD addresses (i - 1) 0) (getD values s 0))
       (cond (has (getD loads (i - 1) 0) s) (Load (getD addresses (i - 1) 0))
       (markOf addresses loads stores values s (i - 1)))
   turn i h = let e : suc (i - 1) ≡ i = omega arith in rw e at (clause (i - 1))
 
   of-store : (i : ℕ) → 0 < i → has (getD stores (i - 1) 0) s ≡ true
       → markOf addresses loads stores values s i
-      ≡ Store (getD addresses (i - 1) 0) (getD values ((i - 1) * stagesMost + s) 0)
+      ≡ Store (getD addresses (i - 1) 0) (getD values s 0)
   of-store i h e = turn i h ∙ rw e
 
   of-load : (i : ℕ) → 0 < i → has (getD stores (i - 1) 0) s ≡ false → has (getD loads (i - 1) 0) s ≡ true
@@ -50,6 +50,9 @@ module _ (addresses loads stores values : List ℕ) (s : ℕ) where
   of-none : (i : ℕ) → i ≤ 0 → markOf addresses loads stores values s i ≡ Absent
   unfolding markOf
   of-none i h = let z : i ≡ 0 = omega arith in rw z
+
+mul-i : tie.Need-mul-i Inv-loop μ-loop
+mul-i c = omega arith
 
 loop-holds : tie.Need-loop-holds Inv-loop μ-loop
 loop-holds c = (omega arith, refl)
@@ -66,30 +69,26 @@ element-copy-out-contains c = omega arith
 contains-requires : tie.Need-contains-requires Inv-loop μ-loop
 contains-requires c κs = omega arith
 
-mul-t14 : tie.Need-mul-t14 Inv-loop μ-loop
-mul-t14 c = omega arith
+mul-t15 : tie.Need-mul-t15 Inv-loop μ-loop
+mul-t15 c = omega arith
 
-element-copy-out-t17 : tie.Need-element-copy-out-t17 Inv-loop μ-loop
-element-copy-out-t17 c = omega arith
+element-copy-out-t18 : tie.Need-element-copy-out-t18 Inv-loop μ-loop
+element-copy-out-t18 c = omega arith
 
-mul-t18 : tie.Need-mul-t18 Inv-loop μ-loop
-mul-t18 c = omega arith
+mul-t19 : tie.Need-mul-t19 Inv-loop μ-loop
+mul-t19 c = omega arith
 
-add-t19 : tie.Need-add-t19 Inv-loop μ-loop
-add-t19 c = omega arith
-
-mul-t20 : tie.Need-mul-t20 Inv-loop μ-loop
-mul-t20 c = omega arith
-
-element-copy-out-t23 : tie.Need-element-copy-out-t23 Inv-loop μ-loop
-element-copy-out-t23 c = omega arith
+element-copy-out-t22 : tie.Need-element-copy-out-t22 Inv-loop μ-loop
+element-copy-out-t22 c = omega arith
 
 returns : tie.Need-returns Inv-loop μ-loop
 returns c =
     let at = c .before .before .before .before .before .before .loop in
     let a = c .before .before .before .before .before .before .before .args in
     let e : has (getD (a .stores .now) (at .i - 1) 0) (a .s) ≡ true = cc in
-    sym (at .inv .1 ∙ of-store (a .addresses .now) (a .loads .now) (a .stores .now) (a .values .now) (a .s) (at .i) (omega arith) e)
+    sym
+    (at .inv .1
+    ∙ of-store (a .addresses .now) (a .loads .now) (a .stores .now) (a .values .now) (a .s) (at .i) (omega arith) e)
 
 mul-contains-2 : tie.Need-mul-contains-2 Inv-loop μ-loop
 mul-contains-2 c = omega arith
@@ -100,11 +99,11 @@ element-copy-out-contains-2 c = omega arith
 contains-requires-2 : tie.Need-contains-requires-2 Inv-loop μ-loop
 contains-requires-2 c κs = omega arith
 
-mul-t27 : tie.Need-mul-t27 Inv-loop μ-loop
-mul-t27 c = omega arith
+mul-t26 : tie.Need-mul-t26 Inv-loop μ-loop
+mul-t26 c = omega arith
 
-element-copy-out-t30 : tie.Need-element-copy-out-t30 Inv-loop μ-loop
-element-copy-out-t30 c = omega arith
+element-copy-out-t29 : tie.Need-element-copy-out-t29 Inv-loop μ-loop
+element-copy-out-t29 c = omega arith
 
 returns-2 : tie.Need-returns-2 Inv-loop μ-loop
 returns-2 c =
@@ -112,7 +111,9 @@ returns-2 c =
     let a = c .before .before .before .before .before .before .before .before .before .args in
     let e : has (getD (a .stores .now) (at .i - 1) 0) (a .s) ≡ false = cc in
     let f : has (getD (a .loads .now) (at .i - 1) 0) (a .s) ≡ true = cc in
-    sym (at .inv .1 ∙ of-load (a .addresses .now) (a .loads .now) (a .stores .now) (a .values .now) (a .s) (at .i) (omega arith) e f)
+    sym
+    (at .inv .1
+    ∙ of-load (a .addresses .now) (a .loads .now) (a .stores .now) (a .values .now) (a .s) (at .i) (omega arith) e f)
 
 loop-less : tie.Need-loop-less Inv-loop μ-loop
 loop-less c = omega arith
@@ -122,8 +123,11 @@ loop-again c =
     let at = c .before .before .before .before .before .before .before .loop in
     let a = c .before .before .before .before .before .before .before .before .args in
     let e : has (getD (a .stores .now) (at .i - 1) 0) (a .s) ≡ false = cc in
-    let f : has (getD (a .loads .now) (at .i - 1) 0) (a .s) ≡ false = cc in
-    (omega arith, at .inv .1 ∙ of-rest (a .addresses .now) (a .loads .now) (a .stores .now) (a .values .now) (a .s) (at .i) (omega arith) e f)
+    let f : has (getD (a .loads .now) (at .i - 1) 0) (a .s) ≡ false = cc in (
+      omega arith,
+      at .inv .1
+          ∙ of-rest (a .addresses .now) (a .loads .now) (a .stores .now) (a .values .now) (a .s) (at .i) (omega arith) e f,
+    )
 
 returns-3 : tie.Need-returns-3 Inv-loop μ-loop
 returns-3 c =
@@ -137,23 +141,22 @@ mark-at-spec =
     (tie.spec
     Inv-loop
     μ-loop
+    mul-i
     loop-holds
     sub-r
     mul-contains
     element-copy-out-contains
     contains-requires
-    mul-t14
-    element-copy-out-t17
-    mul-t18
-    add-t19
-    mul-t20
-    element-copy-out-t23
+    mul-t15
+    element-copy-out-t18
+    mul-t19
+    element-copy-out-t22
     returns
     mul-contains-2
     element-copy-out-contains-2
     contains-requires-2
-    mul-t27
-    element-copy-out-t30
+    mul-t26
+    element-copy-out-t29
     returns-2
     loop-less
     loop-again

@@ -1,12 +1,12 @@
 -- `lookup::nearest_store` meets its contract. The loop's invariant: the search below `p` finds what the search below
--- `q` finds. A turn looks at position q - 1, whose stage is below 16.
+-- `q` finds. A turn looks at position q - 1, whose stage is a bit of the word.
 -- Assumes nothing.
 use mathlib.Core.Bool.{true, false}
 use mathlib.Core.Path.{_≡_, refl, sym, _∙_}
 use Prim.Native.Nat.{_-_, _≤_}
 use native.Mathlib.Omega.{arith}
 use Rattle.marks.proofs.Turns.{stage-lt}
-use Rattle.lookup.specs.Search.{nearest, marked}
+use Rattle.lookup.specs.computed.Search.{nearest, marked}
 use Rattle.lookup.proofs.Loops.{find-hit, find-miss, find-none}
 use Rattle.lookup.proofs.nearest_store.Statement.{statement}
 use Rattle.lookup.proofs.nearest_store.Tie as tie

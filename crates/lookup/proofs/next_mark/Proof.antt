@@ -1,12 +1,12 @@
 -- `lookup::next_mark` meets its contract. The loop's invariant: the search from `from` on finds what the search from
--- `q` on finds. A turn looks at position q, whose stage is below 16.
+-- `q` on finds. A turn looks at position q, whose stage is a bit of the word.
 -- Assumes nothing.
 use mathlib.Core.Bool.{true, false}
 use mathlib.Core.Path.{_≡_, refl, sym, _∙_}
 use Prim.Native.Nat.{_-_, _≤_}
 use native.Mathlib.Omega.{arith}
 use Rattle.marks.proofs.Turns.{stage-lt}
-use Rattle.lookup.specs.Search.{seek, marked}
+use Rattle.lookup.specs.computed.Search.{seek, marked}
 use Rattle.lookup.proofs.Loops.{seek-hit, seek-miss, seek-end}
 use Rattle.lookup.proofs.next_mark.Statement.{statement}
 use Rattle.lookup.proofs.next_mark.Tie as tie

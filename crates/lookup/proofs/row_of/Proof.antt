@@ -4,7 +4,7 @@
 use mathlib.Core.Path.{_≡_, refl, sym, _∙_}
 use Prim.Native.Nat.{_≤_}
 use native.Mathlib.Omega.{arith}
-use Rattle.lookup.specs.Search.{belongs, rowOf}
+use Rattle.lookup.specs.computed.Search.{belongs, rowOf}
 use Rattle.lookup.proofs.Loops.{find-hit, find-miss, find-none}
 use Rattle.lookup.proofs.row_of.Statement.{statement}
 use Rattle.lookup.proofs.row_of.Tie as tie

@@ -6,7 +6,8 @@ use mathlib.Core.Path.{_≡_, ap, sym, _∙_}
 use Prim.Native.Nat.{ℕ, _-_, _*_, _≤_}
 use native.Mathlib.Nat.{add-zero}
 use native.Mathlib.Omega.{arith}
-use Rattle.lookup.specs.Search.{bankMark, chosen}
+use Rattle.table.specs.Limits.{rowsMost}
+use Rattle.lookup.specs.computed.Search.{bankMark, chosen}
 use Rattle.lookup.proofs.Loops.{chosen-hit, chosen-miss, chosen-lt}
 use Rattle.lookup.proofs.youngest_row.Statement.{statement}
 use Rattle.lookup.proofs.youngest_row.Tie as tie
@@ -34,7 +35,7 @@ loop-holds c =
     let args = c .before .args in
     let f = bankMark (args .oldest) (args .stages) (args .live) (args .loads .now) (args .stores .now) (args .b) in
     let z : chosen f 1 ≡ 0 = omega (arith, chosen-lt f 1 (omega arith)) in
-    let first : c .row-mark .result ≡ f 0 = rw (add-zero (args .b * 8)) (c .row-mark .ensures) in
+    let first : c .row-mark .result ≡ f 0 = rw (add-zero (args .b * rowsMost)) (c .row-mark .ensures) in
     (omega arith, sym z, first ∙ ap f (sym z))
 
 mul-row-mark-2 : tie.Need-mul-row-mark-2 Inv-loop μ-loop

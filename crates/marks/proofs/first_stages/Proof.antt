@@ -1,64 +1,74 @@
--- `marks::first_stages` meets its contract. The loop's invariant: `word` is the set of the stages at the first `i`
--- positions. Each turn adds the stage at position `i`, which is below `stages` and so below 32. Assumes nothing.
-use mathlib.Core.Path.{_≡_, refl, ap, ap₂, sym, _∙_}
-use Prim.Native.Nat.{ℕ, _-_, _^_, _≤_}
-use native.Mathlib.Numerals.{add-one}
-use native.Mathlib.Omega.{arith}
-use lib.Bits.{bitOr}
+-- `marks::first_stages` meets its contract: no position is in the empty set, and otherwise the code computes the run of
+-- proofs/Runs.antt, turned in `stages` bits of a word of the width. Assumes nothing.
+use mathlib.Core.Path.{ap, sym}
+use borrow.Author.Needs.{needs}
 use Rattle.marks.specs.Circle.{firsts}
-use Rattle.marks.proofs.Turns.{stage-lt}
+use Rattle.marks.specs.Stages.{width}
+use Rattle.marks.proofs.Runs.{turned-firsts}
 use Rattle.marks.proofs.first_stages.Statement.{statement}
 use Rattle.marks.proofs.first_stages.Tie as tie
 
-abbrev Inv-loop : tie.InvT-loop
-Inv-loop oldest stages count word₀ i₀ word i = (i ≤ count) × (word ≡ firsts oldest stages i)
-
-abbrev μ-loop : tie.MeasureT-loop
-μ-loop oldest stages count word₀ i₀ word i = count - i
-
-loop-holds : tie.Need-loop-holds Inv-loop μ-loop
+returns : tie.Need-returns
 unfolding firsts
-loop-holds c = (omega arith, refl)
+returns c = sym (ap (firsts _ _) (c .if1 .taken))
 
-stage-at-requires : tie.Need-stage-at-requires Inv-loop μ-loop
-stage-at-requires c κs = omega arith
+sub-all : tie.Need-sub-all
+sub-all c = search needs
 
-including-requires : tie.Need-including-requires Inv-loop μ-loop
-including-requires c κs =
-    let start = c .before .before .before .pre .0 in
-    omega (arith, stage-lt _ _ start (c .before .before .loop .i) (omega arith))
+cast-all : tie.Need-cast-all
+cast-all c = search needs
 
-add-i : tie.Need-add-i Inv-loop μ-loop
-add-i c = omega arith
+shr-all : tie.Need-shr-all
+shr-all c = search needs
 
-loop-less : tie.Need-loop-less Inv-loop μ-loop
-loop-less c = omega arith
+sub-run : tie.Need-sub-run
+sub-run c = search needs
 
-loop-again : tie.Need-loop-again Inv-loop μ-loop
-unfolding firsts
-loop-again c =
-    let at = c .before .before .before .loop in
-    let args = c .before .before .before .before .args in (
-      omega arith,
-      c .including .ensures ∙ ap₂ (λ (w s : ℕ). bitOr w (2 ^ s)) (at .inv .1) (c .before .stage-at .ensures)
-          ∙ ap (firsts (args .oldest) (args .stages)) (sym (add-one (at .i))),
-    )
+cast-run : tie.Need-cast-run
+cast-run c = search needs
 
-returns : tie.Need-returns Inv-loop μ-loop
-returns c =
-    c .before .loop .inv .1
-    ∙ ap (firsts (c .before .before .args .oldest) (c .before .before .args .stages)) (omega arith)
+shr-run : tie.Need-shr-run
+shr-run c = search needs
+
+cast-result : tie.Need-cast-result
+cast-result c = search needs
+
+shl-result : tie.Need-shl-result
+shl-result c = search needs
+
+sub-result : tie.Need-sub-result
+sub-result c = search needs
+
+sub-result-2 : tie.Need-sub-result-2
+sub-result-2 c = search needs
+
+cast-result-2 : tie.Need-cast-result-2
+cast-result-2 c = search needs
+
+shr-result : tie.Need-shr-result
+shr-result c = search needs
+
+returns-2 : tie.Need-returns-2
+returns-2 c =
+    let args = c .before .args in
+    let pre = c .before .pre in
+    turned-firsts width (args .oldest) (args .stages) (args .count) (pre .0) (pre .1) (pre .2)
 
 pub first-stages-spec : {M : Type 1} → statement M
 first-stages-spec =
     tie.close
     (tie.spec
-    Inv-loop
-    μ-loop
-    loop-holds
-    stage-at-requires
-    including-requires
-    add-i
-    loop-less
-    loop-again
-    returns)
+    returns
+    sub-all
+    cast-all
+    shr-all
+    sub-run
+    cast-run
+    shr-run
+    cast-result
+    shl-result
+    sub-result
+    sub-result-2
+    cast-result-2
+    shr-result
+    returns-2)

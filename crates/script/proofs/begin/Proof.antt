@@ -1,12 +1,12 @@
--- `script::begin` meets its contract: each way it goes is one law of proofs/Beginnings.antt. The opening was lent the
--- places of the program from 0 up to `used`. Assumes nothing.
+-- `script::begin` meets its contract: each way it goes is one law of script_model/proofs/Beginnings.antt. The opening
+-- was lent the places of the program from 0 up to `used`. Assumes nothing.
 use mathlib.Core.Bool.{false}
 use mathlib.Core.Path.{_≡_, sym, _∙_}
 use native.Mathlib.Nat.{sub-zero}
 use borrow.Author.Needs.{needs}
-use Rattle.script.specs.Playing.{wronglyLent}
-use Rattle.script.proofs.Beginnings.{printed-long, printed-unheaded, lent-short, lent-other, lent-rightly}
-use Rattle.script.proofs.Beginnings.{begins-over, begins-bad, begins-open}
+use Rattle.script_model.specs.Playing.{wronglyLent}
+use Rattle.script_model.proofs.Beginnings.{printed-long, printed-unheaded, lent-short, lent-other, lent-rightly, begins-over}
+use Rattle.script_model.proofs.Beginnings.{begins-bad, begins-open}
 use Rattle.script.proofs.begin.Statement.{statement}
 use Rattle.script.proofs.begin.Tie as tie
 

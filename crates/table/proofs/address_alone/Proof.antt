@@ -6,7 +6,7 @@ use Prim.Native.Nat.{_-_, _≤_}
 use native.Mathlib.Numerals.{add-one}
 use native.Mathlib.Omega.{arith}
 use Rattle.marks.specs.Counting.{every}
-use Rattle.table.specs.Check.{otherAddress}
+use Rattle.table.specs.computed.Check.{otherAddress}
 use Rattle.table.proofs.address_alone.Statement.{statement}
 use Rattle.table.proofs.address_alone.Tie as tie
 

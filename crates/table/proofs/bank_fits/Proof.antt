@@ -8,21 +8,22 @@ use native.Mathlib.Numerals.{add-one}
 use native.Mathlib.Omega.{arith}
 use lib.Bits.{bitOr}
 use Rattle.marks.specs.Counting.{every}
-use Rattle.table.specs.Check.{marksOf, taken, rowFits}
+use Rattle.table.specs.Limits.{rowsMost}
+use Rattle.table.specs.computed.Check.{marksOf, marksBelow, rowFits}
 use Rattle.table.proofs.bank_fits.Statement.{statement}
 use Rattle.table.proofs.bank_fits.Tie as tie
 
 abbrev Inv-loop : tie.InvT-loop
 Inv-loop banks rows allowed before addresses loads stores b fit₀ marked₀ i₀ fit marked i =
-    (i ≤ 8) × (fit ≡ every (λ k. rowFits banks rows allowed addresses loads stores (b * 8 + k)) i)
-    × (marked ≡ taken loads stores (b * 8 + i))
+    (i ≤ rowsMost) × (fit ≡ every (λ k. rowFits banks rows allowed addresses loads stores (b * rowsMost + k)) i)
+    × (marked ≡ marksBelow loads stores (b * rowsMost + i))
 
 abbrev μ-loop : tie.MeasureT-loop
-μ-loop banks rows allowed before addresses loads stores b fit₀ marked₀ i₀ fit marked i = 8 - i
+μ-loop banks rows allowed before addresses loads stores b fit₀ marked₀ i₀ fit marked i = rowsMost - i
 
 loop-holds : tie.Need-loop-holds Inv-loop μ-loop
 unfolding every
-loop-holds c = (omega arith, refl, c .pre .0 .2 ∙ ap (taken _ _) (omega arith))
+loop-holds c = (omega arith, refl, c .pre .0 .2 ∙ ap (marksBelow _ _) (omega arith))
 
 mul-r : tie.Need-mul-r Inv-loop μ-loop
 mul-r c = omega arith
@@ -52,20 +53,20 @@ loop-less : tie.Need-loop-less Inv-loop μ-loop
 loop-less c = omega arith
 
 loop-again : tie.Need-loop-again Inv-loop μ-loop
-unfolding every taken
+unfolding every marksBelow
 loop-again c =
     let at = c .before .before .before .before .loop in
     let args = c .before .before .before .before .before .args in
     let loads = args .loads .now in
     let stores = args .stores .now in
-    let r = args .b * 8 + at .i in
+    let r = args .b * rowsMost + at .i in
     let fits = rowFits (args .banks) (args .rows) (args .allowed) (args .addresses .now) loads stores in
-    let test : ℕ → Bool = λ k. fits (args .b * 8 + k) in (
+    let test : ℕ → Bool = λ k. fits (args .b * rowsMost + k) in (
       omega arith,
       ap₂ _&&_ {v = test (at .i)} (at .inv .1) (c .before .before .row-fits .ensures)
           ∙ ap (every test) (sym (add-one (at .i))),
       ap (λ (w : ℕ). bitOr w (marksOf loads stores r)) (at .inv .2)
-          ∙ ap (taken loads stores) {x = suc r} {y = args .b * 8 + (at .i + 1)} (omega arith),
+          ∙ ap (marksBelow loads stores) {x = suc r} {y = args .b * rowsMost + (at .i + 1)} (omega arith),
     )
 
 returns : tie.Need-returns Inv-loop μ-loop

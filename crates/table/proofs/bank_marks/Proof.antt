@@ -6,19 +6,21 @@ use native.Mathlib.Numerals.{add-one}
 use native.Mathlib.Omega.{arith}
 use lib.Bits.{bitOr}
 use lib.ListN.{drop}
-use Rattle.table.specs.Check.{taken}
+use Rattle.table.specs.Limits.{rowsMost}
+use Rattle.table.specs.computed.Check.{marksBelow}
 use Rattle.table.proofs.Banked.{marks-from}
 use Rattle.table.proofs.bank_marks.Statement.{statement}
 use Rattle.table.proofs.bank_marks.Tie as tie
 
 abbrev Inv-loop : tie.InvT-loop
-Inv-loop loads stores b all₀ i₀ all i = (i ≤ 8) × (all ≡ taken (drop (b * 8) loads) (drop (b * 8) stores) i)
+Inv-loop loads stores b all₀ i₀ all i = (i ≤ rowsMost) × (all ≡ marksBelow (drop (b * rowsMost) loads) (drop (b * rowsMost)
+    stores) i)
 
 abbrev μ-loop : tie.MeasureT-loop
-μ-loop loads stores b all₀ i₀ all i = 8 - i
+μ-loop loads stores b all₀ i₀ all i = rowsMost - i
 
 loop-holds : tie.Need-loop-holds Inv-loop μ-loop
-unfolding taken
+unfolding marksBelow
 loop-holds c = (omega arith, refl)
 
 mul-r : tie.Need-mul-r Inv-loop μ-loop
@@ -46,20 +48,20 @@ loop-less : tie.Need-loop-less Inv-loop μ-loop
 loop-less c = omega arith
 
 loop-again : tie.Need-loop-again Inv-loop μ-loop
-unfolding taken
+unfolding marksBelow
 loop-again c =
     let at = c .before .before .before .loop in
     let args = c .before .before .before .before .args in
     let loads = args .loads .now in
     let stores = args .stores .now in
-    let first = args .b * 8 in (
+    let first = args .b * rowsMost in (
       omega arith,
       ap₂ bitOr (at .inv .1) (sym (marks-from loads stores first (at .i)))
-          ∙ ap (taken (drop first loads) (drop first stores)) (sym (add-one (at .i))),
+          ∙ ap (marksBelow (drop first loads) (drop first stores)) (sym (add-one (at .i))),
     )
 
 returns : tie.Need-returns Inv-loop μ-loop
-returns c = c .before .loop .inv .1 ∙ ap (taken _ _) (omega arith)
+returns c = c .before .loop .inv .1 ∙ ap (marksBelow _ _) (omega arith)
 
 pub bank-marks-spec : {M : Type 1} → statement M
 bank-marks-spec =

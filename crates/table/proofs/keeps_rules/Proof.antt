@@ -6,7 +6,7 @@ use native.Mathlib.Omega.{arith}
 use borrow.Author.Needs.{needs}
 use borrow.Author.Tests.{le-leb, lt-leb, lt-ltb, le-ltb, not-true, not-false}
 use Rattle.table.specs.Limits.{sizesFit}
-use Rattle.table.specs.Check.{lawfulBy}
+use Rattle.table.specs.computed.Check.{lawfulBy}
 use Rattle.table.proofs.Sizes.{Sizes, sizes}
 use Rattle.table.proofs.keeps_rules.Statement.{statement}
 use Rattle.table.proofs.keeps_rules.Tie as tie
@@ -41,7 +41,7 @@ first-stages-requires c κs = (c .if3 .left, c .before .if2 .left, omega (arith,
 rows-fit-requires : tie.Need-rows-fit-requires
 rows-fit-requires c κs =
     let fits = c .before .before .before in
-    (sizes-at fits .some-bank, fits .before .before .pre)
+    ((sizes-at fits .some-bank, sizes-at fits .banks), fits .before .before .pre)
 
 returns-4 : tie.Need-returns-4
 unfolding lawfulBy

@@ -2,7 +2,7 @@
 -- remaining tests in the definition's order. Assumes nothing.
 use borrow.Author.Needs.{needs}
 use borrow.Author.Tests.{eq-eqb, ne-eqb}
-use Rattle.table.specs.Check.{rowFits}
+use Rattle.table.specs.computed.Check.{rowFits}
 use Rattle.table.proofs.row_fits.Statement.{statement}
 use Rattle.table.proofs.row_fits.Tie as tie
 

@@ -8,21 +8,22 @@ use Prim.Native.Nat.{_+_, _*_, _-_, _≤_}
 use native.Mathlib.Omega.{arith}
 use lib.Bits.{bitOr}
 use Rattle.marks.specs.Counting.{every}
-use Rattle.table.specs.Check.{taken, rowFits}
+use Rattle.table.specs.Limits.{rowsMost}
+use Rattle.table.specs.computed.Check.{marksBelow, rowFits}
 use Rattle.table.proofs.Banked.{every-more, taken-more, free-more}
 use Rattle.table.proofs.rows_fit.Statement.{statement}
 use Rattle.table.proofs.rows_fit.Tie as tie
 
 abbrev Inv-loop : tie.InvT-loop
 Inv-loop banks rows allowed addresses loads stores fit₀ before₀ b₀ fit before b =
-    (b ≤ 8) × (fit ≡ every (rowFits banks rows allowed addresses loads stores) (b * 8))
-    × (before ≡ taken loads stores (b * 8))
+    (b ≤ banks) × (fit ≡ every (rowFits banks rows allowed addresses loads stores) (b * rowsMost))
+    × (before ≡ marksBelow loads stores (b * rowsMost))
 
 abbrev μ-loop : tie.MeasureT-loop
-μ-loop banks rows allowed addresses loads stores fit₀ before₀ b₀ fit before b = 8 - b
+μ-loop banks rows allowed addresses loads stores fit₀ before₀ b₀ fit before b = banks - b
 
 loop-holds : tie.Need-loop-holds Inv-loop μ-loop
-unfolding every taken
+unfolding every marksBelow
 loop-holds c = (omega arith, refl, refl)
 
 bank-marks-requires : tie.Need-bank-marks-requires Inv-loop μ-loop
@@ -44,16 +45,18 @@ loop-again c =
     let loads = args .loads .now in
     let stores = args .stores .now in
     let test = rowFits (args .banks) (args .rows) (args .allowed) (args .addresses .now) loads stores in
-    let first = at .b * 8 in
-    let next : first + 8 ≡ (at .b + 1) * 8 = omega arith in
+    let first = at .b * rowsMost in
+    let next : first + rowsMost ≡ (at .b + 1) * rowsMost = omega arith in
     let used = c .before .bank-marks .ensures in
-    let bank : c .if1 .fit ≡ every test (first + 8) =
+    let bank : c .if1 .fit ≡ every test (first + rowsMost) =
     ⊎-elim
-    (λ w. w .2 ∙ ap₂ _&&_ {v = every (λ i. test (first + i)) 8} (at .inv .1) (w .1 .ensures) ∙ every-more test first 8)
-    (λ w. w .1 ∙ at .inv .1 ∙ free-more loads stores first _ _ _ _ 8 (sym used ∙ w .0 .left)) (c .if1 .came) in (
+    (λ w.
+    w .2 ∙ ap₂ _&&_ {v = every (λ i. test (first + i)) rowsMost} (at .inv .1) (w .1 .ensures)
+    ∙ every-more test first rowsMost)
+    (λ w. w .1 ∙ at .inv .1 ∙ free-more loads stores first _ _ _ _ rowsMost (sym used ∙ w .0 .left)) (c .if1 .came) in (
       omega arith,
       bank ∙ ap (every test) next,
-      ap₂ bitOr (at .inv .2) used ∙ taken-more loads stores first 8 ∙ ap (taken loads stores) next,
+      ap₂ bitOr (at .inv .2) used ∙ taken-more loads stores first rowsMost ∙ ap (marksBelow loads stores) next,
     )
 
 returns : tie.Need-returns Inv-loop μ-loop

@@ -58,7 +58,8 @@ loop-again c =
     let a = c .before .before .before .args in
     let l = c .before .before .loop in (
       omega arith,
-      ap (λ (m : List ℕ). set m (a .at + l .i) (getD (a .s .now) (l .i) 0)) (l .inv .1) ∙ one-more (a .out .now) (a .s .now) (a .at) (l .i) (omega arith),
+      ap (λ (m : List ℕ). set m (a .at + l .i) (getD (a .s .now) (l .i) 0)) (l .inv .1) ∙ one-more (a .out .now) (a .s .now) (a
+          .at) (l .i) (omega arith),
     )
 
 -- src/lib.rt:52:5

@@ -1,8 +1,0 @@
--- The meaning of the buffer's calls.
-pub mod Answers
-pub mod Refusals
-pub mod Calls
-pub mod Contract
-pub mod Life
-pub mod Parts
-pub mod Examples

@@ -1,0 +1,52 @@
+-- `buffer_execute::execution_refusal` meets its contract: each return is the definition's first condition that holds. Past the
+-- second test the ticket's stage is one of the table's. Assumes nothing.
+use mathlib.Core.Path.{_≡_, sym, _∙_}
+use mathlib.Core.Bool.{true, and-eq-true-iff}
+use native.Mathlib.Omega.{arith}
+use borrow.Author.Needs.{needs}
+use borrow.Author.Tests.{ltb-true, eq-eqb, ne-eqb, not-true, not-false}
+use Rattle.buffer_model.specs.computed.Parts.{namedBy}
+use Rattle.buffer_execute.proofs.execution_refusal.Statement.{statement}
+use Rattle.buffer_execute.proofs.execution_refusal.Tie as tie
+
+-- past the second test the ticket names a live reference
+named-at : (c : tie.Else2) → let args = c .before .before .before .args in
+    namedBy (args .oldest) (args .stages) (args .live) (args .numbers .now) (args .s) (args .number) ≡ true
+named-at c = sym (c .before .named .ensures) ∙ not-false _ (c .if2 .left)
+
+returns : tie.Need-returns
+returns c = rw (ne-eqb _ _ (c .if1 .taken))
+
+named-requires : tie.Need-named-requires
+named-requires c κs = search needs
+
+returns-2 : tie.Need-returns-2
+returns-2 c =
+    rw (eq-eqb _ _ (c .before .before .if1 .left), sym (c .before .named .ensures) ∙ not-true _ (c .if2 .taken))
+
+contains-requires : tie.Need-contains-requires
+contains-requires c κs =
+    let args = c .before .before .before .args in
+    omega (arith, ltb-true (args .s) (args .stages) (and-eq-true-iff _ _ .0 (named-at c) .0))
+
+returns-3 : tie.Need-returns-3
+returns-3 c =
+    rw (
+      eq-eqb _ _ (c .before .before .before .before .if1 .left),
+      named-at (c .before .before),
+      ← c .before .contains .ensures,
+      c .if3 .taken,
+    )
+
+returns-4 : tie.Need-returns-4
+returns-4 c =
+    rw (
+      eq-eqb _ _ (c .before .before .before .before .if1 .left),
+      named-at (c .before .before),
+      ← c .before .contains .ensures,
+      c .if3 .left,
+    )
+
+pub execution-refusal-spec : {M : Type 1} → statement M
+execution-refusal-spec =
+    tie.close (tie.spec returns named-requires returns-2 contains-requires returns-3 returns-4)

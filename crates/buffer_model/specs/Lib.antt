@@ -1,0 +1,8 @@
+-- The meaning of the buffer's calls.
+pub mod Answers
+pub mod Refusals
+pub mod Calls
+pub mod Contract
+pub mod Life
+pub mod Examples
+pub mod computed

@@ -1,0 +1,35 @@
+-- Where a call is turned down. Checks go from the smallest number up: a call is refused when a condition in its rows holds,
+-- and only then, with the first such number.
+-- Assumes nothing.
+use mathlib.Core.Bool.{Bool, true, false, cond, not}
+use mathlib.Core.List.{List, [], _∷_}
+use Prim.Native.Nat.{ℕ}
+use lib.Dec.{eqb, leb}
+use lib.ListN.{length}
+use Rattle.table.specs.Reference.{Fate, waiting, other, loaded, stored}
+
+-- a condition of the table with its number
+pub data Check : Type 0 where
+  when : Bool → ℕ → Check
+
+-- the number of the first condition that holds; 0 where none does
+abbrev pub refusal : List Check → ℕ
+refusal [] = 0
+refusal (when c k ∷ checks) = cond c k (refusal checks)
+
+-- memory length is not W
+abbrev pub wrongLength : ℕ → List ℕ → Check
+wrongLength words memory = when (not (eqb (length memory) words)) 3
+
+abbrev pub hasExecuted : Fate → Bool
+hasExecuted waiting = false
+hasExecuted other = true
+hasExecuted (loaded a) = true
+hasExecuted (stored a v) = true
+
+-- it executed at an address of W or more
+abbrev pub faults : ℕ → Fate → Bool
+faults words waiting = false
+faults words other = false
+faults words (loaded a) = leb words a
+faults words (stored a v) = leb words a

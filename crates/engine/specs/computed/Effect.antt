@@ -1,0 +1,60 @@
+-- What an execution comes to, found over the arrays lent, and the table that it leaves.
+-- Assumes nothing.
+use mathlib.Core.Bool.{Bool, true, false, cond, _||_}
+use mathlib.Core.List.{List}
+use Prim.Native.Nat.{ℕ, _^_}
+use lib.Bits.{bitOr}
+use lib.ListN.{getD, set}
+use Rattle.table.specs.declared.Table.{Table}
+use Rattle.table.specs.Bank.{bank}
+use Rattle.engine.specs.computed.Steps.{cutMarks}
+use Rattle.lookup.specs.computed.Search.{forward, loadPlace, storePlace}
+use Rattle.engine.specs.declared.Action.{Action}
+use Rattle.engine.specs.declared.Action.the-variants.{Compute, LoadAt, StoreAt}
+use Rattle.engine.specs.declared.Effect.{Effect}
+
+-- what an action comes to at position p of a table with these parts, over this memory
+abbrev pub effectOf : ℕ → ℕ → ℕ → ℕ → ℕ → List ℕ → List ℕ → List ℕ → List ℕ → ℕ → List ℕ → Action → Effect
+effectOf banks rows stages oldest live addresses loads stores values p memory (Compute v) =
+    record { load = false; store = false; row = 0; left = live; value = v; address = 0 }
+effectOf banks rows stages oldest live addresses loads stores values p memory (LoadAt a) =
+    let q = loadPlace oldest stages live rows addresses loads stores (bank banks a) a p in
+    record {
+      load = true;
+      store = false;
+      row = q .row;
+      left = q .left;
+      value = forward oldest stages stores values (q .row) p (getD memory a 0);
+      address = a;
+    }
+effectOf banks rows stages oldest live addresses loads stores values p memory (StoreAt a v) =
+    let q = storePlace oldest stages live rows addresses loads stores (bank banks a) a p in
+    record { load = false; store = true; row = q .row; left = q .left; value = v; address = a }
+
+-- the same of a table
+abbrev pub effectAt : Table → ℕ → List ℕ → Action → Effect
+effectAt t p memory act =
+    effectOf (t .banks) (t .rows) (t .stages) (t .oldest) (t .live) (t .addresses) (t .loads) (t .stores) (t .values) p memory act
+
+-- stage s joins the mark word of row r, where `on`
+abbrev pub marking : List ℕ → Bool → ℕ → ℕ → List ℕ
+marking words on r s = cond on (set words r (bitOr (getD words r 0) (2 ^ s))) words
+
+-- the table after an execution at stage s with this effect
+abbrev pub applyEffect : Table → Effect → ℕ → Table
+applyEffect t q s =
+    record {
+      banks = t .banks;
+      rows = t .rows;
+      stages = t .stages;
+      words = t .words;
+      oldest = t .oldest;
+      live = q .left;
+      next = t .next;
+      executed = bitOr (t .executed) (2 ^ s);
+      numbers = t .numbers;
+      addresses = cond (q .load || q .store) (set (t .addresses) (q .row) (q .address)) (t .addresses);
+      loads = marking (cutMarks (t .banks) (t .oldest) (t .stages) (t .live) (q .left) (t .loads)) (q .load) (q .row) s;
+      stores = marking (cutMarks (t .banks) (t .oldest) (t .stages) (t .live) (q .left) (t .stores)) (q .store) (q .row) s;
+      values = cond (q .store) (set (t .values) s (q .value)) (t .values);
+    }

@@ -1,0 +1,118 @@
+-- How the table is searched, as the code does it. Positions are of the window of n stages from stage o on; a row's marks are a
+-- set of stages. The laws in proofs/ say what each search finds on the list of references.
+-- Assumes nothing.
+use mathlib.Core.Bool.{Bool, cond, not, _&&_}
+use mathlib.Core.List.{List}
+use Prim.Native.Nat.{ℕ, zero, suc, _+_, _-_, _*_}
+use lib.Dec.{eqb, ltb}
+use lib.Bits.{bitOr}
+use lib.ListN.{getD}
+use Rattle.marks.specs.Stages.{has}
+use Rattle.marks.specs.Circle.{stage}
+use Rattle.table.specs.Limits.{rowsMost}
+use Rattle.table.specs.computed.Check.{marksOf}
+use Rattle.table.specs.Reference.{Fate, other, loaded, stored}
+use Rattle.lookup.specs.declared.Place.{Place}
+use Rattle.lookup.specs.declared.Mark.{Mark}
+use Rattle.lookup.specs.declared.Mark.the-variants.{Absent, Load, Store}
+
+-- one more than the largest number below n that has f; 0 where none has
+unfoldable pub find : (ℕ → Bool) → ℕ → ℕ
+find f zero = 0
+find f (suc n) = cond (f n) (suc n) (find f n)
+
+-- the first number from q on that has f; q + k where none of the k numbers from q on has
+unfoldable pub seek : (ℕ → Bool) → ℕ → ℕ → ℕ
+seek f zero q = q
+seek f (suc k) q = cond (f q) q (seek f k (suc q))
+
+-- the number below n with the largest f
+unfoldable pub chosen : (ℕ → ℕ) → ℕ → ℕ
+chosen f zero = 0
+chosen f (suc n) = cond (ltb (f (chosen f n)) (f n)) n (chosen f n)
+
+-- the i-th row of bank b bears marks and belongs to address a
+abbrev pub belongs : List ℕ → List ℕ → List ℕ → ℕ → ℕ → ℕ → Bool
+belongs addresses loads stores b a i =
+    not (eqb (marksOf loads stores (b * rowsMost + i)) 0) && eqb (getD addresses (b * rowsMost + i) 0) a
+
+-- the i-th row of bank b is free
+abbrev pub free : List ℕ → List ℕ → ℕ → ℕ → Bool
+free loads stores b i = eqb (marksOf loads stores (b * rowsMost + i)) 0
+
+-- the set w has the stage at position q
+abbrev pub marked : ℕ → ℕ → ℕ → ℕ → Bool
+marked o n w q = has w (stage o n q)
+
+-- one more than the position of the nearest store mark older than position p; 0 where there is none
+abbrev pub nearest : ℕ → ℕ → ℕ → ℕ → ℕ
+nearest o n stores p = find (marked o n stores) p
+
+-- the word that a load at position p takes from row r: the nearest older store's, else w
+abbrev pub forward : ℕ → ℕ → List ℕ → List ℕ → ℕ → ℕ → ℕ → ℕ
+forward o n stores values r p w =
+    cond (eqb (nearest o n (getD stores r 0) p) 0) w
+    (getD values (stage o n (nearest o n (getD stores r 0) p - 1)) 0)
+
+-- the first marked position younger than p; `live` where there is none
+abbrev pub metAt : ℕ → ℕ → ℕ → ℕ → ℕ → ℕ
+metAt o n live marks p = seek (marked o n marks) (live - suc p) (suc p)
+
+-- how many references a store at position p leaves in its address's row: the first younger mark decides
+abbrev pub violationPoint : ℕ → ℕ → ℕ → ℕ → ℕ → ℕ → ℕ
+violationPoint o n live load store p =
+    cond (ltb (metAt o n live (bitOr load store) p) live && marked o n load (metAt o n live (bitOr load store) p))
+    (metAt o n live (bitOr load store) p)
+    live
+
+-- the position of a row's oldest mark; `live` where it has none
+abbrev pub oldestMark : ℕ → ℕ → ℕ → ℕ → ℕ
+oldestMark o n live marks = seek (marked o n marks) live 0
+
+-- the oldest mark of the i-th row of bank b
+abbrev pub bankMark : ℕ → ℕ → ℕ → List ℕ → List ℕ → ℕ → ℕ → ℕ
+bankMark o n live loads stores b i = oldestMark o n live (marksOf loads stores (b * rowsMost + i))
+
+-- The row whose oldest mark is youngest, for a reference at position p: it is evicted if that mark is younger, and the
+-- references before it stay; else the reference stalls.
+abbrev pub evicted : ℕ → ℕ → ℕ → ℕ → List ℕ → List ℕ → ℕ → ℕ → Place
+evicted o n live rows loads stores b p =
+    let i = chosen (bankMark o n live loads stores b) rows in
+    let m = bankMark o n live loads stores b i in
+    cond (ltb p m) (record { row = b * rowsMost + i; left = m }) (record { row = 0; left = 0 })
+
+-- a row of bank b for an address that has none
+abbrev pub allocatedRow : ℕ → ℕ → ℕ → ℕ → List ℕ → List ℕ → ℕ → ℕ → Place
+allocatedRow o n live rows loads stores b p =
+    cond (eqb (find (free loads stores b) rows) 0) (evicted o n live rows loads stores b p)
+    (record { row = b * rowsMost + (find (free loads stores b) rows - 1); left = live })
+
+-- one more than the place in bank b of the row of address a; 0 where it has none
+abbrev pub rowOf : ℕ → List ℕ → List ℕ → List ℕ → ℕ → ℕ → ℕ
+rowOf rows addresses loads stores b a = find (belongs addresses loads stores b a) rows
+
+-- the row in which a load at position p of address a in bank b is marked, and how many references stay
+abbrev pub loadPlace : ℕ → ℕ → ℕ → ℕ → List ℕ → List ℕ → List ℕ → ℕ → ℕ → ℕ → Place
+loadPlace o n live rows addresses loads stores b a p =
+    cond (eqb (rowOf rows addresses loads stores b a) 0) (allocatedRow o n live rows loads stores b p)
+    (record { row = b * rowsMost + (rowOf rows addresses loads stores b a - 1); left = live })
+
+-- the same of a store
+abbrev pub storePlace : ℕ → ℕ → ℕ → ℕ → List ℕ → List ℕ → List ℕ → ℕ → ℕ → ℕ → Place
+storePlace o n live rows addresses loads stores b a p =
+    cond (eqb (rowOf rows addresses loads stores b a) 0) (allocatedRow o n live rows loads stores b p)
+    (let r = b * rowsMost + (rowOf rows addresses loads stores b a - 1) in
+    record { row = r; left = violationPoint o n live (getD loads r 0) (getD stores r 0) p })
+
+-- what the marks of the first k rows say of stage s
+unfoldable pub markOf : List ℕ → List ℕ → List ℕ → List ℕ → ℕ → ℕ → Mark
+markOf addresses loads stores values s zero = Absent
+markOf addresses loads stores values s (suc k) =
+    cond (has (getD stores k 0) s) (Store (getD addresses k 0) (getD values s 0))
+    (cond (has (getD loads k 0) s) (Load (getD addresses k 0)) (markOf addresses loads stores values s k))
+
+-- a mark as the fate of an executed reference
+abbrev pub markedFate : Mark → Fate
+markedFate Absent = other
+markedFate (Load a) = loaded a
+markedFate (Store a v) = stored a v

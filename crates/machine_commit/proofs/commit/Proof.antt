@@ -1,0 +1,242 @@
+-- `machine_commit::commit` meets its contract. The validation's refusals are those of machine_model/proofs/Answering.antt. Past
+-- it each return is a law of machine_model/proofs/Committed.antt, given what the tests before it said: an entry is live, the
+-- oldest does not wait, and its mark, which its entry and the table's word tell (mark-at), does not fault. Assumes nothing.
+use mathlib.Core.Bool.{false}
+use mathlib.Core.Path.{_≡_, refl, sym, ap, _∙_}
+use Prim.Native.Nat.{ℕ, _<_}
+use native.Mathlib.Omega.{arith}
+use lib.ListN.{length, getD}
+use borrow.Author.Tests.{not-true, not-false}
+use Rattle.marks.proofs.Turns.{stage-lt}
+use Rattle.table.specs.declared.Table.{Table}
+use Rattle.table.specs.Limits.{stagesMost}
+use Rattle.table.specs.Rules.{Rules}
+use Rattle.table.specs.View.{value}
+use Rattle.table.proofs.Sizes.{Sizes, sizes}
+use Rattle.lookup.specs.computed.Search.{markedFate}
+use Rattle.engine.specs.Conditions.{faults}
+use Rattle.engine.proofs.Lengths.{Lengths}
+use Rattle.machine_model.specs.declared.Entry.{Entry}
+use Rattle.machine_model.specs.declared.Machine.{Machine}
+use Rattle.machine_model.specs.Window.{blankEntry, reference}
+use Rattle.machine_model.specs.Calls.{commit, waits}
+use Rattle.machine_model.specs.computed.Parts.{markBy}
+use Rattle.machine_model.proofs.Sounding.{validateOf}
+use Rattle.machine_model.proofs.Agreeing.{validate-law}
+use Rattle.machine_model.proofs.Answering.{Passed, validate-passes, validate-turns}
+use Rattle.machine_model.proofs.Committed.{empty-refused, waiting-refused, fault-refused, commit-meets}
+use borrow.Author.Needs.{needs}
+use Rattle.machine_commit.proofs.commit.Statement.{statement}
+use Rattle.machine_commit.proofs.commit.Tie as tie
+
+-- the machine at the entry, and its oldest entry
+abbrev machine : tie.Start → Machine
+machine c = c .args .t1
+
+abbrev table : tie.Start → Table
+table c = machine c .table
+
+abbrev oldest : tie.Start → Entry
+oldest c = getD (machine c .window) (table c .oldest) blankEntry
+
+-- from where a test was passed back to where the one before it was, and to the entry
+abbrev begun : tie.After-validate → tie.Start
+begun c = c .before .before .before .before .before .before .before .before
+
+abbrev entry : tie.Else1 → tie.Start
+entry c = begun (c .before)
+
+abbrev some : tie.Else2 → tie.Start
+some c = entry (c .before)
+
+abbrev executed : tie.Else3 → tie.Else2
+executed c = c .before .before .before
+
+abbrev faultless : tie.Else4 → tie.Else3
+faultless c = c .before .before .before .before .before .before
+
+-- from the end back to where the oldest was found not to fault
+abbrev last : tie.After-target-of → tie.Else4
+last c = c .before .before .before .before .before .before .before .before .before .before .before .before .before .before
+    .before .before .before
+
+validate-at : (c : tie.After-validate)
+    → let args = begun c .args in
+    validateOf (args .t1) (args .program .now) (length (args .memory .now)) ≡ c .validate .result
+validate-at c =
+    let args = begun c .args in
+    sym (validate-law (args .t1) (args .program .now) (length (args .memory .now))) ∙ sym (c .validate .ensures)
+
+passed-at : (c : tie.Else1)
+    → let args = entry c .args in Passed (args .t1) (args .program .now) (length (args .memory .now))
+passed-at c = validate-passes _ _ _ (validate-at (c .before) ∙ c .if1 .left)
+
+rules-at : (c : tie.Else1) → Rules (table (entry c))
+rules-at c = passed-at c .sound .rules
+
+lengths : (c : tie.Start) → Lengths (table c)
+lengths c =
+    record {
+      numbers = search needs;
+      addresses = search needs;
+      loads = search needs;
+      stores = search needs;
+      values = search needs;
+    }
+
+eight-at : (c : tie.Start) → length (machine c .registers) ≡ 8
+eight-at c = search needs
+
+sizes-at : (c : tie.Else1) → let t = table (entry c) in Sizes (t .banks) (t .rows) (t .stages) (t .words)
+sizes-at c = sizes _ _ _ _ (rules-at c .sizes)
+
+oldest-below : (c : tie.Else1) → table (entry c) .oldest < stagesMost
+oldest-below c = omega (arith, sizes-at c .stages, rules-at c .start)
+
+live-at : (c : tie.Else2) → 0 < table (some c) .live
+live-at c = search needs
+
+executed-at : (c : tie.Else3) → waits (oldest (some (executed c)) .fate) ≡ false
+executed-at c = sym (c .before .is-waiting .ensures) ∙ c .if3 .left
+
+-- the mark told of the oldest
+mark-at : (c : tie.After-oldest-mark)
+    → let start = some (executed (c .before .before .before .before)) in
+    c .oldest-mark .result ≡ markBy (reference (oldest start)) (value (table start) (table start .oldest))
+mark-at c = rw (c .before .at-stage .ensures) at (c .oldest-mark .ensures)
+
+validate-requires : tie.Need-validate-requires
+validate-requires c κs = search needs
+
+returns : tie.Need-returns
+returns c = validate-turns _ _ commit _ _ (validate-at (c .before)) (c .if1 .taken)
+
+returns-2 : tie.Need-returns-2
+returns-2 c = empty-refused _ _ _ (passed-at (c .before)) (c .if2 .taken)
+
+mul-e : tie.Need-mul-e
+mul-e c = omega (arith, oldest-below (c .before))
+
+array-copy-out-e : tie.Need-array-copy-out-e
+array-copy-out-e c = oldest-below (c .before)
+
+is-waiting-requires : tie.Need-is-waiting-requires
+is-waiting-requires c κs = search needs
+
+returns-3 : tie.Need-returns-3
+returns-3 c =
+    let l = c .before .before .before in
+    waiting-refused _ _ _ (passed-at (l .before)) (live-at l) (sym (c .before .is-waiting .ensures) ∙ c .if3 .taken)
+
+at-stage-requires : tie.Need-at-stage-requires
+at-stage-requires c κs = let l = executed (c .before .before) .before in (oldest-below l, lengths (entry l) .values)
+
+oldest-mark-requires : tie.Need-oldest-mark-requires
+oldest-mark-requires c κs = search needs
+
+mark-faults-requires : tie.Need-mark-faults-requires
+mark-faults-requires c κs = search needs
+
+returns-4 : tie.Need-returns-4
+returns-4 c =
+    let x = c .before .before .before .before .before .before in
+    let l = executed x in
+    fault-refused _ _ _ (passed-at (l .before)) (live-at l) (executed-at x) _ (mark-at (c .before .before))
+    (sym (c .before .mark-faults .ensures) ∙ c .if4 .taken)
+
+write-back-requires : tie.Need-write-back-requires
+write-back-requires c κs =
+    let f = c .before in
+    ap (λ (n : ℕ). faults n (markedFate (f .before .before .oldest-mark .result))) (passed-at (executed (faultless f) .before)
+    .words)
+    ∙ sym (f .before .mark-faults .ensures) ∙ f .if4 .left
+
+value-of-requires : tie.Need-value-of-requires
+value-of-requires c κs = search needs
+
+stage-at-requires : tie.Need-stage-at-requires
+stage-at-requires c κs =
+    let l = executed (faultless (c .before .before .before .before .before)) .before in
+    let rules = rules-at l in
+    (rules .start, omega (arith, rules .start), omega (arith, sizes-at l .stages))
+
+sub-first-stages : tie.Need-sub-first-stages
+sub-first-stages c = search needs
+
+first-stages-requires : tie.Need-first-stages-requires
+first-stages-requires c κs =
+    let l = executed (faultless (c .before .before .before .before .before .before)) .before in
+    let rules = rules-at l in
+    let next = stage-lt _ _ (rules .start) 1 (omega (arith, rules .start)) in
+    (rw (c .stage-at .ensures) next, omega (arith, rules .live-bounded), omega (arith, sizes-at l .stages))
+
+sub-m : tie.Need-sub-m
+sub-m c = search needs
+
+keep-requires : tie.Need-keep-requires
+keep-requires c κs = let l = executed (faultless (c .before .before .before .before .before .before .before .before .before
+    .before)) .before in (sizes-at l .banks, lengths (entry l) .loads)
+
+keep-requires-2 : tie.Need-keep-requires-2
+keep-requires-2 c κs = let l = executed (faultless (c .before .before .before .before .before .before .before .before .before
+    .before .before .before)) .before in (sizes-at l .banks, lengths (entry l) .stores)
+
+write-register-requires : tie.Need-write-register-requires
+write-register-requires c κs = eight-at (entry (executed (faultless (c .before .before .before .before .before .before .before
+    .before .before .before .before .before .before .before)) .before))
+
+code-of-requires : tie.Need-code-of-requires
+code-of-requires c κs = search needs
+
+target-of-requires : tie.Need-target-of-requires
+target-of-requires c κs = search needs
+
+same-length : tie.Need-same-length
+same-length c = search needs
+
+returns-5 : tie.Need-returns-5
+returns-5 c =
+    let f = last c in
+    let x = faultless f in
+    let l = executed x in
+    commit-meets _ _ _ (passed-at (l .before)) (live-at l) (executed-at x) _ (mark-at (f .before .before))
+    (sym (f .before .mark-faults .ensures) ∙ f .if4 .left) _ _ _ _ _ _ _ _ _
+    (c .before .before .before .before .before .before .before .before .before .before .before .stage-at .ensures)
+    (c .before .before .before .before .before .before .before .before .before .before .first-stages .ensures)
+    (c .before .before .before .before .before .before .keep .ensures)
+    (c .before .before .before .before .keep2 .ensures)
+    (c .before .code-of .ensures)
+    (c .target-of .ensures)
+    (c .before .before .before .before .before .before .before .before .before .before .before .before .value-of .ensures)
+    (c .before .before .write-register .ensures)
+    (c .before .before .before .before .before .before .before .before .before .before .before .before .before .before .before
+    .write-back .ensures)
+
+pub commit-spec : {M : Type 1} → statement M
+commit-spec =
+    tie.close
+    (tie.spec
+    validate-requires
+    returns
+    returns-2
+    mul-e
+    array-copy-out-e
+    is-waiting-requires
+    returns-3
+    at-stage-requires
+    oldest-mark-requires
+    mark-faults-requires
+    returns-4
+    write-back-requires
+    value-of-requires
+    stage-at-requires
+    sub-first-stages
+    first-stages-requires
+    sub-m
+    keep-requires
+    keep-requires-2
+    write-register-requires
+    code-of-requires
+    target-of-requires
+    same-length
+    returns-5)

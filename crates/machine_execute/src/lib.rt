@@ -1,0 +1,114 @@
+// The call `execute`, which requires nothing; its contract is `Meets` of crates/machine_model/specs/Contract.antt.
+use machine_model::Entry;
+use machine_model::ExecuteAnswer;
+use machine_model::ExecuteResult;
+use machine_model::Fate;
+use machine_model::Machine;
+use machine_model::Wanted;
+ghost use mathlib.Core.List.{[]};
+ghost use Rattle.machine_model.specs.Calls.{execute};
+ghost use Rattle.machine_model.specs.Contract.{executeSays, Meets};
+
+// Executes the entry at position `p`.
+pub fn execute(mut m: Machine, program: &[u32], p: usize, memory: &[u32]) -> ExecuteResult
+    ensures { λ r. ⌜ Meets (now (program .entry)) m (execute p) (now (memory .entry)) (executeSays (r .answer)) (r .machine)
+        (now (memory .entry)) [] ⌝ }
+{
+    let window = m.window;
+    let why = machine_window::validate(
+        m.table.banks,
+        m.table.rows,
+        m.table.stages,
+        m.table.words,
+        m.table.oldest,
+        m.table.live,
+        m.table.executed,
+        &m.table.addresses,
+        &m.table.loads,
+        &m.table.stores,
+        window,
+        m.count,
+        program,
+        memory.len(),
+    );
+    if why != 0 {
+        return ExecuteResult {
+            answer: ExecuteAnswer::Refused(why),
+            machine: m,
+        };
+    }
+    let banks = m.table.banks;
+    let live = m.table.live;
+    let oldest = m.table.oldest;
+    let stages = m.table.stages;
+    let executed = m.table.executed;
+    if p >= live {
+        return ExecuteResult {
+            answer: ExecuteAnswer::Refused(7),
+            machine: m,
+        };
+    }
+    let s = marks::stage_at(oldest, stages, p);
+    let e = window[s];
+    if !machine_isa::is_waiting(e) {
+        return ExecuteResult {
+            answer: ExecuteAnswer::Refused(8),
+            machine: m,
+        };
+    }
+    let instruction = e.instruction;
+    let registers = m.registers;
+    let wanted = machine_window::wanted_at(window, registers, oldest, stages, instruction, p);
+    let Wanted::Ready(action) = wanted else {
+        return ExecuteResult {
+            answer: ExecuteAnswer::Refused(9),
+            machine: m,
+        };
+    };
+    let effect = engine::effect_of(
+        banks,
+        m.table.rows,
+        stages,
+        oldest,
+        live,
+        &m.table.addresses,
+        &m.table.loads,
+        &m.table.stores,
+        &m.table.values,
+        p,
+        action,
+        memory,
+    );
+    let r = effect.row;
+    let left = effect.left;
+    let v = effect.value;
+    let a = effect.address;
+    if left == 0 {
+        return ExecuteResult {
+            answer: ExecuteAnswer::Refused(10),
+            machine: m,
+        };
+    }
+    engine::cut(&mut m.table.loads, banks, oldest, stages, live, left);
+    engine::cut(&mut m.table.stores, banks, oldest, stages, live, left);
+    m.table.live = left;
+    m.table.executed = marks::including(executed, s);
+    engine::set_word(&mut m.table.addresses, effect.load | effect.store, r, a);
+    engine::add_mark(&mut m.table.loads, effect.load, r, s);
+    engine::add_mark(&mut m.table.stores, effect.store, r, s);
+    engine::set_value(&mut m.table.values, effect.store, s, v);
+    m.window[s] = Entry {
+        instruction,
+        index: e.index,
+        fate: Fate::Executed(v, a),
+    };
+    let f = window[marks::stage_at(oldest, stages, left)];
+    m.next = machine_steps::next_after(f.index, live, left, m.next);
+    ExecuteResult {
+        answer: ExecuteAnswer::Executed(
+            engine::answered(effect.load, v),
+            machine_steps::squashed_at(live, left),
+        ),
+        machine: m,
+    }
+}

@@ -1,0 +1,710 @@
+-- `machine_finish::finish` meets its contract. A validation other than 0 is the refusal. The loop's invariant is Remains of
+-- machine_model/proofs/Finishes.antt, with a machine that passes the validation, its arrays' lengths and a memory of the length
+-- lent; the measure is the number of commits left to the limit. A turn is that of machine_model/proofs/FinishStep.antt, and one
+-- lemma at each place where ways meet says what the machine is there (begun-at, ready-at). Each return is `remains-meets`
+-- with the reason why the rest stops. Assumes nothing.
+use mathlib.Core.Path.{_≡_, refl, sym, ap, _∙_}
+use mathlib.Core.Bool.{true, false, _&&_}
+use mathlib.Core.Logic.{⊎-elim}
+use Prim.Native.Nat.{ℕ, _-_, _*_, _<_, _≤_}
+use native.Mathlib.Omega.{arith}
+use lib.Dec.{eqb, leb}
+use lib.ListN.{length, getD, length-map}
+use borrow.Author.Needs.{needs}
+use borrow.Author.Tests.{leb-false}
+use Rattle.marks.proofs.Turns.{stage-lt}
+use Rattle.table.specs.Limits.{stagesMost, slots}
+use Rattle.table.specs.View.{value}
+use Rattle.table.proofs.Sizes.{Sizes, sizes}
+use Rattle.lookup.specs.computed.Search.{markedFate}
+use Rattle.machine_model.specs.Program.{sOf}
+use Rattle.engine.specs.Conditions.{faults}
+use Rattle.machine_model.specs.declared.Entry.{Entry}
+use Rattle.machine_model.specs.Window.{blankEntry, reference}
+use Rattle.machine_model.specs.Calls.{finish, waits, programDone, begun}
+use Rattle.machine_model.specs.Contract.{plain}
+use Rattle.machine_model.specs.computed.Parts.{second, markBy}
+use Rattle.machine_model.proofs.Sounding.{validateOf}
+use Rattle.machine_model.proofs.Agreeing.{validate-law}
+use Rattle.machine_model.proofs.Answering.{Passed, validate-passes, validate-turns}
+use Rattle.machine_model.proofs.ChecksKept.{validate-lent, commit-passes}
+use Rattle.machine_model.proofs.Finishes.{
+  over-plain,
+  finishes-limit,
+  finishes-short,
+  finishes-over,
+  turn-stops,
+  turn-goes,
+  Remains,
+  remains-all,
+  remains-goes,
+  remains-meets,
+}
+use Rattle.machine_model.proofs.FinishStep.{
+  Sized,
+  Along,
+  begun-kept,
+  begun-issued,
+  along-passed,
+  along-sizes,
+  along-start,
+  along-room,
+  Prepared,
+  ready-kept,
+  own-small,
+  taken-bounds,
+  ready-taken,
+  turn-faults,
+  turn-clean,
+  turn-commits,
+  turn-sized,
+}
+use Rattle.machine_finish.proofs.finish.Statement.{statement}
+use Rattle.machine_finish.proofs.finish.Tie as tie
+
+abbrev Inv-loop : tie.InvT-loop
+Inv-loop program k memory₀ list₀ m₀ why limit n₀ memory list m n =
+    (validateOf m program (length memory₀) ≡ 0) × (length memory ≡ length memory₀)
+    × Remains program k (plain m₀) memory₀ list₀ (plain m) memory list n
+    × Sized m
+
+abbrev μ-loop : tie.MeasureT-loop
+μ-loop program k memory₀ list₀ m₀ why limit n₀ memory list m n = limit - n
+
+-- the arrays of the machine passed
+sized-at : (c : tie.Start Inv-loop μ-loop) → Sized (c .args .t1)
+sized-at c =
+    record {
+      lengths = record {
+        numbers = search needs;
+        addresses = search needs;
+        loads = search needs;
+        stores = search needs;
+        values = search needs;
+      };
+      window = simp length-map at (c .good .0 .1 .1 .1 .0 .1 .0 .1);
+      registers = search needs;
+      small = search needs;
+    }
+
+-- the validation of the machine passed
+validate-at : (c : tie.After-validate Inv-loop μ-loop)
+    → let a = c .before .before .before .before .before .before .before .before .before .args in
+    c .validate .result ≡ validateOf (a .t1) (a .program .now) (length (a .memory .now))
+validate-at c =
+    let a = c .before .before .before .before .before .before .before .before .before .args in
+    c .validate .ensures ∙ validate-law (a .t1) (a .program .now) (length (a .memory .now))
+
+validate-requires : tie.Need-validate-requires Inv-loop μ-loop
+validate-requires c κs = search needs
+
+returns : tie.Need-returns Inv-loop μ-loop
+returns c = validate-turns _ _ (finish _ _) _ _ (sym (validate-at (c .before))) (search needs)
+
+loop-holds : tie.Need-loop-holds Inv-loop μ-loop
+loop-holds c = (
+  sym (validate-at (c .before)) ∙ (search needs),
+  refl,
+  remains-all _ _ _ _ _,
+  sized-at (c .before .before .before .before .before .before .before .before .before .before),
+)
+
+-- the machine, the program and the memory passed the validation
+passed-at : (c : tie.Else1 Inv-loop μ-loop)
+    → let a = c .before .before .before .before .before .before .before .before .before .before .args in
+    Passed (a .t1) (a .program .now) (length (a .memory .now))
+passed-at c = validate-passes _ _ _ (sym (validate-at (c .before)) ∙ (search needs))
+
+-- from the loop's head back to the entry, and from past the stops back to the loop's head
+abbrev entry : tie.At-loop Inv-loop μ-loop → tie.Start Inv-loop μ-loop
+entry c = c .before .before .before .before .before .before .before .before .before .before .before
+
+abbrev head : tie.Else3 Inv-loop μ-loop → tie.At-loop Inv-loop μ-loop
+head c = c .before .before .before
+
+-- the machine at the loop's head passes the validation with the memory as it is there
+passes-at : (c : tie.At-loop Inv-loop μ-loop)
+    → validateOf (c .loop .m) (entry c .args .program .now) (length (c .loop .memory)) ≡ 0
+passes-at c = validate-lent (c .loop .m) _ _ _ (sym (c .loop .inv .1)) (c .loop .inv .0)
+
+passed-in : (c : tie.At-loop Inv-loop μ-loop)
+    → Passed (c .loop .m) (entry c .args .program .now) (length (c .loop .memory))
+passed-in c = validate-passes (c .loop .m) (entry c .args .program .now) (length (c .loop .memory)) (passes-at c)
+
+-- in a turn: the limit is not reached, four places are left, and there is something to commit
+below-at : (c : tie.In-loop Inv-loop μ-loop)
+    → let a = c .before .before .before .before .before .before .before .before .before .before .before .before .args in
+    c .before .loop .n < a .k
+below-at c = search needs
+
+room-at : (c : tie.Else2 Inv-loop μ-loop)
+    → let l = c .before .before in
+    let a = l .before .before .before .before .before .before .before .before .before .before .before .args in
+    4 ≤ length (a .list .now) - l .loop .n * 4
+room-at c = omega (arith, c .if2 .left, c .before .before .loop .inv .2 .size)
+
+more-at : (c : tie.Else3 Inv-loop μ-loop) → programDone (plain (c .before .before .before .loop .m)) ≡ false
+more-at c = over-plain (c .before .before .before .loop .m) ∙ c .if3 .left
+
+mul-if2 : tie.Need-mul-if2 Inv-loop μ-loop
+mul-if2 c = search needs
+
+sub-if2 : tie.Need-sub-if2 Inv-loop μ-loop
+sub-if2 c = search needs
+
+same-length : tie.Need-same-length Inv-loop μ-loop
+same-length c = search needs
+
+same-length-2 : tie.Need-same-length-2 Inv-loop μ-loop
+same-length-2 c = search needs
+
+returns-2 : tie.Need-returns-2 Inv-loop μ-loop
+returns-2 c =
+    let l = c .before .before in
+    remains-meets _ _ _ (l .loop .m) _ _ _ _ _ _ _ (passed-at (l .before)) (l .loop .inv .2)
+    (finishes-short _ _ _ _ _ (omega (arith, c .if2 .taken, l .loop .inv .2 .size)))
+    (passed-in l .sound)
+
+same-length-3 : tie.Need-same-length-3 Inv-loop μ-loop
+same-length-3 c = search needs
+
+same-length-4 : tie.Need-same-length-4 Inv-loop μ-loop
+same-length-4 c = search needs
+
+returns-3 : tie.Need-returns-3 Inv-loop μ-loop
+returns-3 c =
+    let l = c .before .before .before in
+    remains-meets _ _ _ (l .loop .m) _ _ _ _ _ _ _ (passed-at (l .before)) (l .loop .inv .2)
+    (finishes-over _ _ _ _ _ (over-plain (l .loop .m) ∙ c .if3 .taken))
+    (passed-in l .sound)
+
+-- the oldest's stage is an index of the arrays by stage
+oldest-below : (c : tie.At-loop Inv-loop μ-loop) → c .loop .m .table .oldest < stagesMost
+oldest-below c =
+    let rules = passed-in c .sound .rules in omega (arith, rules .start, sizes _ _ _ _ (rules .sizes) .stages)
+
+-- where nothing is live an instruction is left
+left-at : (c : tie.Then4 Inv-loop μ-loop) → let m = head (c .before) .loop .m in m .next < m .count
+left-at c =
+    let m = head (c .before) .loop .m in
+    leb-false (m .count) (m .next)
+    (ap (λ (k : ℕ). eqb k 0 && leb (m .count) (m .next)) (sym (c .if4 .taken)) ∙ c .before .if3 .left)
+
+wrapping-add-u32-requires : tie.Need-wrapping-add-u32-requires Inv-loop μ-loop
+wrapping-add-u32-requires c κs = search needs
+
+set-number-requires : tie.Need-set-number-requires Inv-loop μ-loop
+set-number-requires c κs = oldest-below (head (c .before .before .before .before .before .before))
+
+cast-instruction-at : tie.Need-cast-instruction-at Inv-loop μ-loop
+cast-instruction-at c =
+    let past = c .before .before .before .before .before .before in
+    omega (arith, left-at past, head (past .before) .loop .inv .3 .small)
+
+instruction-at-requires : tie.Need-instruction-at-requires Inv-loop μ-loop
+instruction-at-requires c κs =
+    let past = c .before .before .before .before .before .before in
+    omega (arith, left-at past, passed-in (head (past .before)) .counted)
+
+mul-t69 : tie.Need-mul-t69 Inv-loop μ-loop
+mul-t69 c = omega (arith, oldest-below (head (c .before .before .before .before .before .before .before .before)))
+
+element-set-from-m : tie.Need-element-set-from-m Inv-loop μ-loop
+element-set-from-m c = oldest-below (head (c .before .before .before .before .before .before .before .before))
+
+add-m : tie.Need-add-m Inv-loop μ-loop
+add-m c =
+    let past = c .before .before .before .before .before .before .before in
+    omega (arith, left-at past, head (past .before) .loop .inv .3 .small)
+
+-- where the ways meet something is live, issued before or in this turn
+begun-at : (c : tie.Joined4 Inv-loop μ-loop)
+    → let l = head (c .before) in
+    let program = entry l .args .program .now in
+    Along program (l .loop .m) (l .loop .memory) (begun program (plain (l .loop .m)) (l .loop .memory)) (c .if4 .m)
+begun-at c =
+    let l = head (c .before) in
+    ⊎-elim
+    (λ v.
+    begun-issued _ (l .loop .m) _ (passes-at l) (l .loop .inv .3) (v .0 .taken)
+    (left-at (record { before = c .before; if4 = v .0 }))
+    (v .2 .ensures)
+    (v .6 .ensures)
+    (v .7 .ensures)
+    (c .if4 .m)
+    (v .8))
+    (λ v. begun-kept _ (l .loop .m) _ (passes-at l) (l .loop .inv .3) (v .0 .left) (c .if4 .m) (v .1))
+    (c .if4 .came)
+
+mul-e : tie.Need-mul-e Inv-loop μ-loop
+mul-e c = omega (arith, oldest-below (head (c .before)))
+
+element-copy-out-e : tie.Need-element-copy-out-e Inv-loop μ-loop
+element-copy-out-e c = oldest-below (head (c .before))
+
+-- from where the oldest entry was looked at back to where it has been issued
+abbrev issued : tie.After-is-waiting Inv-loop μ-loop → tie.Joined4 Inv-loop μ-loop
+issued c = c .before .before
+
+-- the oldest entry
+abbrev oldest : tie.Joined4 Inv-loop μ-loop → Entry
+oldest c = getD (c .if4 .m .window) (head (c .before) .loop .m .table .oldest) blankEntry
+
+waits-at : (c : tie.After-is-waiting Inv-loop μ-loop) → c .is-waiting .result ≡ waits (oldest (issued c) .fate)
+waits-at c = c .is-waiting .ensures
+
+idle-at : (c : tie.Then5 Inv-loop μ-loop) → waits (oldest (issued (c .before)) .fate) ≡ true
+idle-at c = sym (waits-at (c .before)) ∙ c .if5 .taken
+
+-- the registers of its instruction
+small-at : (c : tie.Joined4 Inv-loop μ-loop)
+    → (sOf (oldest c .instruction) < 8) × (second (oldest c .instruction) < 8)
+small-at c = own-small (begun-at c)
+
+is-waiting-requires : tie.Need-is-waiting-requires Inv-loop μ-loop
+is-waiting-requires c κs = search needs
+
+s-of-requires : tie.Need-s-of-requires Inv-loop μ-loop
+s-of-requires c κs = search needs
+
+register-requires : tie.Need-register-requires Inv-loop μ-loop
+register-requires c κs =
+    let j = issued (c .before .before .before .before) in
+    (rw (c .s-of .ensures) (small-at j .0), begun-at j .sized .registers)
+
+second-of-requires : tie.Need-second-of-requires Inv-loop μ-loop
+second-of-requires c κs = search needs
+
+register-requires-2 : tie.Need-register-requires-2 Inv-loop μ-loop
+register-requires-2 c κs =
+    let j = issued (c .before .before .before .before .before .before .before .before) in
+    (rw (c .second-of .ensures) (small-at j .1), begun-at j .sized .registers)
+
+action-of-requires : tie.Need-action-of-requires Inv-loop μ-loop
+action-of-requires c κs = search needs
+
+-- from after its operands were read back to where it was found to wait; from after its effect was found back to its
+-- operands, and to where it has been issued; and from after the marks back to the effect
+abbrev idle : tie.After-register2 Inv-loop μ-loop → tie.Then5 Inv-loop μ-loop
+idle c = c .before .before .before .before .before .before .before .before
+
+abbrev operands : tie.After-effect-of Inv-loop μ-loop → tie.After-register2 Inv-loop μ-loop
+operands c = c .before .before .before .before .before .before .before .before
+
+abbrev chosen : tie.After-effect-of Inv-loop μ-loop → tie.Joined4 Inv-loop μ-loop
+chosen c = issued (idle (operands c) .before)
+
+abbrev marked : tie.After-set-value-arg Inv-loop μ-loop → tie.After-effect-of Inv-loop μ-loop
+marked c =
+    c .before .before .before .before .before .before .before .before .before .before .before .before .before .before .before
+
+-- the sizes there
+sizes-at : (c : tie.Joined4 Inv-loop μ-loop)
+    → let t = c .if4 .m .table in
+    Sizes (t .banks) (t .rows) (head (c .before) .loop .m .table .stages) (t .words)
+sizes-at c = along-sizes (begun-at c)
+
+effect-of-requires : tie.Need-effect-of-requires Inv-loop μ-loop
+effect-of-requires c κs =
+    let j = issued (idle (c .before .before .before .before .before .before .before) .before) in
+    let a = begun-at j in
+    let s = sizes-at j in
+    let l = a .sized .lengths in (
+      (s .some-bank, s .banks, s .some-row, s .rows, along-start a, along-room a, s .stages, a .some),
+      (l .addresses, l .loads, l .stores, l .values),
+    )
+
+-- the effect never stalls: something stays, at most what was live, and its row is one of the table's
+bounds-at : (c : tie.After-effect-of Inv-loop μ-loop)
+    → let q = c .effect-of .result in
+    (0 < q .left) × (q .left ≤ chosen c .if4 .m .table .live) × (q .row < slots)
+bounds-at c =
+    let j = chosen c in
+    let x = operands c .before .before .before .before in
+    let y = operands c in
+    let registers = j .if4 .m .registers in
+    taken-bounds (begun-at j) (idle-at (idle y))
+    (x .register .ensures ∙ ap (λ (k : ℕ). getD registers k 0) (x .before .s-of .ensures))
+    (y .register2 .ensures ∙ ap (λ (k : ℕ). getD registers k 0) (y .before .second-of .ensures))
+    (c .before .before .action-of .ensures)
+    (c .effect-of .ensures)
+
+cut-requires : tie.Need-cut-requires Inv-loop μ-loop
+cut-requires c κs =
+    let j = chosen (c .before) in
+    let a = begun-at j in
+    let h = bounds-at (c .before) in (
+      (sizes-at j .banks, a .sized .lengths .loads),
+      (along-start a, omega (arith, h .1, along-room a), omega (arith, sizes-at j .stages)),
+    )
+
+cut-requires-2 : tie.Need-cut-requires-2 Inv-loop μ-loop
+cut-requires-2 c κs =
+    let j = chosen (c .before .before .before) in
+    let a = begun-at j in
+    let h = bounds-at (c .before .before .before) in (
+      (sizes-at j .banks, a .sized .lengths .stores),
+      (along-start a, omega (arith, h .1, along-room a), omega (arith, sizes-at j .stages)),
+    )
+
+including-requires : tie.Need-including-requires Inv-loop μ-loop
+including-requires c κs =
+    let j = chosen (c .before .before .before .before .before) in omega (arith, oldest-below (head (j .before)))
+
+set-word-requires : tie.Need-set-word-requires Inv-loop μ-loop
+set-word-requires c κs = bounds-at (c .before .before .before .before .before .before .before .before .before) .2
+
+add-mark-requires : tie.Need-add-mark-requires Inv-loop μ-loop
+add-mark-requires c κs =
+    let q = c .before .before .before .before .before .before .before .before .before .before .before in
+    (bounds-at q .2, omega (arith, oldest-below (head (chosen q .before))))
+
+add-mark-requires-2 : tie.Need-add-mark-requires-2 Inv-loop μ-loop
+add-mark-requires-2 c κs =
+    let q = c .before .before .before .before .before .before .before .before .before .before .before .before .before in
+    (bounds-at q .2, omega (arith, oldest-below (head (chosen q .before))))
+
+set-value-requires : tie.Need-set-value-requires Inv-loop μ-loop
+set-value-requires c κs = oldest-below (head (chosen (marked c) .before))
+
+stage-at-requires : tie.Need-stage-at-requires Inv-loop μ-loop
+stage-at-requires c κs =
+    let q = marked (c .before) in
+    let j = chosen q in
+    let a = begun-at j in
+    (along-start a, omega (arith, bounds-at q .1, along-room a), omega (arith, sizes-at j .stages))
+
+-- the stage after those that stay is an index of the window
+after-small : (c : tie.After-stage-at Inv-loop μ-loop) → c .stage-at .result < stagesMost
+after-small c =
+    let q = marked (c .before .before) in
+    let j = chosen q in
+    let a = begun-at j in
+    omega (
+      arith,
+      c .stage-at .ensures,
+      stage-lt _ _ (along-start a) (q .effect-of .result .left) (omega (arith, bounds-at q .1, along-room a)),
+      sizes-at j .stages,
+    )
+
+mul-f : tie.Need-mul-f Inv-loop μ-loop
+mul-f c = omega (arith, after-small c)
+
+element-copy-out-f : tie.Need-element-copy-out-f Inv-loop μ-loop
+element-copy-out-f c = after-small c
+
+mul-t79 : tie.Need-mul-t79 Inv-loop μ-loop
+mul-t79 c = omega (arith, oldest-below (head (chosen (marked (c .before .before .before)) .before)))
+
+element-set-from-m-2 : tie.Need-element-set-from-m-2 Inv-loop μ-loop
+element-set-from-m-2 c = oldest-below (head (chosen (marked (c .before .before .before)) .before))
+
+next-after-requires : tie.Need-next-after-requires Inv-loop μ-loop
+next-after-requires c κs = search needs
+
+-- where the ways meet the oldest has executed
+ready-at : (c : tie.Joined5 Inv-loop μ-loop)
+    → let l = head (issued (c .before) .before) in
+    Prepared (entry l .args .program .now) (l .loop .m) (l .loop .memory) (c .if5 .m)
+ready-at c =
+    let j = issued (c .before) in
+    let l = head (j .before) in
+    let registers = j .if4 .m .registers in
+    ⊎-elim
+    (λ v.
+    ready-taken (begun-at j) (idle-at (record { before = c .before; if5 = v .0 }))
+    (v .4 .ensures ∙ ap (λ (k : ℕ). getD registers k 0) (v .3 .ensures))
+    (v .8 .ensures ∙ ap (λ (k : ℕ). getD registers k 0) (v .7 .ensures))
+    (v .14 .ensures)
+    (v .16 .ensures)
+    (v .22 .ensures)
+    (v .18 .ensures)
+    (v .20 .ensures)
+    (v .26 .ensures)
+    (v .28 .ensures)
+    (v .30 .ensures)
+    (v .32 .ensures)
+    (ap (λ (s : ℕ). getD (j .if4 .m .window) s blankEntry) (v .33 .ensures))
+    (v .35 .ensures)
+    (c .if5 .m)
+    (v .36))
+    (λ v. ready-kept (begun-at j) (sym (waits-at (c .before)) ∙ v .0 .left) (c .if5 .m) (v .1))
+    (c .if5 .came)
+
+-- from there back to past the stops, and to the loop's head
+abbrev more : tie.Joined5 Inv-loop μ-loop → tie.Else3 Inv-loop μ-loop
+more c = issued (c .before) .before
+
+abbrev turning : tie.Joined5 Inv-loop μ-loop → tie.At-loop Inv-loop μ-loop
+turning c = head (more c)
+
+-- from after the oldest's mark was read back to where it has executed; from where it was found not to fault back to its
+-- mark; from after its value was read back to both; and from after its numbers were read back to the stages that stay, and
+-- to its value
+abbrev prepared : tie.After-oldest-mark Inv-loop μ-loop → tie.Joined5 Inv-loop μ-loop
+prepared c = c .before .before .before .before .before
+
+abbrev read : tie.Else6 Inv-loop μ-loop → tie.After-oldest-mark Inv-loop μ-loop
+read c = c .before .before
+
+abbrev faultless : tie.After-value-of Inv-loop μ-loop → tie.Else6 Inv-loop μ-loop
+faultless c = c .before .before .before .before .before
+
+abbrev committing : tie.After-value-of Inv-loop μ-loop → tie.Joined5 Inv-loop μ-loop
+committing c = prepared (read (faultless c))
+
+abbrev staying : tie.After-target-of Inv-loop μ-loop → tie.After-first-stages Inv-loop μ-loop
+staying c = c .before .before .before .before .before .before .before .before .before .before .before
+
+abbrev valued : tie.After-target-of Inv-loop μ-loop → tie.After-value-of Inv-loop μ-loop
+valued c = staying c .before .before
+
+mul-done : tie.Need-mul-done Inv-loop μ-loop
+mul-done c = omega (arith, oldest-below (turning c))
+
+element-copy-out-done : tie.Need-element-copy-out-done Inv-loop μ-loop
+element-copy-out-done c = oldest-below (turning c)
+
+at-stage-requires : tie.Need-at-stage-requires Inv-loop μ-loop
+at-stage-requires c κs =
+    let p = c .before .before .before in (oldest-below (turning p), ready-at p .along .sized .lengths .values)
+
+oldest-mark-requires : tie.Need-oldest-mark-requires Inv-loop μ-loop
+oldest-mark-requires c κs = search needs
+
+-- the mark told of the oldest
+mark-at : (c : tie.After-oldest-mark Inv-loop μ-loop)
+    → let p = prepared c in
+    let o = turning p .loop .m .table .oldest in
+    c .oldest-mark .result ≡ markBy (reference (getD (p .if5 .m .window) o blankEntry)) (value (p .if5 .m .table) o)
+mark-at c = rw (c .before .at-stage .ensures) at (c .oldest-mark .ensures)
+
+mark-faults-requires : tie.Need-mark-faults-requires Inv-loop μ-loop
+mark-faults-requires c κs = search needs
+
+same-length-5 : tie.Need-same-length-5 Inv-loop μ-loop
+same-length-5 c = turning (prepared (c .before .before)) .loop .inv .1
+
+same-length-6 : tie.Need-same-length-6 Inv-loop μ-loop
+same-length-6 c = turning (prepared (c .before .before)) .loop .inv .2 .size
+
+returns-4 : tie.Need-returns-4 Inv-loop μ-loop
+returns-4 c =
+    let mark = c .before .before in
+    let p = prepared mark in
+    let e = more p in
+    let l = turning p in
+    let r = ready-at p in
+    let sound = along-passed (r .along) .sound in
+    remains-meets _ _ _ (l .loop .m) _ _ _ _ _ _ _ (passed-at (l .before)) (l .loop .inv .2)
+    (turn-stops _ (l .loop .m) (p .if5 .m) _ _ _ _ _ _ (below-at (e .before .before)) (room-at (e .before)) (more-at e)
+    sound
+    (r .along .is)
+    _
+    _
+    refl
+    (turn-faults r (mark-at mark) (sym (c .before .mark-faults .ensures) ∙ c .if6 .taken)))
+    sound
+
+-- it does not fault
+clean-at : (c : tie.Else6 Inv-loop μ-loop)
+    → faults (prepared (read c) .if5 .m .table .words) (markedFate (read c .oldest-mark .result)) ≡ false
+clean-at c = sym (c .before .mark-faults .ensures) ∙ c .if6 .left
+
+write-back-requires : tie.Need-write-back-requires Inv-loop μ-loop
+write-back-requires c κs =
+    let mark = read (c .before) in
+    turn-clean (ready-at (prepared mark)) (mark-at mark) (clean-at (c .before))
+
+value-of-requires : tie.Need-value-of-requires Inv-loop μ-loop
+value-of-requires c κs = search needs
+
+stage-at-requires-2 : tie.Need-stage-at-requires-2 Inv-loop μ-loop
+stage-at-requires-2 c κs =
+    let a = ready-at (committing c) .along in
+    (along-start a, omega (arith, along-start a), omega (arith, along-sizes a .stages))
+
+sub-first-stages : tie.Need-sub-first-stages Inv-loop μ-loop
+sub-first-stages c = ready-at (committing (c .before)) .along .some
+
+first-stages-requires : tie.Need-first-stages-requires Inv-loop μ-loop
+first-stages-requires c κs =
+    let a = ready-at (committing (c .before)) .along in (
+      rw (c .stage-at2 .ensures) (stage-lt _ _ (along-start a) 1 (omega (arith, along-start a))),
+      omega (arith, along-room a),
+      omega (arith, along-sizes a .stages),
+    )
+
+sub-m : tie.Need-sub-m Inv-loop μ-loop
+sub-m c = ready-at (committing (c .before .before .before)) .along .some
+
+keep-requires : tie.Need-keep-requires Inv-loop μ-loop
+keep-requires c κs =
+    let a = ready-at (committing (c .before .before .before .before .before)) .along in
+    (along-sizes a .banks, a .sized .lengths .loads)
+
+keep-requires-2 : tie.Need-keep-requires-2 Inv-loop μ-loop
+keep-requires-2 c κs =
+    let a = ready-at (committing (c .before .before .before .before .before .before .before)) .along in
+    (along-sizes a .banks, a .sized .lengths .stores)
+
+write-register-requires : tie.Need-write-register-requires Inv-loop μ-loop
+write-register-requires c κs =
+    let p = committing (c .before .before .before .before .before .before .before .before .before) in
+    ready-at p .along .sized .registers
+
+mul-put-four : tie.Need-mul-put-four Inv-loop μ-loop
+mul-put-four c =
+    let p = committing (c .before .before .before .before .before .before .before .before .before .before .before) in
+    mul-if2 (more p .before .before)
+
+code-of-requires : tie.Need-code-of-requires Inv-loop μ-loop
+code-of-requires c κs = search needs
+
+target-of-requires : tie.Need-target-of-requires Inv-loop μ-loop
+target-of-requires c κs = search needs
+
+put-four-requires : tie.Need-put-four-requires Inv-loop μ-loop
+put-four-requires c κs =
+    let e = more (committing (valued c)) in
+    omega (arith, room-at (e .before), head e .loop .inv .2 .size)
+
+add-n : tie.Need-add-n Inv-loop μ-loop
+add-n c =
+    let e = more (committing (valued (c .before .before .before))) in
+    omega (arith, below-at (e .before .before), entry (head e) .fits .k)
+
+loop-less : tie.Need-loop-less Inv-loop μ-loop
+loop-less c =
+    let e = more (committing (valued (c .before .before .before))) in
+    omega (arith, below-at (e .before .before))
+
+loop-again : tie.Need-loop-again Inv-loop μ-loop
+loop-again c =
+    let t = c .before .before .before in
+    let value = valued t in
+    let f = faultless value in
+    let p = committing value in
+    let e = more p in
+    let l = head e in
+    let r = ready-at p in
+    let mark = mark-at (read f) in
+    let first = staying t .before .stage-at2 .ensures in
+    let stay = staying t .first-stages .ensures in
+    let loads = t .before .before .before .before .before .before .before .keep .ensures in
+    let stores = t .before .before .before .before .before .keep2 .ensures in
+    let registers = t .before .before .before .write-register .ensures in
+    let code = t .before .code-of .ensures in
+    let place = t .target-of .ensures in
+    let v = value .value-of .ensures in
+    let meets =
+    turn-commits r mark (clean-at f) first stay loads stores code place v registers _
+    (value .before .before .before .write-back .ensures) in (
+      commit-passes (p .if5 .m) _ _ _
+          (validate-lent (p .if5 .m) (entry l .args .program .now) _ _ (l .loop .inv .1) (r .along .passes))
+          _
+          _
+          _
+          meets,
+      value .before .before .memory .given ∙ l .loop .inv .1,
+      remains-goes _ _ _ _ _ _ _ _ _ (l .loop .inv .2) _ _ _ _ _ _ _ (below-at (e .before .before)) (room-at (e .before))
+          (turn-goes _ (l .loop .m) (p .if5 .m) _ _ _ _ _ _ (below-at (e .before .before)) (room-at (e .before)) (more-at e)
+          (along-passed (r .along) .sound)
+          (r .along .is)
+          _
+          _
+          _
+          _
+          _
+          refl
+          meets)
+          (c .before .before .put-four .ensures),
+      turn-sized r mark (clean-at f) first stay loads stores code place v registers,
+    )
+
+same-length-7 : tie.Need-same-length-7 Inv-loop μ-loop
+same-length-7 c = search needs
+
+same-length-8 : tie.Need-same-length-8 Inv-loop μ-loop
+same-length-8 c = search needs
+
+returns-5 : tie.Need-returns-5 Inv-loop μ-loop
+returns-5 c =
+    let l = c .before in
+    remains-meets _ _ _ (l .loop .m) _ _ _ _ _ _ _ (passed-at (l .before)) (l .loop .inv .2)
+    (finishes-limit _ _ _ _ _ (omega (arith, c .loop-test .left)))
+    (passed-in l .sound)
+
+pub finish-spec : {M : Type 1} → statement M
+finish-spec =
+    tie.close
+    (tie.spec
+    Inv-loop
+    μ-loop
+    validate-requires
+    returns
+    loop-holds
+    mul-if2
+    sub-if2
+    same-length
+    same-length-2
+    returns-2
+    same-length-3
+    same-length-4
+    returns-3
+    wrapping-add-u32-requires
+    set-number-requires
+    cast-instruction-at
+    instruction-at-requires
+    mul-t69
+    element-set-from-m
+    add-m
+    mul-e
+    element-copy-out-e
+    is-waiting-requires
+    s-of-requires
+    register-requires
+    second-of-requires
+    register-requires-2
+    action-of-requires
+    effect-of-requires
+    cut-requires
+    cut-requires-2
+    including-requires
+    set-word-requires
+    add-mark-requires
+    add-mark-requires-2
+    set-value-requires
+    stage-at-requires
+    mul-f
+    element-copy-out-f
+    mul-t79
+    element-set-from-m-2
+    next-after-requires
+    mul-done
+    element-copy-out-done
+    at-stage-requires
+    oldest-mark-requires
+    mark-faults-requires
+    same-length-5
+    same-length-6
+    returns-4
+    write-back-requires
+    value-of-requires
+    stage-at-requires-2
+    sub-first-stages
+    first-stages-requires
+    sub-m
+    keep-requires
+    keep-requires-2
+    write-register-requires
+    mul-put-four
+    code-of-requires
+    target-of-requires
+    put-four-requires
+    add-n
+    loop-less
+    loop-again
+    same-length-7
+    same-length-8
+    returns-5)

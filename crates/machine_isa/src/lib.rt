@@ -1,0 +1,261 @@
+// The instruction set and the window's entries: an instruction read from the program and held to it, its operands and what it
+// asks with them, and what an entry says of itself. Inner: `instruction_at` requires what its callers have shown.
+use engine::Action;
+use machine_model::Entry;
+use machine_model::Fate;
+use machine_model::Instruction;
+use machine_model::Kind;
+ghost use mathlib.Core.Path.{_≡_};
+ghost use mathlib.Core.List.{[], _∷_};
+ghost use Prim.Native.Nat.{_+_, _*_, _≤_, _<_};
+ghost use lib.ListN.{length};
+ghost use lib.Seq.{sets};
+ghost use Rattle.machine_model.specs.Program.{decoded, instructionAt, wellFormed, programFits, codeOf, dOf, sOf, immOf};
+ghost use Rattle.machine_model.specs.Program.{kind, destination};
+ghost use Rattle.machine_model.specs.Contract.{kindOf, placeOf};
+ghost use Rattle.machine_model.specs.Window.{reference};
+ghost use Rattle.machine_model.specs.Calls.{waits, valueBy, addressBy, target};
+ghost use Rattle.machine_model.specs.computed.Parts.{registerNumber, likeBy, actionOf, second};
+
+// The instruction with these four numbers.
+fn decode(code: u32, d: u32, s: u32, imm: u32) -> Instruction
+    ensures { λ r. ⌜ r ≡ decoded code d s imm ⌝ }
+{
+    if code == 1 {
+        return Instruction::Add(d, s, imm);
+    }
+    if code == 2 {
+        return Instruction::Sum(d, s, imm);
+    }
+    if code == 3 {
+        return Instruction::Load(d, s, imm);
+    }
+    Instruction::Store(d, s, imm)
+}
+
+// The instruction at index `i` of the program.
+pub fn instruction_at(program: &[u32], i: usize) -> Instruction
+    requires { ⌜ i * 4 + 3 < length (now program) ⌝ }
+    ensures { λ r. ⌜ r ≡ instructionAt (now (program .entry)) i ⌝ }
+{
+    let k = i * 4;
+    decode(program[k], program[k + 1], program[k + 2], program[k + 3])
+}
+
+// Whether these four numbers are an instruction.
+pub fn well_formed(code: u32, d: u32, s: u32, imm: u32) -> bool
+    ensures { λ r. ⌜ r ≡ wellFormed code d s imm ⌝ }
+{
+    ((1 <= code) & (code <= 4)) & ((d <= 7) & (s <= 7)) & (!(code == 2) | (imm <= 7))
+}
+
+// Whether the program is whole instructions, each well formed.
+pub fn program_fits(program: &[u32]) -> bool
+    ensures { λ r. ⌜ r ≡ programFits (now (program .entry)) ⌝ }
+{
+    if program.len() % 4 != 0 {
+        return false;
+    }
+    let count = program.len() / 4;
+    let mut fit = true;
+    let mut i = 0;
+    while i < count {
+        let k = i * 4;
+        fit = fit & well_formed(program[k], program[k + 1], program[k + 2], program[k + 3]);
+        i += 1;
+    }
+    fit
+}
+
+// 01's code of an instruction.
+pub fn code_of(i: Instruction) -> u32
+    ensures { λ r. ⌜ r ≡ codeOf i ⌝ }
+{
+    match i {
+        Instruction::Add(_, _, _) => 1,
+        Instruction::Sum(_, _, _) => 2,
+        Instruction::Load(_, _, _) => 3,
+        Instruction::Store(_, _, _) => 4,
+    }
+}
+
+// An instruction's d, s and imm.
+fn d_of(i: Instruction) -> u32
+    ensures { λ r. ⌜ r ≡ dOf i ⌝ }
+{
+    match i {
+        Instruction::Add(d, _, _) => d,
+        Instruction::Sum(d, _, _) => d,
+        Instruction::Load(d, _, _) => d,
+        Instruction::Store(d, _, _) => d,
+    }
+}
+
+pub fn s_of(i: Instruction) -> u32
+    ensures { λ r. ⌜ r ≡ sOf i ⌝ }
+{
+    match i {
+        Instruction::Add(_, s, _) => s,
+        Instruction::Sum(_, s, _) => s,
+        Instruction::Load(_, s, _) => s,
+        Instruction::Store(_, s, _) => s,
+    }
+}
+
+fn imm_of(i: Instruction) -> u32
+    ensures { λ r. ⌜ r ≡ immOf i ⌝ }
+{
+    match i {
+        Instruction::Add(_, _, imm) => imm,
+        Instruction::Sum(_, _, r) => r,
+        Instruction::Load(_, _, imm) => imm,
+        Instruction::Store(_, _, imm) => imm,
+    }
+}
+
+// Whether the entry's instruction has the four numbers at its index in the program. They are compared as they stand: of a
+// well-formed program that is the instruction decoded.
+pub fn entry_fits(program: &[u32], e: Entry) -> bool
+    ensures { λ r. ⌜ r ≡ likeBy (now (program .entry)) e ⌝ }
+{
+    let k = (e.index as usize) * 4;
+    if k + 3 >= program.len() {
+        return false;
+    }
+    let i = e.instruction;
+    (program[k] == code_of(i))
+        & (program[k + 1] == d_of(i))
+        & (program[k + 2] == s_of(i))
+        & (program[k + 3] == imm_of(i))
+}
+
+// An entry's kind and address as the buffer has them: 0 executed without memory, 1 a load, 2 a store, 4 waiting.
+pub fn entry_kind(e: Entry) -> u32
+    ensures { λ r. ⌜ r ≡ kindOf (reference e) ⌝ }
+{
+    let fate = e.fate;
+    let i = e.instruction;
+    let kind = kind_of(i);
+    match fate {
+        Fate::Waiting => 4,
+        Fate::Executed(_, _) => match kind {
+            Kind::Computing => 0,
+            Kind::Loading => 1,
+            Kind::Storing => 2,
+        },
+    }
+}
+
+pub fn entry_place(e: Entry) -> u32
+    ensures { λ r. ⌜ r ≡ placeOf (reference e) ⌝ }
+{
+    let fate = e.fate;
+    let i = e.instruction;
+    let kind = kind_of(i);
+    match fate {
+        Fate::Waiting => 0,
+        Fate::Executed(_, a) => match kind {
+            Kind::Computing => 0,
+            Kind::Loading => a,
+            Kind::Storing => a,
+        },
+    }
+}
+
+// What an instruction does.
+pub fn kind_of(i: Instruction) -> Kind
+    ensures { λ r. ⌜ r ≡ kind i ⌝ }
+{
+    match i {
+        Instruction::Add(_, _, _) => Kind::Computing,
+        Instruction::Sum(_, _, _) => Kind::Computing,
+        Instruction::Load(_, _, _) => Kind::Loading,
+        Instruction::Store(_, _, _) => Kind::Storing,
+    }
+}
+
+// The register that an instruction writes; 8 where it writes none.
+pub fn destination_of(i: Instruction) -> u32
+    ensures { λ r. ⌜ r ≡ registerNumber (destination i) ⌝ }
+{
+    let kind = kind_of(i);
+    match kind {
+        Kind::Computing => d_of(i),
+        Kind::Loading => d_of(i),
+        Kind::Storing => 8,
+    }
+}
+
+// The register of an instruction's second operand; of one that has none, the first again.
+pub fn second_of(i: Instruction) -> u32
+    ensures { λ r. ⌜ r ≡ second i ⌝ }
+{
+    match i {
+        Instruction::Add(_, s, _) => s,
+        Instruction::Sum(_, _, r) => r,
+        Instruction::Load(_, s, _) => s,
+        Instruction::Store(d, _, _) => d,
+    }
+}
+
+// What the instruction asks with these operands; sums wrap.
+pub fn action_of(i: Instruction, x: u32, y: u32) -> Action
+    ensures { λ r. ⌜ r ≡ actionOf i x y ⌝ }
+{
+    match i {
+        Instruction::Add(_, _, imm) => Action::Compute(std::num::wrapping_add_u32(x, imm)),
+        Instruction::Sum(_, _, _) => Action::Compute(std::num::wrapping_add_u32(x, y)),
+        Instruction::Load(_, _, imm) => Action::LoadAt(std::num::wrapping_add_u32(x, imm)),
+        Instruction::Store(_, _, imm) => Action::StoreAt(std::num::wrapping_add_u32(x, imm), y),
+    }
+}
+
+// Whether an entry waits.
+pub fn is_waiting(e: Entry) -> bool
+    ensures { λ r. ⌜ r ≡ waits (e .fate) ⌝ }
+{
+    let fate = e.fate;
+    match fate {
+        Fate::Waiting => true,
+        Fate::Executed(_, _) => false,
+    }
+}
+
+// The value of an entry.
+pub fn value_of(e: Entry) -> u32
+    ensures { λ r. ⌜ r ≡ valueBy (e .fate) ⌝ }
+{
+    let fate = e.fate;
+    match fate {
+        Fate::Waiting => 0,
+        Fate::Executed(v, _) => v,
+    }
+}
+
+// The third number of a commit: the register, for S the address.
+pub fn target_of(e: Entry) -> u32
+    ensures { λ r. ⌜ r ≡ target (e .instruction) (addressBy (e .fate)) ⌝ }
+{
+    let i = e.instruction;
+    let fate = e.fate;
+    let kind = kind_of(i);
+    match kind {
+        Kind::Computing => d_of(i),
+        Kind::Loading => d_of(i),
+        Kind::Storing => match fate {
+            Fate::Waiting => 0,
+            Fate::Executed(_, a) => a,
+        },
+    }
+}
+
+// Four numbers from place `at` of the list on.
+pub fn put_four(list: &mut [u32], at: usize, i: u32, c: u32, r: u32, v: u32)
+    requires { ⌜ at + 4 ≤ length (now list) ⌝ }
+    ensures { λ x. ⌜ now (list .exit) ≡ sets (now (list .entry)) at (i ∷ c ∷ r ∷ v ∷ []) ⌝ }
+{
+    list[at] = i;
+    list[at + 1] = c;
+    list[at + 2] = r;
+    list[at + 3] = v;
+}

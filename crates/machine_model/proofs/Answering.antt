@@ -1,0 +1,155 @@
+-- How the contract `Meets` is met: by a refusal with 2 where the machine is not sound, by any other refusal that the
+-- definition gives, and by an accepted call whose answer, state, memory and list are the definition's. The validation is the
+-- first of the conditions 2, 3 and 4 that holds: 0 says that none does (validate-passes), and any other number is the call's
+-- refusal (validate-turns), because each call's own checks begin with those of the validation. The validation looks at the window
+-- by stage, the definition at the list of entries; they see the same entries (fits-same). Assumes nothing.
+use mathlib.Core.Bool.{Bool, true, false, cond, not, _&&_, and-eq-true-iff}
+use mathlib.Core.List.{List, [], _∷_}
+use mathlib.Core.Path.{_≡_, refl, sym, ap, _∙_}
+use Prim.Native.Nat.{ℕ, _*_, _<_}
+use native.Mathlib.Omega.{arith}
+use lib.Dec.{eqb}
+use lib.ListN.{length}
+use borrow.Author.Tests.{eqb-true, eqb-false, eq-eqb}
+use Rattle.marks.specs.Counting.{every}
+use Rattle.marks.proofs.Counts.{every-at}
+use Rattle.table.specs.computed.Check.{lawful}
+use Rattle.engine.specs.Contract.{refused}
+use Rattle.engine.specs.Conditions.{Check, when, refusal, wrongLength}
+use Rattle.engine.proofs.Meeting
+use Rattle.engine.proofs.Meeting.{turned, Accepts}
+use Rattle.machine_model.specs.declared.Machine.{Machine}
+use Rattle.machine_model.specs.Program.{programFits}
+use Rattle.machine_model.specs.Window.{entryAt}
+use Rattle.machine_model.specs.Calls.{Plain, Call, issue, execute, squash, commit, finish, Answer, Result, matchesProgram}
+use Rattle.machine_model.specs.Calls.{programCheck, respond}
+use Rattle.machine_model.specs.Contract.{entryOf, plain, Sound, lentTo, Meets}
+use Rattle.machine_model.proofs.Sounding.{agreeing, validateOf, every-same, length-entries, entry-at, tests-sound}
+use Rattle.machine_model.proofs.Sounding.{broken-tests}
+
+-- ---- meeting the contract
+
+module _ (program : List ℕ) (m : Machine) (c : Call) (w : List ℕ) where
+  pub broken-meets : (Sound m → ⊥) → Meets program m c w (refused 2) m w (lentTo c)
+  broken-meets h = Meeting.broken-meets Sound plain m (respond program c (plain m) w) w (lentTo c) h
+
+  pub refused-meets : (k : ℕ) → Sound m → respond program c (plain m) w ≡ turned k (plain m) w (lentTo c)
+      → Meets program m c w (refused k) m w (lentTo c)
+  refused-meets k sound e = Meeting.refused-meets Sound plain m (respond program c (plain m) w) w (lentTo c) k sound e
+
+  pub accepted-meets : (u : Machine) (v list : List ℕ) (said : Answer) (r : Result) → Sound m
+      → respond program c (plain m) w ≡ r → Accepts (r .answer) → said ≡ r .answer → plain u ≡ r .state → v ≡ r .memory
+      → list ≡ r .list → Sound u → Meets program m c w said u v list
+  accepted-meets = Meeting.accepted-meets Sound plain m (respond program c (plain m) w) w (lentTo c)
+
+-- ---- the validation's tests are the definition's
+
+-- the program is the opened one, and the live entries are its instructions: of a machine, and of a plain state
+abbrev fitting : List ℕ → Machine → Bool
+fitting program m =
+    programFits program && eqb (length program) (4 * m .count)
+    && every (λ (p : ℕ). matchesProgram program (m .count) (entryOf m p)) (m .table .live)
+
+abbrev fittingPlain : List ℕ → Plain → Bool
+fittingPlain program X =
+    programFits program && eqb (length program) (4 * X .count)
+    && every (λ (p : ℕ). matchesProgram program (X .count) (entryAt (X .entries) p)) (length (X .entries))
+
+fits-same : (program : List ℕ) (m : Machine) → fittingPlain program (plain m) ≡ fitting program m
+fits-same program m =
+    let likeAt : ℕ → Bool = λ p. matchesProgram program (m .count) (entryAt (plain m .entries) p) in
+    ap (λ (b : Bool). programFits program && eqb (length program) (4 * m .count) && b)
+    (ap (every likeAt) (length-entries m)
+    ∙ every-same likeAt (λ (p : ℕ). matchesProgram program (m .count) (entryOf m p)) (m .table .live)
+    (λ p h. ap (matchesProgram program (m .count)) (entry-at m p h)))
+
+-- ---- what the validation says
+
+-- what no refusal of a machine, a program and a length lent says
+pub record Passed (m : Machine) (program : List ℕ) (lent : ℕ) : Type 0 where
+  pub sound : Sound m
+  pub words : lent ≡ m .table .words
+  pub fits : programFits program ≡ true
+  pub counted : length program ≡ 4 * m .count
+  pub alike : (p : ℕ) → p < m .table .live → matchesProgram program (m .count) (entryOf m p) ≡ true
+  pub checks : (checks : List Check) → refusal (programCheck program (plain m) ∷ checks) ≡ refusal checks
+
+-- none of three conditions holds where no number comes of them
+none-holds : (a b c : Bool) → refusal (when (not a) 2 ∷ when (not b) 3 ∷ when (not c) 4 ∷ []) ≡ 0
+    → (a ≡ true) × (b ≡ true) × (c ≡ true)
+none-holds true true true h = (refl, refl, refl)
+none-holds true true false h = absurd (omega arith)
+none-holds true false c h = absurd (omega arith)
+none-holds false b c h = absurd (omega arith)
+
+pub validate-passes : (m : Machine) (program : List ℕ) (lent : ℕ) → validateOf m program lent ≡ 0 → Passed m program lent
+validate-passes m program lent h =
+    let likeAt : ℕ → Bool = λ p. matchesProgram program (m .count) (entryOf m p) in
+    let opened : Bool = programFits program && eqb (length program) (4 * m .count) in
+    let tests =
+    none-holds (lawful (m .table) && agreeing m (m .table .live)) (eqb lent (m .table .words)) (fitting program m) h in
+    let like-tests = and-eq-true-iff opened (every likeAt (m .table .live)) .0 (tests .2) in
+    let program-tests = and-eq-true-iff (programFits program) (eqb (length program) (4 * m .count)) .0 (like-tests .0) in
+    record {
+      sound = tests-sound m (tests .0);
+      words = eqb-true lent (m .table .words) (tests .1);
+      fits = program-tests .0;
+      counted = eqb-true (length program) (4 * m .count) (program-tests .1);
+      alike = every-at likeAt (m .table .live) (like-tests .1);
+      checks = λ checks.
+          ap (λ (b : Bool). cond (not b) 4 (refusal checks)) (fits-same program m ∙ tests .2);
+    }
+
+-- a passed machine passes both checks of a call that is lent memory
+pub passed-lent : (m : Machine) (program w : List ℕ) → Passed m program (length w) → (checks : List Check)
+    → refusal (wrongLength (m .table .words) w ∷ programCheck program (plain m) ∷ checks) ≡ refusal checks
+passed-lent m program w passed checks =
+    ap (λ (b : Bool). cond (not b) 3 (refusal (programCheck program (plain m) ∷ checks)))
+    (eq-eqb (length w) (m .table .words) (passed .words))
+    ∙ passed .checks checks
+
+-- the length that the validation of a call is asked about: of one that is lent no memory, the right one
+abbrev pub lengthFor : Machine → Call → List ℕ → ℕ
+lengthFor m issue w = m .table .words
+lengthFor m (execute p) w = length w
+lengthFor m (squash p) w = m .table .words
+lengthFor m commit w = length w
+lengthFor m (finish k list) w = length w
+
+-- the memory lent has another length
+length-turned : (m : Machine) (program : List ℕ) (c : Call) (w : List ℕ) → eqb (lengthFor m c w) (m .table .words) ≡ false
+    → respond program c (plain m) w ≡ turned 3 (plain m) w (lentTo c)
+unfolding respond
+length-turned m program issue w e = absurd (eqb-false (m .table .words) (m .table .words) e refl)
+length-turned m program (execute p) w e = rw e
+length-turned m program (squash p) w e = absurd (eqb-false (m .table .words) (m .table .words) e refl)
+length-turned m program commit w e = rw e
+length-turned m program (finish k list) w e = rw e
+
+-- it has the right length, and the check of the program fails
+program-turned : (m : Machine) (program : List ℕ) (c : Call) (w : List ℕ) → eqb (lengthFor m c w) (m .table .words) ≡ true
+    → fittingPlain program (plain m) ≡ false → respond program c (plain m) w ≡ turned 4 (plain m) w (lentTo c)
+unfolding respond
+program-turned m program issue w e f = rw f
+program-turned m program (execute p) w e f = rw (e, f)
+program-turned m program (squash p) w e f = rw f
+program-turned m program commit w e f = rw (e, f)
+program-turned m program (finish k list) w e f = rw (e, f)
+
+pub validate-turns : (m : Machine) (program : List ℕ) (c : Call) (w : List ℕ) (k : ℕ)
+    → validateOf m program (lengthFor m c w) ≡ k → (k ≡ 0 → ⊥) → Meets program m c w (refused k) m w (lentTo c)
+validate-turns m program c w k h some =
+    go (lawful (m .table) && agreeing m (m .table .live)) (eqb (lengthFor m c w) (m .table .words)) (fitting program m) refl
+    refl refl h
+  where
+    go : (a b d : Bool) → (lawful (m .table) && agreeing m (m .table .live)) ≡ a
+        → eqb (lengthFor m c w) (m .table .words) ≡ b → fitting program m ≡ d
+        → refusal (when (not a) 2 ∷ when (not b) 3 ∷ when (not d) 4 ∷ []) ≡ k
+        → Meets program m c w (refused k) m w (lentTo c)
+    go false b d e f g number = rw (← number) (broken-meets program m c w (broken-tests m e))
+    go true false d e f g number =
+        rw (← number) (refused-meets program m c w 3 (tests-sound m e) (length-turned m program c w f))
+    go true true false e f g number =
+        rw (← number)
+        (refused-meets program m c w 4 (tests-sound m e) (program-turned m program c w f (fits-same program m ∙ g)))
+    go true true true e f g number = absurd (some (sym number))

@@ -1,0 +1,277 @@
+-- Commit, past the validation. Its conditions 11, 12 and 13 are read off the oldest entry, which stands at the oldest's stage
+-- (oldest-entry). Where none holds, the oldest entry leaves the window as its reference does, by the engine's law. What it
+-- writes is told by its entry, which agrees with the table, and by the table's own word (mark-told). Assumes nothing.
+use mathlib.Core.Bool.{Bool, true, false, cond, not, _&&_, _||_, and-eq-true-iff}
+use mathlib.Core.List.{List, [], _∷_}
+use mathlib.Core.Path.{_≡_, refl, sym, ap, ap₂, _∙_}
+use Prim.Native.Nat.{ℕ, _-_, _<_}
+use native.Mathlib.Omega.{arith}
+use lib.Dec.{eqb}
+use lib.ListN.{length, getD, drop, length-drop}
+use borrow.Author.Tests.{ne-eqb, eqb-true, not-false}
+use Rattle.marks.specs.Stages.{has}
+use Rattle.marks.specs.Circle.{stage, firsts}
+use Rattle.marks.proofs.Turns.{stage-zero}
+use Rattle.table.specs.Limits.{rowsIn}
+use Rattle.table.specs.Reference
+use Rattle.table.specs.Reference.{waiting, other, loaded, stored, fateOf, at}
+use Rattle.table.specs.View.{stageOf, value, view}
+use Rattle.table.specs.Moves.{retire}
+use Rattle.table.proofs.Fates.{length-refs}
+use Rattle.engine.specs.computed.Steps.{within}
+use Rattle.engine.proofs.Narrowing.{retire-rules, retire-view}
+use Rattle.lookup.specs.declared.Mark.{Mark}
+use Rattle.lookup.specs.computed.Search.{markedFate}
+use Rattle.engine.specs.Conditions.{when, refusal, hasExecuted, faults}
+use Rattle.engine.specs.Contract.{refused, committed, judged}
+use Rattle.engine.specs.Execution.{written}
+use Rattle.engine.proofs.Meeting.{judged-refused}
+use Rattle.engine.proofs.Fated.{stored-word}
+use Rattle.machine_model.specs.declared.Instruction.{Instruction}
+use Rattle.machine_model.specs.declared.Kind.{Kind}
+use Rattle.machine_model.specs.declared.Kind.the-variants.{Computing, Loading, Storing}
+use Rattle.machine_model.specs.declared.Fate.{Fate}
+use Rattle.machine_model.specs.declared.Fate.the-variants.{Waiting, Executed}
+use Rattle.machine_model.specs.declared.Entry.{Entry}
+use Rattle.machine_model.specs.declared.Machine.{Machine}
+use Rattle.machine_model.specs.Program.{kind, codeOf}
+use Rattle.machine_model.specs.Window.{blankEntry, entryAt, accessBy, referenceBy, reference}
+use Rattle.machine_model.specs.Calls.{Plain, Answer, commit, Result, waits, valueBy, addressBy, registersAfter, target}
+use Rattle.machine_model.specs.Calls.{respond}
+use Rattle.machine_model.specs.Contract.{plain, kindOf, placeOf, agree, Meets}
+use Rattle.machine_model.specs.computed.Parts.{entriesOf, markBy}
+use Rattle.machine_model.proofs.Sounding.{length-entries, entry-at}
+use Rattle.machine_model.proofs.Answering.{Passed, passed-lent, refused-meets, accepted-meets}
+use Rattle.machine_model.proofs.PlainOfView.{plain-by, entries-drop, sound-agreed, reached, agreed-drop}
+
+-- ---- fates by their kind and place
+
+-- an entry waits where what it is to the buffer has not executed
+access-executed : (k : Kind) (v a : ℕ) → hasExecuted (accessBy k v a) ≡ true
+access-executed Computing v a = refl
+access-executed Loading v a = refl
+access-executed Storing v a = refl
+
+waits-executed : (i : Instruction) (f : Fate) → waits f ≡ not (hasExecuted (referenceBy i f))
+waits-executed i Waiting = refl
+waits-executed i (Executed v a) = ap not (sym (access-executed (kind i) v a))
+
+executed-by : (f : Reference.Fate) → hasExecuted f ≡ not (eqb (kindOf f) 4)
+executed-by waiting = refl
+executed-by other = refl
+executed-by (loaded a) = refl
+executed-by (stored a v) = refl
+
+-- the fate of this kind and place, where v is the word of a store
+abbrev fateOfKind : ℕ → ℕ → ℕ → Reference.Fate
+fateOfKind k a v = cond (eqb k 1) (loaded a) (cond (eqb k 2) (stored a v) other)
+
+mark-by : (f : Reference.Fate) (v : ℕ) → markedFate (markBy f v) ≡ fateOfKind (kindOf f) (placeOf f) v
+mark-by waiting v = refl
+mark-by other v = refl
+mark-by (loaded a) v = refl
+mark-by (stored a w) v = refl
+
+mark-faults : (n : ℕ) (f : Reference.Fate) (v : ℕ) → faults n (markedFate (markBy f v)) ≡ faults n f
+mark-faults n waiting v = refl
+mark-faults n other v = refl
+mark-faults n (loaded a) v = refl
+mark-faults n (stored a w) v = refl
+
+fate-by : (g : Reference.Fate) (v : ℕ) → hasExecuted g ≡ true → ((a w : ℕ) → g ≡ stored a w → v ≡ w)
+    → fateOfKind (kindOf g) (placeOf g) v ≡ g
+fate-by waiting v h e = absurd (let z : _≡_ {A = ℕ} 0 1 = cc in omega arith)
+fate-by other v h e = refl
+fate-by (loaded a) v h e = refl
+fate-by (stored a w) v h e = ap (stored a) (e a w refl)
+
+-- fates that agree are of one kind and place
+agree-both : (f g : Reference.Fate) → agree f g ≡ true → (kindOf f ≡ kindOf g) × (placeOf f ≡ placeOf g)
+agree-both f g e =
+    let both = and-eq-true-iff (eqb (kindOf f) (kindOf g)) (eqb (placeOf f) (placeOf g)) .0 e in
+    (eqb-true (kindOf f) (kindOf g) (both .0), eqb-true (placeOf f) (placeOf g) (both .1))
+
+-- ---- what the call comes to
+
+-- the answer of a commit of this entry
+abbrev pub committedSays : Entry → Answer
+committedSays e =
+    committed (e .index) (codeOf (e .instruction)) (target (e .instruction) (addressBy (e .fate))) (valueBy (e .fate))
+
+-- what an accepted commit comes to
+abbrev committing : Plain → List ℕ → Result
+committing X w =
+    let e = entryAt (X .entries) 0 in
+    record {
+      answer = committedSays e;
+      state = record {
+        buffer = retire (X .buffer);
+        entries = drop 1 (X .entries);
+        registers = registersAfter (X .registers) (e .instruction) (valueBy (e .fate));
+        count = X .count;
+        next = X .next;
+      };
+      memory = written w (fateOf (at (X .buffer .refs) 0));
+      list = [];
+    }
+
+-- the machine after the commit of the oldest: the window starts at stage o, with these marks and registers
+abbrev pub retiredBy : Machine → ℕ → List ℕ → List ℕ → List ℕ → Machine
+retiredBy m o loads stores registers =
+    let t = m .table in
+    record {
+      table = record {
+        banks = t .banks;
+        rows = t .rows;
+        stages = t .stages;
+        words = t .words;
+        oldest = o;
+        live = t .live - 1;
+        next = t .next;
+        executed = t .executed;
+        numbers = t .numbers;
+        addresses = t .addresses;
+        loads = loads;
+        stores = stores;
+        values = t .values;
+      };
+      window = m .window;
+      registers = registers;
+      count = m .count;
+      next = m .next;
+    }
+
+-- the three conditions of k that are live, of which the oldest waits or not and faults or not
+abbrev three : ℕ → Bool → Bool → ℕ
+three k idle fault = refusal (when (eqb k 0) 11 ∷ when idle 12 ∷ when fault 13 ∷ [])
+
+module _ (program : List ℕ) (m : Machine) (w : List ℕ) (passed : Passed m program (length w)) where
+  -- the oldest entry
+  abbrev own : Entry
+  own = getD (m .window) (m .table .oldest) blankEntry
+
+  abbrev number : ℕ
+  number =
+      let e = entryAt (plain m .entries) 0 in
+      three (length (plain m .entries)) (waits (e .fate)) (faults (m .table .words) (reference e))
+
+  commit-responds : respond program commit (plain m) w ≡ judged number (plain m) w [] (committing (plain m) w)
+  unfolding respond
+  commit-responds =
+      let e = entryAt (plain m .entries) 0 in
+      ap (λ (k : ℕ). judged k (plain m) w [] (committing (plain m) w))
+      (passed-lent m program w passed
+      (when (eqb (length (plain m .entries)) 0) 11 ∷ when (waits (e .fate)) 12
+      ∷ when (faults (m .table .words) (reference e)) 13
+      ∷ []))
+
+  turned-down : (k : ℕ) → number ≡ k → (k ≡ 0 → ⊥) → Meets program m commit w (refused k) m w []
+  turned-down k e some =
+      refused-meets program m commit w k (passed .sound)
+      (commit-responds ∙ ap (λ (j : ℕ). judged j (plain m) w [] (committing (plain m) w)) e
+      ∙ judged-refused k (plain m) w [] (committing (plain m) w) some)
+
+  -- refusal 11: nothing is live
+  pub empty-refused : m .table .live ≡ 0 → Meets program m commit w (refused 11) m w []
+  empty-refused e = turned-down 11 (rw (length-entries m, e)) (λ z. omega arith)
+
+  module _ (some : 0 < m .table .live) where
+    zeroth : stageOf (m .table) 0 ≡ m .table .oldest
+    zeroth = stage-zero (m .table .oldest) (m .table .stages) (passed .sound .rules .start)
+
+    oldest-entry : entryAt (plain m .entries) 0 ≡ own
+    oldest-entry = entry-at m 0 some ∙ ap (λ (s : ℕ). getD (m .window) s blankEntry) zeroth
+
+    number-is : number ≡ cond (waits (own .fate)) 12 (cond (faults (m .table .words) (reference own)) 13 0)
+    number-is =
+        ap₂ (λ (b : Bool) (e : Entry). cond b 11 (cond (waits (e .fate)) 12 (cond (faults (m .table .words) (reference e)) 13 0)))
+        (ap (λ (k : ℕ). eqb k 0) (length-entries m) ∙ ne-eqb (m .table .live) 0 (λ e. omega arith))
+        oldest-entry
+
+    -- refusal 12: the oldest waits
+    pub waiting-refused : waits (own .fate) ≡ true → Meets program m commit w (refused 12) m w []
+    waiting-refused e = turned-down 12 (number-is ∙ rw e) (λ z. omega arith)
+
+    agreed : agree (reference own) (fateOf (at (view (m .table) .refs) 0)) ≡ true
+    agreed =
+        ap (λ (s : ℕ). agree (reference (getD (m .window) s blankEntry)) (fateOf (at (view (m .table) .refs) 0))) (sym zeroth)
+        ∙ passed .sound .agrees 0 some
+
+    -- an oldest entry that does not wait has executed in the table too
+    executed-too : waits (own .fate) ≡ false → hasExecuted (fateOf (at (view (m .table) .refs) 0)) ≡ true
+    executed-too done =
+        executed-by (fateOf (at (view (m .table) .refs) 0))
+        ∙ ap (λ (k : ℕ). not (eqb k 4)) (sym (agree-both (reference own) (fateOf (at (view (m .table) .refs) 0)) agreed .0))
+        ∙ sym (executed-by (reference own))
+        ∙ not-false (hasExecuted (reference own)) (sym (waits-executed (own .instruction) (own .fate)) ∙ done)
+
+    module _ (done : waits (own .fate) ≡ false) where
+      -- what its entry and the table's word tell of its mark is its reference's fate
+      mark-told : markedFate (markBy (reference own) (value (m .table) (m .table .oldest)))
+          ≡ fateOf (at (view (m .table) .refs) 0)
+      mark-told =
+          let t = m .table in
+          let g = fateOf (at (view t .refs) 0) in
+          let both = agree-both (reference own) g agreed in
+          mark-by (reference own) (value t (t .oldest))
+          ∙ ap₂ (λ (k a : ℕ). fateOfKind k a (value t (t .oldest))) (both .0) (both .1)
+          ∙ fate-by g (value t (t .oldest)) (executed-too done)
+          (λ a v e. ap (value t) (sym zeroth) ∙ stored-word t 0 a v some e)
+
+      module _ (mark : Mark) (hm : mark ≡ markBy (reference own) (value (m .table) (m .table .oldest))) where
+        faults-same : faults (m .table .words) (markedFate mark) ≡ faults (m .table .words) (reference own)
+        faults-same =
+            ap (λ (x : Mark). faults (m .table .words) (markedFate x)) hm ∙ mark-faults (m .table .words) (reference own) _
+
+        -- refusal 13: its address is W or more
+        pub fault-refused : faults (m .table .words) (markedFate mark) ≡ true → Meets program m commit w (refused 13) m w []
+        fault-refused e = turned-down 13 (number-is ∙ rw (done, sym faults-same ∙ e)) (λ z. omega arith)
+
+        -- The machine and the memory that the oldest's commit leaves, with each part named: where the window starts, the
+        -- stages that stay, the two mark words, the registers.
+        pub commit-meets : faults (m .table .words) (markedFate mark) ≡ false
+            → let t = m .table in
+            (o rest code place v : ℕ) (loads stores registers memory : List ℕ)
+            → o ≡ stageOf t 1 → rest ≡ firsts o (t .stages) (t .live - 1) → loads ≡ within (rowsIn (t .banks)) (t .loads) rest
+            → stores ≡ within (rowsIn (t .banks)) (t .stores) rest → code ≡ codeOf (own .instruction)
+            → place ≡ target (own .instruction) (addressBy (own .fate)) → v ≡ valueBy (own .fate)
+            → registers ≡ registersAfter (m .registers) (own .instruction) v → memory ≡ written w (markedFate mark)
+            → Meets program m commit w (committed (own .index) code place v) (retiredBy m o loads stores registers) memory []
+        commit-meets fine o rest code place v loads stores registers memory ho hs hl hr hc hp hv hg hw =
+            let t = m .table in
+            let rules = passed .sound .rules in
+            let refs = view t .refs in
+            let rest′ : ℕ = firsts (stageOf t 1) (t .stages) (t .live - 1) in
+            let u : Machine =
+            retiredBy m (stageOf t 1) (within (rowsIn (t .banks)) (t .loads) rest′)
+            (within (rowsIn (t .banks)) (t .stores) rest′)
+            (registersAfter (m .registers) (own .instruction) (valueBy (own .fate))) in
+            let entries : entriesOf (m .window) (stageOf t 1) (t .stages) (length (drop 1 refs))
+            ≡ drop 1 (plain m .entries) =
+            ap (entriesOf (m .window) (stageOf t 1) (t .stages))
+            (length-drop 1 refs ∙ ap (λ (k : ℕ). k - 1) (length-refs t))
+            ∙ entries-drop (m .window) (t .oldest) (t .stages) (rules .start) (t .live) some (rules .live-bounded) in
+            let state : plain u ≡ committing (plain m) w .state =
+            plain-by u (retire (view t)) (retire-view t rules some)
+            ∙ ap₂
+            (λ (es : List Entry) (x : Entry).
+            record {
+              buffer = retire (view t);
+              entries = es;
+              registers = registersAfter (m .registers) (x .instruction) (valueBy (x .fate));
+              count = m .count;
+              next = m .next;
+            })
+            entries (sym oldest-entry) in
+            let none : number ≡ 0 = number-is ∙ rw (done, sym faults-same ∙ fine) in
+            rw (hw, hg, hv, hp, hc, hr, hl, hs, ho)
+            (accepted-meets program m commit w u (written w (markedFate mark)) []
+            (committedSays own) (committing (plain m) w) (passed .sound)
+            (commit-responds ∙ ap (λ (k : ℕ). judged k (plain m) w [] (committing (plain m) w)) none)
+            tt
+            (ap committedSays (sym oldest-entry))
+            state
+            (ap (written w) (ap markedFate hm ∙ mark-told))
+            refl
+            (reached u (committing (plain m) w .state) (retire-rules t rules some) state
+            (agreed-drop (plain m .entries) refs (sound-agreed m (passed .sound)))))

@@ -1,0 +1,436 @@
+-- An execute of position p on a machine that passed its validation (Passed). The refusals 7, 8 and 9 are the definition's. Else
+-- the entry waits, so its reference does (Sound), and the definition refuses only a stall (responds). Without one the table has
+-- the references that stay, the executing one with its new fate, by the engine's law, and the machine's window differs at that
+-- one stage: so the entries are those of the definition (new-entries), and agree with the table (new-sound).
+-- Assumes nothing.
+use mathlib.Core.Bool.{Bool, true, false, cond, not}
+use mathlib.Core.List.{List, [], _∷_}
+use mathlib.Core.Option.{Option, none, some}
+use mathlib.Core.Path.{_≡_, refl, sym, ap, ap₂, subst, _∙_}
+use Prim.Native.Nat.{ℕ, _≤_, _<_}
+use native.Mathlib.Omega.{arith}
+use lib.Dec.{eqb, leb, ltb}
+use lib.ListN.{length, getD, take, set}
+use lib.Seq.{length-take-le, getD-take, getD-set-same, getD-set-other}
+use borrow.Author.Tests.{eq-eqb, ne-eqb, eqb-true, eqb-false, le-leb, lt-leb, ltb-true}
+use Rattle.marks.specs.Stages.{has}
+use Rattle.marks.proofs.Turns.{stage-lt, stage-injective}
+use Rattle.table.specs.declared.Table.{Table}
+use Rattle.table.specs.Reference
+use Rattle.table.specs.Reference.{State, Ref, waiting, other, loaded, stored, blank, fateOf, at}
+use Rattle.table.specs.View.{stageOf, tabulate, view}
+use Rattle.table.specs.Rules.{Rules}
+use Rattle.table.proofs.Sizes.{sizes}
+use Rattle.table.proofs.Lists.{tabulate-take, tabulate-set}
+use Rattle.table.proofs.Fates.{length-refs}
+use Rattle.engine.proofs.Lengths.{Lengths}
+use Rattle.lookup.specs.Forwarding.{forwarded}
+use Rattle.lookup.specs.Outcome.{survivors, executes}
+use Rattle.engine.specs.declared.Action.{Action}
+use Rattle.engine.specs.declared.Action.the-variants.{Compute, LoadAt, StoreAt}
+use Rattle.engine.specs.declared.Effect.{Effect}
+use Rattle.engine.specs.Conditions.{when, refusal, hasExecuted}
+use Rattle.engine.specs.Contract.{refused, executed, judged}
+use Rattle.engine.specs.Execution.{fateBy, answerOf}
+use Rattle.engine.specs.computed.Effect.{effectAt, applyEffect}
+use Rattle.engine.proofs.Meeting.{judged-refused}
+use Rattle.engine.proofs.Fated.{executed-at}
+use Rattle.engine.proofs.Executed.{effect-left, effect-bounds, effect-value, effect-view, effect-rules}
+use Rattle.machine_model.specs.declared.Instruction.{Instruction}
+use Rattle.machine_model.specs.declared.Fate.{Fate}
+use Rattle.machine_model.specs.declared.Fate.the-variants.{Waiting, Executed}
+use Rattle.machine_model.specs.declared.Entry.{Entry}
+use Rattle.machine_model.specs.declared.Machine.{Machine}
+use Rattle.machine_model.specs.declared.Squashed.{Squashed}
+use Rattle.machine_model.specs.declared.Squashed.the-variants as squashed
+use Rattle.machine_model.specs.Program.{sOf}
+use Rattle.machine_model.specs.Window.{
+  blankEntry,
+  entryAt,
+  entryWith,
+  registerSeen,
+  referenceBy,
+  reference,
+  with₂,
+  evaluate,
+}
+use Rattle.machine_model.specs.Calls.{
+  Plain,
+  execute,
+  Result,
+  waits,
+  evaluated,
+  known,
+  unknown,
+  loadValue,
+  refetchIndex,
+  executing,
+}
+use Rattle.machine_model.specs.Calls.{survivorsOf, respond}
+use Rattle.machine_model.specs.Contract.{squashSays, entryOf, plain, agree, Sound, Meets}
+use Rattle.machine_model.specs.computed.Parts.{actionOf, second}
+use Rattle.machine_model.proofs.Sounding.{length-entries, entry-at}
+use Rattle.machine_model.proofs.Operands.{fateAfter, outcome-unready, outcome-ready, reference-ready, value-ready}
+use Rattle.machine_model.proofs.Answering.{Passed, passed-lent, refused-meets, accepted-meets}
+
+-- ---- fates
+
+agree-same : (f : Reference.Fate) → agree f f ≡ true
+agree-same waiting = refl
+agree-same other = refl
+agree-same (loaded a) = eq-eqb a a refl
+agree-same (stored a v) = eq-eqb a a refl
+
+pub agree-waiting : (f : Reference.Fate) → agree waiting f ≡ true → f ≡ waiting
+agree-waiting waiting e = refl
+agree-waiting other e = absurd (let z : _≡_ {A = ℕ} 0 1 = cc in omega arith)
+agree-waiting (loaded a) e = absurd (let z : _≡_ {A = ℕ} 0 1 = cc in omega arith)
+agree-waiting (stored a v) e = absurd (let z : _≡_ {A = ℕ} 0 1 = cc in omega arith)
+
+pub waits-waiting : (i : Instruction) (f : Fate) → waits f ≡ true → referenceBy i f ≡ waiting
+waits-waiting i Waiting e = refl
+waits-waiting i (Executed v a) e = absurd (let z : _≡_ {A = ℕ} 0 1 = cc in omega arith)
+
+-- ---- numbers
+
+-- the number of the first condition of an execute past the validation
+abbrev number : Bool → Bool → Bool → Bool → ℕ
+number a b c d = refusal (when a 7 ∷ when b 8 ∷ when c 9 ∷ when d 10 ∷ [])
+
+number-absent : (a b c d : Bool) → a ≡ true → number a b c d ≡ 7
+number-absent a b c d e = rw e
+
+number-done : (a b c d : Bool) → a ≡ false → b ≡ true → number a b c d ≡ 8
+number-done a b c d e f = rw (e, f)
+
+number-unready : (a b c d : Bool) → a ≡ false → b ≡ false → c ≡ true → number a b c d ≡ 9
+number-unready a b c d e f g = rw (e, f, g)
+
+number-passed : (a b c d : Bool) → a ≡ false → b ≡ false → c ≡ false → number a b c d ≡ cond d 10 0
+number-passed a b c d e f g = rw (e, f, g)
+
+squash-said : (b : Bool) (k : ℕ) → squashSays (cond b (squashed.From k) squashed.Nothing) ≡ cond b (some k) none
+squash-said true k = refl
+squash-said false k = refl
+
+module _ (m : Machine) (program w : List ℕ) (p : ℕ) (passed : Passed m program (length w)) where
+  abbrev now : Plain
+  now = plain m
+
+  -- the entry that executes
+  abbrev own : Entry
+  own = entryOf m p
+
+  -- the registers and the memory that it sees
+  abbrev registersSeen : ℕ → Option ℕ
+  registersSeen k = registerSeen (tabulate (entryOf m) p) k (some (getD (m .registers) k 0))
+
+  abbrev memorySeen : ℕ → ℕ
+  memorySeen a = forwarded (view (m .table)) w p a
+
+  -- what its instruction asks
+  abbrev pub asked : Option Action
+  asked =
+      let i = own .instruction in
+      with₂ (registersSeen (sOf i)) (registersSeen (second i)) (actionOf i)
+
+  -- the conditions 7 and 8; the fate that it comes to decides 9 and 10
+  abbrev absent : Bool
+  absent = leb (length (now .entries)) p
+
+  abbrev done : Bool
+  done = not (waits (entryAt (now .entries) p .fate))
+
+  abbrev stuck : Option Fate → Bool
+  stuck o = eqb (survivorsOf now p (known o)) 0
+
+  abbrev result : Option Fate → Result
+  result o =
+      judged (number absent done (unknown o) (stuck o)) now w [] (executing now w p (known o) (survivorsOf now p (known o)))
+
+  past-validate : respond program (execute p) now w ≡ result (evaluated now w p)
+  unfolding respond
+  past-validate =
+      let o = evaluated now w p in
+      ap (λ (k : ℕ). judged k now w [] (executing now w p (known o) (survivorsOf now p (known o))))
+      (passed-lent m program w passed (when absent 7 ∷ when done 8 ∷ when (unknown o) 9 ∷ when (stuck o) 10 ∷ []))
+
+  turned-down : (k : ℕ) → (k ≡ 0 → ⊥) → number absent done (unknown (evaluated now w p)) (stuck (evaluated now w p)) ≡ k
+      → Meets program m (execute p) w (refused k) m w []
+  turned-down k not-zero e =
+      let r = executing now w p (known (evaluated now w p)) (survivorsOf now p (known (evaluated now w p))) in
+      refused-meets program m (execute p) w k (passed .sound)
+      (past-validate ∙ ap (λ (j : ℕ). judged j now w [] r) e ∙ judged-refused k now w [] r not-zero)
+
+  -- refusal 7: nothing is live at this position
+  pub none-refused : m .table .live ≤ p → Meets program m (execute p) w (refused 7) m w []
+  none-refused h =
+      turned-down 7 (λ e. omega arith)
+      (number-absent absent done (unknown (evaluated now w p)) (stuck (evaluated now w p))
+      (le-leb (length (now .entries)) p (omega (arith, length-entries m))))
+
+  module _ (live : p < m .table .live) where
+    here : entryAt (now .entries) p ≡ own
+    here = entry-at m p live
+
+    is-live : absent ≡ false
+    is-live = lt-leb (length (now .entries)) p (omega (arith, length-entries m))
+
+    -- refusal 8: the entry has executed
+    pub executed-refused : waits (own .fate) ≡ false → Meets program m (execute p) w (refused 8) m w []
+    executed-refused e =
+        turned-down 8 (λ f. omega arith)
+        (number-done absent done (unknown (evaluated now w p)) (stuck (evaluated now w p)) is-live
+        (ap (λ (x : Entry). not (waits (x .fate))) here ∙ ap not e))
+
+    module _ (idle : waits (own .fate) ≡ true) where
+      still : done ≡ false
+      still = ap (λ (x : Entry). not (waits (x .fate))) here ∙ ap not idle
+
+      coming-is : evaluated now w p ≡ evaluate (own .instruction) registersSeen memorySeen
+      coming-is =
+          ap₂
+          (λ (x : Entry) (es : List Entry).
+          evaluate (x .instruction) (λ (k : ℕ). registerSeen es k (some (getD (m .registers) k 0))) memorySeen)
+          here
+          (tabulate-take (entryOf m) (m .table .live) p (omega arith))
+
+      -- refusal 9: an operand is not known yet
+      pub unready-refused : asked ≡ none → Meets program m (execute p) w (refused 9) m w []
+      unready-refused e =
+          let out : evaluated now w p ≡ none = coming-is ∙ outcome-unready (own .instruction) registersSeen memorySeen e in
+          turned-down 9 (λ f. omega arith)
+          (number-unready absent done (unknown (evaluated now w p)) (stuck (evaluated now w p)) is-live still (ap unknown out))
+
+      module _ (act : Action) (ready : asked ≡ some act) where
+        -- the value answered, the entry's fate, and how many stay
+        abbrev value : ℕ
+        value = answerOf memorySeen act
+
+        abbrev fate : Fate
+        fate = fateAfter act value
+
+        abbrev left : ℕ
+        left = survivors (view (m .table)) p (fateBy act)
+
+        fate-is : referenceBy (own .instruction) fate ≡ fateBy act
+        fate-is =
+            reference-ready (own .instruction) (registersSeen (sOf (own .instruction)))
+            (registersSeen (second (own .instruction))) act value ready
+
+        fate-at : referenceBy (entryAt (now .entries) p .instruction) fate ≡ fateBy act
+        fate-at = ap (λ (x : Entry). referenceBy (x .instruction) fate) here ∙ fate-is
+
+        value-at : loadValue (entryAt (now .entries) p .instruction) fate ≡ value
+        value-at =
+            ap (λ (x : Entry). loadValue (x .instruction) fate) here
+            ∙ value-ready (own .instruction) (registersSeen (sOf (own .instruction)))
+            (registersSeen (second (own .instruction))) act memorySeen ready
+
+        -- the definition refuses only a stall
+        responds :
+            respond program (execute p) now w ≡ judged (cond (eqb left 0) 10 0) now w [] (executing now w p fate left)
+        responds =
+            past-validate ∙ ap result (coming-is ∙ outcome-ready (own .instruction) registersSeen memorySeen act ready)
+            ∙ ap (λ (k : ℕ). judged (number absent done false (eqb k 0)) now w [] (executing now w p fate k))
+            (ap (survivors (view (m .table)) p) fate-at)
+            ∙ ap (λ (j : ℕ). judged j now w [] (executing now w p fate left))
+            (number-passed absent done false (eqb left 0) is-live still refl)
+
+        start : m .table .oldest < m .table .stages
+        start = passed .sound .rules .start
+
+        room : m .table .live ≤ m .table .stages
+        room = passed .sound .rules .live-bounded
+
+        -- the table's reference waits as the entry does
+        idle-too : has (m .table .executed) (stageOf (m .table) p) ≡ false
+        idle-too =
+            let there = fateOf (at (view (m .table) .refs) p) in
+            sym (executed-at (m .table) p live)
+            ∙ ap hasExecuted
+            (agree-waiting there
+            (ap (λ (f : Reference.Fate). agree f there) (sym (waits-waiting (own .instruction) (own .fate) idle))
+            ∙ passed .sound .agrees p live))
+
+        module _ (q : Effect) (found : q ≡ effectAt (m .table) p w act) where
+          left-is : q .left ≡ left
+          left-is = ap (λ (x : Effect). x .left) found ∙ effect-left (m .table) (passed .sound .rules) p live w act
+
+          -- refusal 10: no row is to be had
+          pub stall-refused : q .left ≡ 0 → Meets program m (execute p) w (refused 10) m w []
+          stall-refused e =
+              refused-meets program m (execute p) w 10 (passed .sound)
+              (responds
+              ∙ ap (λ (b : Bool). judged (cond b 10 0) now w [] (executing now w p fate left))
+              (eq-eqb left 0 (sym left-is ∙ e)))
+
+        module _ (full : length (m .window) ≡ 16) (lengths : Lengths (m .table))
+            (stays : effectAt (m .table) p w act .left ≡ 0 → ⊥) where
+          abbrev effect : Effect
+          effect = effectAt (m .table) p w act
+
+          abbrev after : Table
+          after = applyEffect (m .table) effect (stageOf (m .table) p)
+
+          -- the table after it, by the engine's law
+          rules : Rules after
+          rules = effect-rules (m .table) (passed .sound .rules) p live w lengths idle-too act stays
+
+          same : view after ≡ executes (view (m .table)) p (fateBy act)
+          same = effect-view (m .table) (passed .sound .rules) p live w lengths idle-too act stays
+
+          live-is : effect .left ≡ left
+          live-is = effect-left (m .table) (passed .sound .rules) p live w act
+
+          bounds : (p < left) × (left ≤ m .table .live)
+          bounds =
+              let b = effect-bounds (m .table) (passed .sound .rules) p live w act stays in
+              (omega (arith, live-is, b .0), omega (arith, live-is, b .1))
+
+          -- the machine after it
+          abbrev next : Machine
+          next =
+              record {
+                table = after;
+                window = set (m .window) (stageOf (m .table) p) (entryWith own fate);
+                registers = m .registers;
+                count = m .count;
+                next = cond (ltb (effect .left) (m .table .live)) (entryOf m (effect .left) .index) (m .next);
+              }
+
+          length-left : length (take left (view (m .table) .refs)) ≡ left
+          length-left =
+              length-take-le left (view (m .table) .refs) (omega (arith, bounds .1, length-refs (m .table)))
+
+          stage-small : stageOf (m .table) p < length (m .window)
+          stage-small =
+              let t = m .table in
+              omega (
+                arith,
+                full,
+                stage-lt (t .oldest) (t .stages) start p (omega (arith, room)),
+                sizes (t .banks) (t .rows) (t .stages) (t .words) (passed .sound .rules .sizes) .stages,
+              )
+
+          entry-here : entryOf next p ≡ entryWith own fate
+          entry-here = getD-set-same (m .window) (stageOf (m .table) p) (entryWith own fate) blankEntry stage-small
+
+          entry-there : (q : ℕ) → q < m .table .live → (q ≡ p → ⊥) → entryOf next q ≡ entryOf m q
+          entry-there q h differ =
+              getD-set-other (m .window) (stageOf (m .table) p) (stageOf (m .table) q) (entryWith own fate) blankEntry
+              (λ e.
+              differ
+              (stage-injective (m .table .oldest) (m .table .stages) start q p (omega (arith, room)) (omega (arith, room))
+              e))
+
+          new-entries : plain next .entries ≡ executing now w p fate left .state .entries
+          new-entries =
+              ap (tabulate (entryOf next)) live-is
+              ∙ sym (tabulate-take (entryOf next) (m .table .live) left (bounds .1))
+              ∙ ap (take left)
+              (sym
+              (tabulate-set (entryOf m) (entryOf next) (m .table .live) p (entryWith own fate) live entry-here entry-there))
+              ∙ ap (λ (x : Entry). take left (set (now .entries) p (entryWith x fate))) (sym here)
+
+          new-next : next .next ≡ refetchIndex now left
+          new-next =
+              ap (λ (k : ℕ). cond (ltb k (m .table .live)) (entryOf m k .index) (m .next)) live-is
+              ∙ go (ltb left (m .table .live)) refl
+              ∙ ap (λ (n : ℕ). cond (ltb left n) (entryAt (now .entries) left .index) (m .next)) (sym (length-entries m))
+            where
+              go : (b : Bool) → ltb left (m .table .live) ≡ b
+                  → cond b (entryOf m left .index) (m .next) ≡ cond b (entryAt (now .entries) left .index) (m .next)
+              go true e = ap (λ (x : Entry). x .index) (sym (entry-at m left (ltb-true left (m .table .live) e)))
+              go false e = refl
+
+          new-plain : plain next ≡ executing now w p fate left .state
+          new-plain =
+              let built : State → List Entry → ℕ → Plain = λ P es n.
+              record { buffer = P; entries = es; registers = m .registers; count = m .count; next = n } in
+              ap (λ (P : State). built P (plain next .entries) (next .next))
+              (same ∙ ap (executes (view (m .table)) p) (sym fate-at))
+              ∙ ap₂ (built (executing now w p fate left .state .buffer)) new-entries new-next
+
+          new-said :
+              executed (cond (effect .load) (effect .value) 0)
+              (squashSays (cond (ltb (effect .left) (m .table .live)) (squashed.From (effect .left)) squashed.Nothing))
+              ≡ executing now w p fate left .answer
+          new-said =
+              ap₂ executed (effect-value (m .table) (passed .sound .rules) p live w act stays ∙ sym value-at)
+              (ap₂ (λ (k n : ℕ). squashSays (cond (ltb k n) (squashed.From k) squashed.Nothing)) live-is
+              (sym (length-entries m))
+              ∙ squash-said (ltb left (length (now .entries))) left)
+
+          new-sound : Sound next
+          new-sound = record { rules = rules; agrees = λ q h. go q (omega (arith, live-is)) (eqb q p) refl }
+            where
+              refs : List Ref
+              refs = take left (view (m .table) .refs)
+
+              go : (q : ℕ) → q < left → (b : Bool) → eqb q p ≡ b
+                  → agree (reference (entryOf next q)) (fateOf (at (view after .refs) q)) ≡ true
+              go q h true e =
+                  subst (λ (j : ℕ). agree (reference (entryOf next j)) (fateOf (at (view after .refs) j)) ≡ true)
+                  (sym (eqb-true q p e))
+                  (ap₂ agree (ap reference entry-here ∙ fate-is)
+                  (ap (λ (P : State). fateOf (at (P .refs) p)) same
+                  ∙ ap fateOf (getD-set-same refs p _ blank (omega (arith, bounds .0, length-left))))
+                  ∙ agree-same (fateBy act))
+              go q h false e =
+                  let differ = eqb-false q p e in
+                  ap₂ agree (ap reference (entry-there q (omega (arith, bounds .1)) differ))
+                  (ap (λ (P : State). fateOf (at (P .refs) q)) same
+                  ∙ ap fateOf (getD-set-other refs p q _ blank differ ∙ getD-take left (view (m .table) .refs) q blank h))
+                  ∙ passed .sound .agrees q (omega (arith, bounds .1))
+
+          accepted :
+              Meets program m (execute p) w
+              (executed (cond (effect .load) (effect .value) 0)
+              (squashSays (cond (ltb (effect .left) (m .table .live)) (squashed.From (effect .left)) squashed.Nothing)))
+              next
+              w
+              []
+          accepted =
+              accepted-meets program m (execute p) w next w [] _ (executing now w p fate left) (passed .sound)
+              (responds
+              ∙ ap (λ (b : Bool). judged (cond b 10 0) now w [] (executing now w p fate left))
+              (ne-eqb left 0 (λ e. stays (live-is ∙ e))))
+              tt new-said new-plain refl refl new-sound
+
+          -- the entry's fate as the code writes it
+          effect-fate : Executed (effect .value) (effect .address) ≡ fate
+          effect-fate = go act stays
+            where
+              go : (x : Action) → (effectAt (m .table) p w x .left ≡ 0 → ⊥)
+                  → Executed (effectAt (m .table) p w x .value) (effectAt (m .table) p w x .address)
+                  ≡ fateAfter x (answerOf memorySeen x)
+              go (Compute v) s = refl
+              go (LoadAt a) s =
+                  ap (λ (v : ℕ). Executed v a) (effect-value (m .table) (passed .sound .rules) p live w (LoadAt a) s)
+              go (StoreAt a v) s = refl
+
+      -- the machine with this table, the entry at stage s with this fate, and this index to go on with
+      abbrev ended : Table → ℕ → Fate → ℕ → Machine
+      ended after s f n =
+          record {
+            table = after;
+            window = set (m .window) s (entryWith (getD (m .window) s blankEntry) f);
+            registers = m .registers;
+            count = m .count;
+            next = n;
+          }
+
+      -- the entry executes
+      pub execute-meets : length (m .window) ≡ 16 → Lengths (m .table) → (act : Action) → asked ≡ some act
+          → (s : ℕ) → s ≡ stageOf (m .table) p → (q : Effect) → q ≡ effectAt (m .table) p w act → (q .left ≡ 0 → ⊥)
+          → (after : Table) → after ≡ applyEffect (m .table) q s → (v : ℕ) → v ≡ cond (q .load) (q .value) 0
+          → (gone : Squashed) → gone ≡ cond (ltb (q .left) (m .table .live)) (squashed.From (q .left)) squashed.Nothing
+          → (n : ℕ) → n ≡ cond (ltb (q .left) (m .table .live)) (entryOf m (q .left) .index) (m .next)
+          → Meets program m (execute p) w (executed v (squashSays gone))
+          (ended after s (Executed (q .value) (q .address)) n) w []
+      execute-meets full lengths act ready s hs q hq stays after ha v hv gone hg n hn =
+          let some-left : effectAt (m .table) p w act .left ≡ 0 → ⊥ =
+          λ z. stays (ap (λ (k : Effect). k .left) hq ∙ z) in
+          rw (hg, hn, ha, hv, hs, hq, effect-fate act ready full lengths some-left)
+          (accepted act ready full lengths some-left)

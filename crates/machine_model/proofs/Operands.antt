@@ -1,0 +1,184 @@
+-- Operands: what a register holds for an entry, and what its instruction asks with them.
+-- The nearest older writer of a register decides what it holds, and is what the search by position finds (held-found): by
+-- induction on the positions, since one entry more at the young end is one more turn of the search (held-next). An
+-- instruction's outcome is the fate after what it asks, with a load's word (outcome-wanted): by the instruction and its
+-- operands. What it then is to the buffer, and the value answered, go by the instruction too.
+-- Assumes nothing.
+use mathlib.Core.Bool.{Bool, true, false, cond}
+use mathlib.Core.List.{List, [], _∷_, _++_}
+use mathlib.Core.Option.{Option, none, some, Option·map}
+use mathlib.Core.Path.{_≡_, refl, sym, ap, _∙_}
+use Prim.Native.Nat.{ℕ, zero, suc, _-_, _<_}
+use native.Mathlib.Omega.{arith}
+use lib.Dec.{eqb}
+use lib.ListN.{getD}
+use borrow.Author.Tests.{ne-eqb}
+use Rattle.marks.specs.Circle.{stage}
+use Rattle.table.specs.View.{tabulate}
+use Rattle.lookup.specs.computed.Search.{find}
+use Rattle.engine.specs.Execution.{fateBy, answerOf}
+use Rattle.machine_model.specs.declared.Instruction.{Instruction}
+use Rattle.machine_model.specs.declared.Instruction.the-variants.{Add, Sum, Load, Store}
+use Rattle.machine_model.specs.declared.Fate.{Fate}
+use Rattle.machine_model.specs.declared.Fate.the-variants.{Executed}
+use Rattle.machine_model.specs.declared.Entry.{Entry}
+use Rattle.machine_model.specs.Program.{sOf, destination}
+use Rattle.engine.specs.declared.Action.the-variants.{Compute, LoadAt, StoreAt}
+use Rattle.engine.specs.declared.Action.{Action}
+use Rattle.machine_model.specs.Window.{
+  blankEntry,
+  isRegister,
+  writesTo,
+  valueOf,
+  registerSeen,
+  referenceBy,
+  with₂,
+  evaluate,
+}
+use Rattle.machine_model.specs.Calls.{loadValue}
+use Rattle.machine_model.specs.computed.Parts.{registerNumber, destinationAt, writer, entriesOf, actionOf, second}
+
+-- the entry's fate after it, where a load took v
+abbrev pub fateAfter : Action → ℕ → Fate
+fateAfter (Compute x) v = Executed x 0
+fateAfter (LoadAt a) v = Executed v a
+fateAfter (StoreAt a x) v = Executed x a
+
+pub held-snoc : (es : List Entry) (e : Entry) (k : ℕ) (w : Option ℕ)
+    → registerSeen (es ++ (e ∷ [])) k w ≡ cond (writesTo (e .instruction) k) (valueOf (e .fate)) (registerSeen es k w)
+unfolding registerSeen
+held-snoc [] e k w = refl
+held-snoc (d ∷ es) e k w = held-snoc es e k (cond (writesTo (d .instruction) k) (valueOf (d .fate)) w)
+
+-- 8, which stands for no register, is no register's number
+writes-number : (o : Option ℕ) (k : ℕ) → k < 8 → isRegister o k ≡ eqb (registerNumber o) k
+writes-number none k h = sym (ne-eqb 8 k (λ e. omega arith))
+writes-number (some d) k h = refl
+
+-- one turn of a search that finds nothing, and of one that finds position q
+turn-none : {A : Type 0} (t : Bool) (p w : ℕ) (here older base : A) → cond t (suc p) w ≡ 0 → (w ≡ 0 → older ≡ base)
+    → cond t here older ≡ base
+turn-none true p w here older base e next = absurd (omega arith)
+turn-none false p w here older base e next = next e
+
+turn-at : {A : Type 0} (t : Bool) (p w q : ℕ) (v : ℕ → A) (older : A) → cond t (suc p) w ≡ suc q
+    → (w ≡ suc q → older ≡ v q) → cond t (v p) older ≡ v q
+turn-at true p w q v older e next = let s : p ≡ q = omega arith in ap v s
+turn-at false p w q v older e next = next e
+
+-- the entry at position p of a window by stage
+abbrev entryBy : List Entry → ℕ → ℕ → ℕ → Entry
+entryBy window oldest stages p = getD window (stage oldest stages p) blankEntry
+
+-- `into` has the destinations of the entries before position p
+abbrev Packed : List Entry → ℕ → ℕ → List ℕ → ℕ → Type 0
+Packed window oldest stages into p = (q : ℕ) → q < p → getD into q 0 ≡ destinationAt window oldest stages q
+
+module _ (window : List Entry) (oldest stages : ℕ) (into : List ℕ) (k : ℕ) (small : k < 8) (base : Option ℕ) where
+  held-next : (p : ℕ) → Packed window oldest stages into (suc p)
+      → registerSeen (entriesOf window oldest stages (suc p)) k base
+      ≡ cond (eqb (getD into p 0) k) (valueOf (entryBy window oldest stages p .fate))
+      (registerSeen (entriesOf window oldest stages p) k base)
+  unfolding tabulate
+  held-next p packed =
+      let e = entryBy window oldest stages p in
+      held-snoc (entriesOf window oldest stages p) e k base
+      ∙ ap (λ (t : Bool). cond t (valueOf (e .fate)) (registerSeen (entriesOf window oldest stages p) k base))
+      (writes-number (destination (e .instruction)) k small
+      ∙ ap (λ (d : ℕ). eqb d k) (sym (packed p (omega arith))))
+
+  held-none : (p : ℕ) → Packed window oldest stages into p → writer into k p ≡ 0
+      → registerSeen (entriesOf window oldest stages p) k base ≡ base
+  unfolding find tabulate registerSeen
+  held-none zero packed e = refl
+  held-none (suc p) packed e =
+      held-next p packed
+      ∙ turn-none (eqb (getD into p 0) k) p (writer into k p)
+      (valueOf (entryBy window oldest stages p .fate)) (registerSeen (entriesOf window oldest stages p) k base) base e
+      (held-none p (λ q h. packed q (omega arith)))
+
+  held-at : (p q : ℕ) → Packed window oldest stages into p → writer into k p ≡ suc q
+      → registerSeen (entriesOf window oldest stages p) k base ≡ valueOf (getD window (stage oldest stages q) blankEntry .fate)
+  unfolding find
+  held-at zero q packed e = absurd (omega arith)
+  held-at (suc p) q packed e =
+      held-next p packed
+      ∙ turn-at (eqb (getD into p 0) k) p (writer into k p) q
+      (λ (r : ℕ). valueOf (entryBy window oldest stages r .fate)) (registerSeen (entriesOf window oldest stages p) k base) e
+      (held-at p q (λ r h. packed r (omega arith)))
+
+  -- what the search came to decides what the register holds
+  pub held-found : (p w : ℕ) → Packed window oldest stages into p → w ≡ writer into k p
+      → (w ≡ 0 → registerSeen (entriesOf window oldest stages p) k base ≡ base)
+      × ((w ≡ 0 → ⊥) → (s : ℕ) → s ≡ stage oldest stages (w - 1)
+      → registerSeen (entriesOf window oldest stages p) k base ≡ valueOf (getD window s blankEntry .fate))
+  held-found p w packed found = (
+    λ e. held-none p packed (sym found ∙ e),
+    λ some-writer s at.
+        let e : w ≡ suc (w - 1) = omega arith in
+        held-at p (w - 1) packed (sym found ∙ e)
+        ∙ ap (λ (q : ℕ). valueOf (getD window q blankEntry .fate)) (sym at),
+  )
+
+-- one operand twice
+twice : (x : Option ℕ) (f : ℕ → ℕ → Action) (g : ℕ → ℕ → Fate) (h : Action → Fate) (imm : ℕ)
+    → ((a : ℕ) → g a imm ≡ h (f a a)) → with₂ x (some imm) g ≡ Option·map h (with₂ x x f)
+twice none f g h imm e = refl
+twice (some a) f g h imm e = ap some (e a)
+
+-- two operands
+both : (x y : Option ℕ) (f : ℕ → ℕ → Action) (g : ℕ → ℕ → Fate) (h : Action → Fate)
+    → ((a b : ℕ) → g a b ≡ h (f a b)) → with₂ x y g ≡ Option·map h (with₂ x y f)
+both none y f g h e = refl
+both (some a) none f g h e = refl
+both (some a) (some b) f g h e = ap some (e a b)
+
+pub outcome-wanted : (i : Instruction) (ρ : ℕ → Option ℕ) (μ : ℕ → ℕ)
+    → evaluate i ρ μ
+    ≡ Option·map (λ (x : Action). fateAfter x (answerOf μ x)) (with₂ (ρ (sOf i)) (ρ (second i)) (actionOf i))
+outcome-wanted (Add d s imm) ρ μ = twice (ρ s) _ _ _ imm (λ a. refl)
+outcome-wanted (Sum d s r) ρ μ = both (ρ s) (ρ r) _ _ _ (λ a b. refl)
+outcome-wanted (Load d s imm) ρ μ = twice (ρ s) _ _ _ imm (λ a. refl)
+outcome-wanted (Store d s imm) ρ μ = both (ρ s) (ρ d) _ _ _ (λ a b. refl)
+
+pub outcome-unready : (i : Instruction) (ρ : ℕ → Option ℕ) (μ : ℕ → ℕ)
+    → with₂ (ρ (sOf i)) (ρ (second i)) (actionOf i) ≡ none → evaluate i ρ μ ≡ none
+outcome-unready i ρ μ e = outcome-wanted i ρ μ ∙ ap (Option·map (λ (x : Action). fateAfter x (answerOf μ x))) e
+
+pub outcome-ready : (i : Instruction) (ρ : ℕ → Option ℕ) (μ : ℕ → ℕ) (act : Action)
+    → with₂ (ρ (sOf i)) (ρ (second i)) (actionOf i) ≡ some act → evaluate i ρ μ ≡ some (fateAfter act (answerOf μ act))
+outcome-ready i ρ μ act e = outcome-wanted i ρ μ ∙ ap (Option·map (λ (x : Action). fateAfter x (answerOf μ x))) e
+
+-- known operands are two numbers
+ready-numbers : (x y : Option ℕ) (f : ℕ → ℕ → Action) (act : Action) → with₂ x y f ≡ some act
+    → (a : ℕ) × (b : ℕ) × (f a b ≡ act)
+ready-numbers none y f act e = absurd (let z : _≡_ {A = ℕ} 0 1 = cc in omega arith)
+ready-numbers (some a) none f act e = absurd (let z : _≡_ {A = ℕ} 0 1 = cc in omega arith)
+ready-numbers (some a) (some b) f act e = (a, b, cc)
+
+reference-after : (i : Instruction) (x y v : ℕ)
+    → referenceBy i (fateAfter (actionOf i x y) v) ≡ fateBy (actionOf i x y)
+reference-after (Add d s imm) x y v = refl
+reference-after (Sum d s r) x y v = refl
+reference-after (Load d s imm) x y v = refl
+reference-after (Store d s imm) x y v = refl
+
+pub reference-ready : (i : Instruction) (x y : Option ℕ) (act : Action) (v : ℕ)
+    → with₂ x y (actionOf i) ≡ some act → referenceBy i (fateAfter act v) ≡ fateBy act
+reference-ready i x y act v e =
+    let n = ready-numbers x y (actionOf i) act e in
+    rw (n .2) at (reference-after i (n .0) (n .1) v)
+
+value-after : (i : Instruction) (x y : ℕ) (μ : ℕ → ℕ)
+    → loadValue i (fateAfter (actionOf i x y) (answerOf μ (actionOf i x y))) ≡ answerOf μ (actionOf i x y)
+value-after (Add d s imm) x y μ = refl
+value-after (Sum d s r) x y μ = refl
+value-after (Load d s imm) x y μ = refl
+value-after (Store d s imm) x y μ = refl
+
+-- the value that an execute answers is the word that the action reads
+pub value-ready : (i : Instruction) (x y : Option ℕ) (act : Action) (μ : ℕ → ℕ)
+    → with₂ x y (actionOf i) ≡ some act → loadValue i (fateAfter act (answerOf μ act)) ≡ answerOf μ act
+value-ready i x y act μ e =
+    let n = ready-numbers x y (actionOf i) act e in
+    rw (n .2) at (value-after i (n .0) (n .1) μ)

@@ -1,0 +1,130 @@
+-- What every call of the machine promises, for every machine, program, memory, position, limit and list.
+-- Assumes nothing.
+use mathlib.Core.Path.{_≡_}
+use mathlib.Core.Bool.{Bool, true, _&&_}
+use mathlib.Core.List.{List, []}
+use mathlib.Core.Option.{Option, none, some}
+use Prim.Native.Nat.{ℕ, _/_, _<_}
+use lib.Dec.{eqb}
+use lib.ListN.{length, getD, replicate}
+use Rattle.table.specs.declared.Table.{Table}
+use Rattle.table.specs.Reference
+use Rattle.table.specs.Reference.{waiting, other, loaded, stored, fateOf, at}
+use Rattle.table.specs.View.{stageOf, tabulate, view}
+use Rattle.table.specs.Rules.{Rules}
+use Rattle.engine.specs.Conditions.{refusal}
+use Rattle.engine.specs.Contract
+use Rattle.engine.specs.Contract.{refused, done, named, executed, committed, finished}
+use Rattle.engine.specs.Opening
+use Rattle.machine_model.specs.declared.Entry.{Entry}
+use Rattle.machine_model.specs.declared.Machine.{Machine}
+use Rattle.machine_model.specs.declared.Squashed.{Squashed}
+use Rattle.machine_model.specs.declared.Squashed.the-variants as squashed
+use Rattle.machine_model.specs.declared.DoneAnswer.{DoneAnswer}
+use Rattle.machine_model.specs.declared.DoneAnswer.the-variants as done-answer
+use Rattle.machine_model.specs.declared.IssueAnswer.{IssueAnswer}
+use Rattle.machine_model.specs.declared.IssueAnswer.the-variants as issue-answer
+use Rattle.machine_model.specs.declared.ExecuteAnswer.{ExecuteAnswer}
+use Rattle.machine_model.specs.declared.ExecuteAnswer.the-variants as execute-answer
+use Rattle.machine_model.specs.declared.CommitAnswer.{CommitAnswer}
+use Rattle.machine_model.specs.declared.CommitAnswer.the-variants as commit-answer
+use Rattle.machine_model.specs.declared.FinishAnswer.{FinishAnswer}
+use Rattle.machine_model.specs.declared.FinishAnswer.the-variants as finish-answer
+use Rattle.machine_model.specs.Window.{blankEntry, reference}
+use Rattle.machine_model.specs.Calls.{Plain, Call, issue, execute, squash, commit, finish, Answer, respond, openChecks}
+use Rattle.machine_model.specs.Calls.{opened}
+
+-- 01's numbers and values for each case of the code's answers
+
+abbrev pub doneSays : DoneAnswer → Answer
+doneSays (done-answer.Refused k) = refused k
+doneSays done-answer.Done = done
+
+abbrev pub issueSays : IssueAnswer → Answer
+issueSays (issue-answer.Refused k) = refused k
+issueSays (issue-answer.Issued p) = named p
+
+abbrev pub squashSays : Squashed → Option ℕ
+squashSays squashed.Nothing = none
+squashSays (squashed.From p) = some p
+
+abbrev pub executeSays : ExecuteAnswer → Answer
+executeSays (execute-answer.Refused k) = refused k
+executeSays (execute-answer.Executed v s) = executed v (squashSays s)
+
+abbrev pub commitSays : CommitAnswer → Answer
+commitSays (commit-answer.Refused k) = refused k
+commitSays (commit-answer.Committed i c r v) = committed i c r v
+
+abbrev pub finishSays : FinishAnswer → Answer
+finishSays (finish-answer.Refused k) = refused k
+finishSays (finish-answer.Finished n) = finished n
+
+-- the entry at position p of a machine's window
+abbrev pub entryOf : Machine → ℕ → Entry
+entryOf m p = getD (m .window) (stageOf (m .table) p) blankEntry
+
+-- the plain state of a machine
+abbrev pub plain : Machine → Plain
+plain m =
+    record {
+      buffer = view (m .table);
+      entries = tabulate (entryOf m) (m .table .live);
+      registers = m .registers;
+      count = m .count;
+      next = m .next;
+    }
+
+-- a fate as two numbers: executed or not and with which mark, and the address
+abbrev pub kindOf : Reference.Fate → ℕ
+kindOf waiting = 4
+kindOf other = 0
+kindOf (loaded a) = 1
+kindOf (stored a v) = 2
+
+abbrev pub placeOf : Reference.Fate → ℕ
+placeOf waiting = 0
+placeOf other = 0
+placeOf (loaded a) = a
+placeOf (stored a v) = a
+
+-- two fates agree: executed or not, at which address and with which mark; words are not compared
+abbrev pub agree : Reference.Fate → Reference.Fate → Bool
+agree f g = eqb (kindOf f) (kindOf g) && eqb (placeOf f) (placeOf g)
+
+-- the table keeps its own rules, and window and table agree
+pub record Sound (m : Machine) : Type 0 where
+  pub rules : Rules (m .table)
+  pub agrees : (p : ℕ) → p < m .table .live → agree (reference (entryOf m p)) (fateOf (at (view (m .table) .refs) p)) ≡ true
+
+-- the list lent to a call
+abbrev pub lentTo : Call → List ℕ
+lentTo issue = []
+lentTo (execute p) = []
+lentTo (squash p) = []
+lentTo commit = []
+lentTo (finish k list) = list
+
+-- The call c with this program on machine m and memory w said `said` and handed back machine u, memory v and the list as
+-- `kept`. As in the buffer, of an accepted call u may be any machine with this plain state that is sound: free are a row's
+-- place in its bank and what stands where nothing is live, entries of the window among it.
+abbrev pub Meets : List ℕ → Machine → Call → List ℕ → Answer → Machine → List ℕ → List ℕ → Type 0
+Meets program m c w said u v kept = Contract.Meets Sound plain m (respond program c (plain m) w) w (lentTo c) said u v kept
+
+-- a machine of this number of instructions over this table, with nothing in its window
+abbrev pub emptyMachine : Table → ℕ → Machine
+emptyMachine table count =
+    record { table = table; window = replicate 16 blankEntry; registers = replicate 8 0; count = count; next = 0 }
+
+abbrev pub freshMachine : ℕ → ℕ → ℕ → ℕ → ℕ → Machine
+freshMachine banks rows stages words count = emptyMachine (Opening.fresh banks rows stages words) count
+
+-- An opening said `said` and handed back machine u. A refused opening hands back a machine without stages, on which every call
+-- is refused with 2.
+pub record Opens (banks rows stages words : ℕ) (program w : List ℕ) (said : Answer) (u : Machine) : Type 0 where
+  pub refuses : (k : ℕ) → (k ≡ 0 → ⊥) → refusal (openChecks banks rows stages words program w) ≡ k
+      → (said ≡ refused k) × (u ≡ freshMachine 0 0 0 0 0)
+  pub opens : refusal (openChecks banks rows stages words program w) ≡ 0
+      → (said ≡ done) × (u ≡ freshMachine banks rows stages words (length program / 4))
+  pub state : refusal (openChecks banks rows stages words program w) ≡ 0
+      → Sound u × (plain u ≡ opened banks rows stages words program)

@@ -1,0 +1,79 @@
+-- The window of the machine over plain lists: operands, what an instruction comes to, and what a commit of it changes.
+-- Assumes nothing.
+use mathlib.Core.Bool.{Bool, false, cond}
+use mathlib.Core.List.{List, [], _∷_}
+use mathlib.Core.Option.{Option, none, some}
+use Prim.Native.Nat.{ℕ, suc}
+use lib.Dec.{eqb}
+use lib.ListN.{getD}
+use Rattle.table.specs.Reference
+use Rattle.table.specs.Reference.{waiting, other, loaded, stored}
+use Rattle.machine_model.specs.declared.Instruction.{Instruction}
+use Rattle.machine_model.specs.declared.Instruction.the-variants.{Add, Sum, Load, Store}
+use Rattle.machine_model.specs.declared.Kind.{Kind}
+use Rattle.machine_model.specs.declared.Kind.the-variants.{Computing, Loading, Storing}
+use Rattle.machine_model.specs.declared.Fate.{Fate}
+use Rattle.machine_model.specs.declared.Fate.the-variants.{Waiting, Executed}
+use Rattle.machine_model.specs.declared.Entry.{Entry}
+use Rattle.machine_model.specs.Program.{kind, destination, sum}
+
+-- an entry that stands where none is
+abbrev pub blankEntry : Entry
+blankEntry = record { instruction = Add 0 0 0; index = 0; fate = Waiting }
+
+abbrev pub entryAt : List Entry → ℕ → Entry
+entryAt es p = getD es p blankEntry
+
+-- the entry with another fate
+abbrev pub entryWith : Entry → Fate → Entry
+entryWith e f = record { instruction = e .instruction; index = e .index; fate = f }
+
+-- the index that an entry leads to: the following instruction
+abbrev pub successor : Entry → ℕ
+successor e = suc (e .index)
+
+-- register k is the one written
+abbrev pub isRegister : Option ℕ → ℕ → Bool
+isRegister none k = false
+isRegister (some d) k = eqb d k
+
+-- the instruction writes register k
+abbrev pub writesTo : Instruction → ℕ → Bool
+writesTo i k = isRegister (destination i) k
+
+-- the value of an executed entry; not yet known of a waiting one
+abbrev pub valueOf : Fate → Option ℕ
+valueOf Waiting = none
+valueOf (Executed v a) = some v
+
+-- what register k holds after these entries, where it held w before them: the nearest writer decides
+unfoldable pub registerSeen : List Entry → ℕ → Option ℕ → Option ℕ
+registerSeen [] k w = w
+registerSeen (e ∷ es) k w = registerSeen es k (cond (writesTo (e .instruction) k) (valueOf (e .fate)) w)
+
+-- what an executed instruction of this kind is to the buffer
+abbrev pub accessBy : Kind → ℕ → ℕ → Reference.Fate
+accessBy Computing v a = other
+accessBy Loading v a = loaded a
+accessBy Storing v a = stored a v
+
+abbrev pub referenceBy : Instruction → Fate → Reference.Fate
+referenceBy i Waiting = waiting
+referenceBy i (Executed v a) = accessBy (kind i) v a
+
+abbrev pub reference : Entry → Reference.Fate
+reference e = referenceBy (e .instruction) (e .fate)
+
+-- two known numbers
+abbrev pub with₂ : {A : Type 0} → Option ℕ → Option ℕ → (ℕ → ℕ → A) → Option A
+with₂ none y f = none
+with₂ (some x) none f = none
+with₂ (some x) (some y) f = some (f x y)
+
+-- What an instruction comes to where registers hold ρ and the memory is seen as μ, if its operands are known: its value and
+-- its address (0 where it has none).
+abbrev pub evaluate : Instruction → (ℕ → Option ℕ) → (ℕ → ℕ) → Option Fate
+evaluate (Add d s imm) ρ μ = with₂ (ρ s) (some imm) (λ x y. Executed (sum x y) 0)
+evaluate (Sum d s r) ρ μ = with₂ (ρ s) (ρ r) (λ x y. Executed (sum x y) 0)
+evaluate (Load d s imm) ρ μ = with₂ (ρ s) (some imm) (λ x y. Executed (μ (sum x y)) (sum x y))
+evaluate (Store d s imm) ρ μ = with₂ (ρ s) (ρ d) (λ x y. Executed y (sum x imm))

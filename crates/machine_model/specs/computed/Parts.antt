@@ -1,0 +1,147 @@
+-- What the parts of a call compute, as the code does it, over the arrays lent or passed to them.
+-- Assumes nothing.
+use mathlib.Core.Bool.{Bool, cond, not, _&&_}
+use mathlib.Core.List.{List, [], _∷_}
+use mathlib.Core.Option.{Option, none, some}
+use Prim.Native.Nat.{ℕ, zero, suc, _+_, _*_}
+use lib.Dec.{eqb, ltb}
+use lib.Bits.{bitOr}
+use lib.ListN.{length, getD}
+use Rattle.marks.specs.Stages.{has}
+use Rattle.marks.specs.Circle.{stage}
+use Rattle.marks.specs.Counting.{every}
+use Rattle.table.specs.Reference
+use Rattle.table.specs.Reference.{waiting, other, loaded, stored}
+use Rattle.table.specs.View.{tabulate}
+use Rattle.table.specs.Limits.{rowsMost, rowsIn}
+use Rattle.table.specs.Bank.{bank}
+use Rattle.table.specs.computed.Check.{marksBelow, lawfulBy}
+use Rattle.lookup.specs.declared.Mark.{Mark}
+use Rattle.lookup.specs.declared.Mark.the-variants as mark
+use Rattle.lookup.specs.declared.Mark.the-variants.{Absent}
+use Rattle.lookup.specs.computed.Search.{find}
+use Rattle.engine.specs.declared.Action.{Action}
+use Rattle.engine.specs.declared.Action.the-variants as action
+use Rattle.engine.specs.Conditions.{refusal, when}
+use Rattle.machine_model.specs.declared.Instruction.{Instruction}
+use Rattle.machine_model.specs.declared.Instruction.the-variants.{Add, Sum, Load, Store}
+use Rattle.machine_model.specs.declared.Entry.{Entry}
+use Rattle.machine_model.specs.declared.Operand.{Operand}
+use Rattle.machine_model.specs.declared.Operand.the-variants.{Unknown, Known}
+use Rattle.machine_model.specs.declared.Wanted.{Wanted}
+use Rattle.machine_model.specs.declared.Wanted.the-variants as wanted
+use Rattle.machine_model.specs.Program.{codeOf, dOf, sOf, immOf, destination, sum, programFits}
+use Rattle.machine_model.specs.Window.{blankEntry, reference}
+use Rattle.machine_model.specs.Calls.{matchesProgram}
+use Rattle.machine_model.specs.Contract.{kindOf, placeOf}
+
+-- the register that an instruction writes as a number; 8 where it writes none
+abbrev pub registerNumber : Option ℕ → ℕ
+registerNumber none = 8
+registerNumber (some d) = d
+
+-- that number of the entry at position q of a window by stage
+abbrev pub destinationAt : List Entry → ℕ → ℕ → ℕ → ℕ
+destinationAt window oldest stages q =
+    registerNumber (destination (getD window (stage oldest stages q) blankEntry .instruction))
+
+-- one more than the position of the nearest writer of register k older than position p, where `destinations` has those numbers
+-- by position; 0 where there is none
+abbrev pub writer : List ℕ → ℕ → ℕ → ℕ
+writer destinations k p = find (λ (q : ℕ). eqb (getD destinations q 0) k) p
+
+-- an operand as a number that may not be known yet
+abbrev pub asNumber : Operand → Option ℕ
+asNumber Unknown = none
+asNumber (Known v) = some v
+
+-- what an instruction with these operands asks
+abbrev pub actionOf : Instruction → ℕ → ℕ → Action
+actionOf (Add d s imm) x y = action.Compute (sum x imm)
+actionOf (Sum d s r) x y = action.Compute (sum x y)
+actionOf (Load d s imm) x y = action.LoadAt (sum x imm)
+actionOf (Store d s imm) x y = action.StoreAt (sum x imm) y
+
+-- the register of an instruction's second operand; of one that has none, the first again
+abbrev pub second : Instruction → ℕ
+second (Add d s imm) = s
+second (Sum d s r) = r
+second (Load d s imm) = s
+second (Store d s imm) = d
+
+-- the union of the sets f i, over the i below n that pass the test
+unfoldable pub union : (ℕ → Bool) → (ℕ → ℕ) → ℕ → ℕ
+union test f zero = 0
+union test f (suc n) = cond (test n) (bitOr (union test f n) (f n)) (union test f n)
+
+-- the stages that bear a mark of one kind in a row of bank b with address a
+abbrev pub marksAt : List ℕ → List ℕ → ℕ → ℕ → ℕ
+marksAt addresses marks b a =
+    union (λ (i : ℕ). eqb (getD addresses (b * rowsMost + i) 0) a) (λ (i : ℕ). getD marks (b * rowsMost + i) 0) rowsMost
+
+-- An entry with this kind and address agrees with the marks of stage s, where `marked` are the stages with a mark. A row
+-- of the address lies in its bank, so no other is read.
+abbrev pub agreesBy : ℕ → ℕ → ℕ → List ℕ → List ℕ → List ℕ → ℕ → ℕ → ℕ → Bool
+agreesBy banks executed marked addresses loads stores kind place s =
+    cond (eqb kind 4) (not (has executed s))
+    (cond (eqb kind 0) (has executed s && not (has marked s))
+    (cond (eqb kind 1) (has (marksAt addresses loads (bank banks place) place) s)
+    (has (marksAt addresses stores (bank banks place) place) s)))
+
+-- the same of the entries at the first k positions
+abbrev pub agreeingBy : ℕ → ℕ → ℕ → ℕ → List ℕ → List ℕ → List ℕ → List Entry → ℕ → Bool
+agreeingBy banks oldest stages executed addresses loads stores window k =
+    every
+    (λ (p : ℕ).
+    let f = reference (getD window (stage oldest stages p) blankEntry) in
+    agreesBy banks executed (marksBelow loads stores (rowsIn banks)) addresses loads stores (kindOf f) (placeOf f)
+    (stage oldest stages p))
+    k
+
+-- The entry's index is that of four numbers of the program, and they are its instruction's code, d, s and imm. Of a
+-- well-formed program of the opened number of instructions that is `like`.
+abbrev pub likeBy : List ℕ → Entry → Bool
+likeBy program e =
+    let i = e .instruction in
+    let k = e .index * 4 in
+    ltb (k + 3) (length program)
+    && (eqb (getD program k 0) (codeOf i) && eqb (getD program (k + 1) 0) (dOf i) && eqb (getD program (k + 2) 0) (sOf i)
+    && eqb (getD program (k + 3) 0) (immOf i))
+
+-- the same of the entries at the first k positions
+abbrev pub fittingBy : List ℕ → ℕ → ℕ → List Entry → ℕ → Bool
+fittingBy program oldest stages window k =
+    every (λ (p : ℕ). likeBy program (getD window (stage oldest stages p) blankEntry)) k
+
+-- the entries at the first k positions of a window by stage
+abbrev pub entriesOf : List Entry → ℕ → ℕ → ℕ → List Entry
+entriesOf window oldest stages k = tabulate (λ (p : ℕ). getD window (stage oldest stages p) blankEntry) k
+
+-- what an instruction at position p asks, if its operands are known
+abbrev pub wantedBy : Wanted → Option Action
+wantedBy wanted.Unready = none
+wantedBy (wanted.Ready x) = some x
+
+-- the conditions 2, 3 and 4, in that order, of a machine with these parts and a call lent a memory of this length
+abbrev pub validateBy : ℕ → ℕ → ℕ → ℕ → ℕ → ℕ → ℕ → List ℕ → List ℕ → List ℕ → List Entry → ℕ → List ℕ → ℕ → ℕ
+validateBy banks rows stages words oldest live executed addresses loads stores window count program lent =
+    refusal
+    (when
+    (not
+    (lawfulBy banks rows stages words oldest live executed addresses loads stores
+    && agreeingBy banks oldest stages executed addresses loads stores window live))
+    2
+    ∷ when (not (eqb lent words)) 3
+    ∷ when
+    (not
+    (programFits program && eqb (length program) (4 * count)
+    && every (λ (p : ℕ). matchesProgram program count (getD window (stage oldest stages p) blankEntry)) live))
+    4
+    ∷ [])
+
+-- the mark of the oldest stage, by what its entry is to the buffer; v is the word that the table has at that stage
+abbrev pub markBy : Reference.Fate → ℕ → Mark
+markBy waiting v = Absent
+markBy other v = Absent
+markBy (loaded a) v = mark.Load a
+markBy (stored a x) v = mark.Store a v

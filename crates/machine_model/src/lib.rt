@@ -1,0 +1,121 @@
+// The window machine's declared types, what its calls mean (specs/) and the laws that the proofs of its functions cite
+// (proofs/). No code: the functions stand in the crates from machine_isa to machine_finish, and `machine` is what a user
+// calls.
+use engine::Action;
+use table::STAGES;
+use table::Table;
+
+// The number of registers, and the most numbers that a program has: four for each of 256 instructions.
+pub const REGISTERS: usize = 8;
+
+pub const PROGRAM: usize = 1024;
+
+// An instruction: codes 1 (A), 2 (P), 3 (L) and 4 (S), each with d, s and imm.
+pub enum Instruction {
+    Add(u32, u32, u32),
+    Sum(u32, u32, u32),
+    Load(u32, u32, u32),
+    Store(u32, u32, u32),
+}
+
+// What an instruction does: a register becomes a number, a register becomes a word of memory, a word becomes a register.
+pub enum Kind {
+    Computing,
+    Loading,
+    Storing,
+}
+
+// What became of an entry (its status): waiting, or executed with its value and address.
+pub enum Fate {
+    Waiting,
+    Executed(u32, u32),
+}
+
+// A window entry: the instruction, its index in the program, and what became of it.
+pub struct Entry {
+    pub instruction: Instruction,
+    pub index: u32,
+    pub fate: Fate,
+}
+
+// Entries stand at their stages. `count` is the number of instructions opened, `next` the index of the next to issue.
+pub struct Machine {
+    pub table: Table,
+    pub window: [Entry; STAGES],
+    pub registers: [u32; REGISTERS],
+    pub count: u32,
+    pub next: u32,
+}
+
+// From which position on entries were squashed, or that none was.
+pub enum Squashed {
+    Nothing,
+    From(usize),
+}
+
+// The answer of `open` and `squash`: a refusal's number, or that it was done.
+pub enum DoneAnswer {
+    Refused(u32),
+    Done,
+}
+
+// The answer of `issue`: the new position.
+pub enum IssueAnswer {
+    Refused(u32),
+    Issued(usize),
+}
+
+// The answer of `execute`: the value (of a load, else 0), and what was squashed.
+pub enum ExecuteAnswer {
+    Refused(u32),
+    Executed(u32, Squashed),
+}
+
+// The answer of `commit`: index, code, register (for S the address) and value.
+pub enum CommitAnswer {
+    Refused(u32),
+    Committed(u32, u32, u32, u32),
+}
+
+// The answer of `finish`: the number of commits.
+pub enum FinishAnswer {
+    Refused(u32),
+    Finished(usize),
+}
+
+pub struct DoneResult {
+    pub answer: DoneAnswer,
+    pub machine: Machine,
+}
+
+pub struct IssueResult {
+    pub answer: IssueAnswer,
+    pub machine: Machine,
+}
+
+pub struct ExecuteResult {
+    pub answer: ExecuteAnswer,
+    pub machine: Machine,
+}
+
+pub struct CommitResult {
+    pub answer: CommitAnswer,
+    pub machine: Machine,
+}
+
+pub struct FinishResult {
+    pub answer: FinishAnswer,
+    pub machine: Machine,
+}
+
+// An operand: the number, or that its writer has not executed.
+pub enum Operand {
+    Unknown,
+    Known(u32),
+}
+
+// What an instruction asks, where its operands are known.
+pub enum Wanted {
+    Unready,
+    Ready(Action),
+}

@@ -1,0 +1,2 @@
+-- FinishRuns: a turn of the runs, made of its parts.
+pub mod FinishRuns

@@ -1,0 +1,252 @@
+// Long fixed mixes of calls of the machine, for the benchmark: calls of every kind, and finishes.
+//
+// Each returns a checksum of every answer. benchmarks/inplace.c has the same mixes over the same calls in C, so
+// only numbers and lent slices cross the boundary. What is promised is that the checksum is that of the answers
+// of as many calls, each of which met its contract (specs/Turns.antt).
+use machine::Machine;
+use table::STAGES;
+ghost use mathlib.Core.Path.{_≡_};
+ghost use Prim.Native.Nat.{ℕ};
+ghost use Rattle.machine_model.specs.Contract as machine;
+ghost use Rattle.mixes.specs.Turns.{added, cut, answered};
+ghost use Rattle.mixes_machine.specs.Turns.{MachineTurns, Runs};
+
+// The checksum with an answer of the machine.
+fn with_opened(sum: u64, answer: machine::DoneAnswer) -> u64
+    ensures { λ r. ⌜ r ≡ answered added sum (machine.doneSays answer) ⌝ }
+{
+    match answer {
+        machine::DoneAnswer::Refused(k) => mixes::with(sum, k as u64),
+        machine::DoneAnswer::Done => mixes::with(sum, 100),
+    }
+}
+
+fn with_issued(sum: u64, answer: machine::IssueAnswer) -> u64
+    ensures { λ r. ⌜ r ≡ answered added sum (machine.issueSays answer) ⌝ }
+{
+    match answer {
+        machine::IssueAnswer::Refused(k) => mixes::with(sum, k as u64),
+        machine::IssueAnswer::Issued(p) => mixes::with(mixes::with(sum, 100), p as u64),
+    }
+}
+
+fn with_cut(sum: u64, squashed: machine::Squashed) -> u64
+    ensures { λ r. ⌜ r ≡ cut added sum (machine.squashSays squashed) ⌝ }
+{
+    match squashed {
+        machine::Squashed::Nothing => sum,
+        machine::Squashed::From(p) => mixes::with(sum, p as u64),
+    }
+}
+
+fn with_ran(sum: u64, answer: machine::ExecuteAnswer) -> u64
+    ensures { λ r. ⌜ r ≡ answered added sum (machine.executeSays answer) ⌝ }
+{
+    match answer {
+        machine::ExecuteAnswer::Refused(k) => mixes::with(sum, k as u64),
+        machine::ExecuteAnswer::Executed(v, squashed) => {
+            with_cut(mixes::with(mixes::with(sum, 100), v as u64), squashed)
+        }
+    }
+}
+
+fn with_committed(sum: u64, answer: machine::CommitAnswer) -> u64
+    ensures { λ r. ⌜ r ≡ answered added sum (machine.commitSays answer) ⌝ }
+{
+    match answer {
+        machine::CommitAnswer::Refused(k) => mixes::with(sum, k as u64),
+        machine::CommitAnswer::Committed(i, c, r, v) => {
+            mixes::with(
+                mixes::with(mixes::with(mixes::with(sum, i as u64), c as u64), r as u64),
+                v as u64,
+            )
+        }
+    }
+}
+
+fn with_finished(sum: u64, answer: machine::FinishAnswer) -> u64
+    ensures { λ r. ⌜ r ≡ answered added sum (machine.finishSays answer) ⌝ }
+{
+    match answer {
+        machine::FinishAnswer::Refused(k) => mixes::with(sum, k as u64),
+        machine::FinishAnswer::Finished(n) => mixes::with(mixes::with(sum, 100), n as u64),
+    }
+}
+
+// The position to execute or squash: the drawn one, or the oldest where it has executed or none is live.
+fn position_drawn(oldest: usize, stages: usize, live: usize, executed: u32, drawn: usize) -> usize {
+    if stages == 0 {
+        return 0;
+    }
+    if live == 0 {
+        return 0;
+    }
+    let p = drawn % live;
+    let s = std::num::wrapping_add_usize(oldest, p) % stages % STAGES;
+    if (executed >> s) % 2 == 1 {
+        return 0;
+    }
+    p
+}
+
+// An entry with one part changed.
+fn spoil_entry(e: machine::Entry, what: usize, x: usize) -> machine::Entry {
+    let instruction = e.instruction;
+    let index = e.index;
+    let fate = e.fate;
+    let address = mixes::address_drawn(x);
+    if what == 0 {
+        return machine::Entry {
+            instruction,
+            index: std::num::wrapping_add_u32(index, 1),
+            fate,
+        };
+    }
+    if what == 1 {
+        return machine::Entry {
+            instruction,
+            index,
+            fate: machine::Fate::Waiting,
+        };
+    }
+    if what == 2 {
+        return machine::Entry {
+            instruction,
+            index,
+            fate: machine::Fate::Executed(1, address),
+        };
+    }
+    machine::Entry {
+        instruction: machine::Instruction::Load(2, 0, address),
+        index,
+        fate,
+    }
+}
+
+// A machine with its table, an entry or its count changed.
+fn spoil_machine(m: Machine, what: usize, x: usize) -> Machine {
+    let mut n = m;
+    if what < 10 {
+        let t = m.table;
+        n.table = mixes::spoil(t, what, x);
+        return n;
+    }
+    if what == 10 {
+        n.count = std::num::wrapping_add_u32(m.count, 1);
+        return n;
+    }
+    let window = m.window;
+    let s = x / 128 % STAGES;
+    let e = window[s];
+    n.window[s] = spoil_entry(e, x % 4, x);
+    n
+}
+
+// `calls` turns of a machine with these sizes. Where its run is over it is opened anew; else of 32 turns 12
+// are an issue, 8 a commit, 11 an execution and 1 a squash. In the turn after which `when` are left, the
+// machine is spoiled instead.
+#[no_mangle]
+pub extern "C" fn mixes_machine(
+    banks: usize,
+    rows: usize,
+    stages: usize,
+    words: usize,
+    calls: u32,
+    seed: u64,
+    when: u32,
+    part: usize,
+    by: usize,
+    program: &[u32],
+    memory: &mut [u32],
+) -> u64
+    ensures { λ r. ⌜ MachineTurns banks rows stages words (now (program .entry)) (now (memory .entry)) when calls
+        (now (memory .exit)) r ⌝ }
+{
+    let opened = machine::open(banks, rows, stages, words, program, memory);
+    let said = opened.answer;
+    let mut m = opened.machine;
+    let mut sum = with_opened(0, said);
+    let mut draw = seed;
+    let mut left = calls;
+    while 0 < left {
+        left -= 1;
+        draw = mixes::advance(draw);
+        if left == when {
+            m = spoil_machine(m, part, by);
+            continue;
+        }
+        let t = m.table;
+        if (t.live == 0) & (m.count <= m.next) {
+            let again = machine::open(banks, rows, stages, words, program, memory);
+            let said = again.answer;
+            m = again.machine;
+            sum = with_opened(sum, said);
+            continue;
+        }
+        let kind = mixes::bits(draw) % 32;
+        if kind < 12 {
+            let issued = machine::issue(m, program);
+            let said = issued.answer;
+            m = issued.machine;
+            sum = with_issued(sum, said);
+            continue;
+        }
+        if kind < 20 {
+            let committed = machine::commit(m, program, memory);
+            let said = committed.answer;
+            m = committed.machine;
+            sum = with_committed(sum, said);
+            continue;
+        }
+        let p = position_drawn(
+            t.oldest,
+            t.stages,
+            t.live,
+            t.executed,
+            mixes::bits(draw) / 32,
+        );
+        if kind < 31 {
+            let ran = machine::execute(m, program, p, memory);
+            let said = ran.answer;
+            m = ran.machine;
+            sum = with_ran(sum, said);
+            continue;
+        }
+        let squashed = machine::squash(m, program, p);
+        let said = squashed.answer;
+        m = squashed.machine;
+        sum = with_opened(sum, said);
+    }
+    sum
+}
+
+// `runs` times: a machine is opened, and finished with at most `limit` commits.
+#[no_mangle]
+pub extern "C" fn mixes_finish(
+    banks: usize,
+    rows: usize,
+    stages: usize,
+    words: usize,
+    runs: u32,
+    limit: u32,
+    program: &[u32],
+    memory: &mut [u32],
+    list: &mut [u32],
+) -> u64
+    ensures { λ r. ⌜ Runs banks rows stages words (now (program .entry)) limit runs (now (memory .exit)) (now (list .exit)) r
+        (now (memory .entry)) (now (list .entry)) 0 ⌝ }
+{
+    let mut sum: u64 = 0;
+    let mut left = runs;
+    while 0 < left {
+        left -= 1;
+        let opened = machine::open(banks, rows, stages, words, program, memory);
+        let m = opened.machine;
+        let said = opened.answer;
+        sum = with_opened(sum, said);
+        let finished = machine::finish(m, program, limit, memory, list);
+        let answer = finished.answer;
+        sum = with_finished(sum, answer);
+    }
+    sum
+}

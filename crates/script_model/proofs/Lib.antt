@@ -1,0 +1,28 @@
+-- Reading. Items: what a line says, by its numbers in an array and by its bytes in a slice. Heads: what the first line asks for.
+-- Programs: the program's lines, as the loop reads them. Fitting: the program read is well formed. Zeros: a list made zeros.
+-- Printing. Writing: texts written one after another. Endings: how a script ends, by the machine that it left. Closings: the
+-- words of memory and the end line.
+-- Playing. Telling: a call's commits are printed before what the calls after it print. CallOnPlayer: what one call records and
+-- counts, from the machine's contract. Phases: a step that reads no line. Limits: a finish as finishes with a list of one
+-- commit. StepContract: what a line asks for, the player's steps from their parts, and steps in a row. Openings: a script with a
+-- good first line opens the machine. Beginnings: what `begin` answers.
+-- The theorems. Pieces: the pieces together are what the script prints. Truth: the commits printed are the sequential run's.
+-- Examples: 01's sample, computed.
+pub mod Items
+pub mod Heads
+pub mod Programs
+pub mod Fitting
+pub mod Zeros
+pub mod Writing
+pub mod Endings
+pub mod Closings
+pub mod Telling
+pub mod CallOnPlayer
+pub mod Phases
+pub mod Limits
+pub mod StepContract
+pub mod Openings
+pub mod Beginnings
+pub mod Pieces
+pub mod Truth
+pub mod Examples

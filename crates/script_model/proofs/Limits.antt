@@ -1,0 +1,383 @@
+-- A finish of a script, with limit k and room for all its commits, as finishes with a list of one commit. Of the list
+-- a turn asks only whether four places are left (Turn), so with four places the first turn is the same, and then the
+-- list is full: no commit was made, and the whole finish stops there too (told-none), or one, and the whole finish goes
+-- on from there with limit k - 1 (told-one). A linked state is not refused (response), and the lines of a way with one
+-- commit more begin with that commit's (telling-onward). With the machine's contract these are the steps of a player
+-- that is finishing (limit-reached, finish-stops, finish-goes).
+-- Assumes nothing.
+use mathlib.Core.Path.{_≡_, refl, sym, ap, ap₂, subst, _∙_}
+use mathlib.Core.Bool.{Bool, true, false, cond, _||_}
+use mathlib.Core.List.{List, [], _++_, append-assoc}
+use Prim.Native.Nat.{ℕ, zero, suc, _+_, _-_, _*_, _≤_, _<_}
+use native.Mathlib.Nat.{add-zero}
+use native.Mathlib.Omega.{arith}
+use lib.ListN.{length, getD, drop, replicate, length-replicate}
+use lib.Dec.{ltb}
+use lib.Seq.{take-at}
+use borrow.Author.Tests.{le-ltb, ltb-true, ltb-false}
+use Rattle.engine.specs.Contract.{refused, named, executed, done, committed, finished}
+use Rattle.engine.specs.Conditions.{refusal}
+use Rattle.engine.proofs.Meeting.{judged-accepted}
+use Rattle.machine_model.specs.declared.Machine.{Machine}
+use Rattle.machine_model.specs.Calls.{
+  Plain,
+  Call,
+  finish,
+  Answer,
+  Result,
+  finishChecks,
+  commits,
+  ready,
+  programDone,
+  Drain,
+  afterCommit,
+}
+use Rattle.machine_model.specs.Calls.{continueOn, drainStopped, finishes, respond}
+use Rattle.machine_model.specs.Contract.{plain, Meets}
+use Rattle.machine_model.proofs.Finishes.{finishes-limit, finishes-short}
+use Rattle.theorem.specs.Play.{recorded, commitsIn, Played}
+use Rattle.theorem.specs.computed.Linked.{Linked}
+use Rattle.theorem.proofs.Links.{lent-passes}
+use Rattle.theorem.proofs.Finishing.{respond-links}
+use Rattle.script_model.specs.declared.Phase.the-variants.{Stepping, Finishing}
+use Rattle.script_model.specs.Language.{Steps, before}
+use Rattle.script_model.specs.Output.{commitLine, commitLines, transcript}
+use Rattle.script_model.specs.Playing.{standing, Writes, longest}
+use Rattle.script_model.specs.computed.Invariant.{Usable}
+use Rattle.script_model.proofs.Writing.{writes-none}
+use Rattle.script_model.proofs.Phases.{Goes}
+use Rattle.script_model.proofs.Telling.{told-before}
+
+-- ---- one turn
+
+-- wherever four places are left, the first turn stops at the same state, or makes the same commit
+data Turn (program : List ℕ) (j : ℕ) (X : Plain) (w : List ℕ) : Type 0 where
+  stops : (Y : Plain) → ((places : ℕ) → 4 ≤ places → finishes program (suc j) places X w ≡ drainStopped Y w)
+      → Turn program j X w
+  goes : (i c r v : ℕ) (Z : Plain) (z : List ℕ)
+      → ((places : ℕ) → 4 ≤ places
+      → finishes program (suc j) places X w ≡ afterCommit i c r v (finishes program j (places - 4) Z z))
+      → Turn program j X w
+
+module _ (program : List ℕ) (j : ℕ) (X : Plain) (w : List ℕ) where
+  abbrev answer : Answer
+  answer = commits program (ready program X w) w .answer
+
+  -- a turn by whether the program is over, and by the answer to its commit
+  abbrev turning : Bool → Answer → ℕ → Drain
+  turning t a places =
+      let r = commits program (ready program X w) w in
+      cond t (drainStopped X w)
+      (continueOn a (drainStopped (ready program X w) w) (finishes program j (places - 4) (r .state) (r .memory)))
+
+  unfolds : (places : ℕ) → 4 ≤ places
+      → finishes program (suc j) places X w ≡ turning (programDone X) answer places
+  unfolding finishes
+  unfolds places room =
+      ap (λ (b : Bool). turning (b || programDone X) answer places) (le-ltb places 4 room)
+
+  answered : (a : Answer)
+      → ((places : ℕ) → 4 ≤ places → finishes program (suc j) places X w ≡ turning false a places) → Turn program j X w
+  answered (refused k) e = stops (ready program X w) e
+  answered (named p) e = stops (ready program X w) e
+  answered (executed v s) e = stops (ready program X w) e
+  answered done e = stops (ready program X w) e
+  answered (committed i c r v) e =
+      goes i c r v (commits program (ready program X w) w .state) (commits program (ready program X w) w .memory) e
+  answered (finished n) e = stops (ready program X w) e
+
+  turn : Turn program j X w
+  turn = go (programDone X) refl
+    where
+      go : (t : Bool) → programDone X ≡ t → Turn program j X w
+      go true e = stops X (λ places room. unfolds places room ∙ ap (λ (t : Bool). turning t answer places) e)
+      go false e =
+          answered answer (λ places room. unfolds places room ∙ ap (λ (t : Bool). turning t answer places) e)
+
+-- ---- what a finish answers and records
+
+-- the numbers are four a commit
+abbrev Four : Drain → Type 0
+Four W = length (W .numbers) ≡ W .commits * 4
+
+fours : (program : List ℕ) (k places : ℕ) (X : Plain) (w : List ℕ)
+    → Four (finishes program k places X w)
+fours program zero places X w = subst Four (sym (finishes-limit program 0 places X w refl)) refl
+fours program (suc j) places X w =
+    by-places (ltb places 4) refl (λ Z z. fours program j (places - 4) Z z)
+  where
+    by-turn : 4 ≤ places → Turn program j X w
+        → ((Z : Plain) (z : List ℕ) → Four (finishes program j (places - 4) Z z))
+        → Four (finishes program (suc j) places X w)
+    by-turn room (stops Y e) rest = subst Four (sym (e places room)) refl
+    by-turn room (goes i c r v Z z e) rest =
+        subst Four (sym (e places room)) (let h = rest Z z in omega arith)
+
+    by-places : (t : Bool) → ltb places 4 ≡ t
+        → ((Z : Plain) (z : List ℕ) → Four (finishes program j (places - 4) Z z))
+        → Four (finishes program (suc j) places X w)
+    by-places true e rest =
+        subst Four (sym (finishes-short program (suc j) places X w (ltb-true places 4 e))) refl
+    by-places false e rest = by-turn (ltb-false places 4 e) (turn program j X w) rest
+
+abbrev ended : List ℕ → Drain → Result
+ended list W =
+    record {
+      answer = finished (W .commits);
+      state = W .state;
+      memory = W .memory;
+      list = W .numbers ++ drop (length (W .numbers)) list;
+    }
+
+-- a linked state is not refused
+response : (program : List ℕ) (X : Plain) (w : List ℕ) → Linked program X w → (k : ℕ) (list : List ℕ)
+    → respond program (finish k list) X w ≡ ended list (finishes program k (length list) X w)
+unfolding respond
+response program X w linked k list =
+    judged-accepted (refusal (finishChecks program X w)) X w list (ended list (finishes program k (length list) X w))
+    (lent-passes program X w linked [])
+
+-- ---- what is told
+
+-- nothing recorded yet
+abbrev at : Plain → List ℕ → ℕ → Played
+at X w n = record { state = X; memory = w; record′ = []; commits = n }
+
+-- a finish as a script has it: with room for all of its commits
+abbrev whole : ℕ → Call
+whole k = finish k (replicate (k * 4) 0)
+
+-- the lines of a way's numbers, and what is told from its end
+abbrev telling : List ℕ → ℕ → Steps → Drain → List ℕ
+telling program n more W = commitLines (W .numbers) ++ transcript program (at (W .state) (W .memory) (n + W .commits)) more
+
+whole-told : (program : List ℕ) (X : Plain) (w : List ℕ) → Linked program X w → (k n : ℕ) (more : Steps)
+    → transcript program (at X w n) (before (whole k) more) ≡ telling program n more (finishes program k (k * 4) X w)
+whole-told program X w linked k n more =
+    let list : List ℕ = replicate (k * 4) 0 in
+    let W = finishes program k (length list) X w in
+    let h : Four W = fours program k (length list) X w in
+    told-before program (at X w n) (whole k) more (W .numbers) (W .state) (W .memory) (n + W .commits)
+    (ap
+    (λ (r : Result).
+    let x : Played =
+    record {
+      state = r .state;
+      memory = r .memory;
+      record′ = recorded (r .answer) (r .list);
+      commits = n + commitsIn (r .answer);
+    } in
+    x)
+    (response program X w linked k list)
+    ∙ ap
+    (λ (l : List ℕ).
+    let x : Played = record { state = W .state; memory = W .memory; record′ = l; commits = n + W .commits } in
+    x)
+    (take-at (W .numbers) (drop (length (W .numbers)) list) (W .commits * 4) h))
+    (omega arith)
+    ∙ ap (λ (places : ℕ). telling program n more (finishes program k places X w)) (length-replicate (k * 4) 0)
+
+-- a way that stopped at once tells nothing
+telling-stopped : (program : List ℕ) (n : ℕ) (more : Steps) (Y : Plain) (w : List ℕ)
+    → telling program n more (drainStopped Y w) ≡ transcript program (at Y w n) more
+unfolding commitLines
+telling-stopped program n more Y w = rw (add-zero n)
+
+-- a way with one commit more tells that commit first
+telling-onward : (program : List ℕ) (n : ℕ) (more : Steps) (i c r v : ℕ) (W : Drain)
+    → telling program n more (afterCommit i c r v W) ≡ commitLine i c r v ++ telling program (suc n) more W
+unfolding commitLines
+telling-onward program n more i c r v W =
+    append-assoc (commitLine i c r v) (commitLines (W .numbers))
+    (transcript program (at (W .state) (W .memory) (n + suc (W .commits))) more)
+    ∙ ap
+    (λ (q : ℕ).
+    commitLine i c r v ++ (commitLines (W .numbers) ++ transcript program (at (W .state) (W .memory) q) more))
+    (let q : n + suc (W .commits) ≡ suc n + W .commits = omega arith in q)
+
+-- a limit of 0 does nothing
+pub told-nothing : (program : List ℕ) (X : Plain) (w : List ℕ) → Linked program X w → (n : ℕ) (more : Steps)
+    → transcript program (at X w n) (before (whole 0) more) ≡ transcript program (at X w n) more
+told-nothing program X w linked n more =
+    whole-told program X w linked 0 n more
+    ∙ ap (telling program n more) (finishes-limit program 0 0 X w refl)
+    ∙ telling-stopped program n more X w
+
+-- the line of the commit at the start of a list
+abbrev pub firstLine : List ℕ → List ℕ
+firstLine l = commitLine (getD l 0 0) (getD l 1 0) (getD l 2 0) (getD l 3 0)
+
+-- a finish with a list of one commit, by its first turn
+module _ (program : List ℕ) (X : Plain) (w : List ℕ) (linked : Linked program X w) (j : ℕ) (list : List ℕ)
+    (four : length list ≡ 4) (n : ℕ) (more : Steps) where
+  abbrev short : Result
+  short = respond program (finish (suc j) list) X w
+
+  abbrev None : Result → Type 0
+  None r = transcript program (at X w n) (before (whole (suc j)) more) ≡ transcript program (at (r .state) (r .memory) n) more
+
+  abbrev One : Result → Type 0
+  One r =
+      transcript program (at X w n) (before (whole (suc j)) more)
+      ≡ firstLine (r .list) ++ transcript program (at (r .state) (r .memory) (suc n)) (before (whole j) more)
+
+  -- the long finish, by its first turn
+  first-told : (W : Drain) → finishes program (suc j) (suc j * 4) X w ≡ W
+      → transcript program (at X w n) (before (whole (suc j)) more) ≡ telling program n more W
+  first-told W e = whole-told program X w linked (suc j) n more ∙ ap (telling program n more) e
+
+  stops-short : (Y : Plain) → ((places : ℕ) → 4 ≤ places → finishes program (suc j) places X w ≡ drainStopped Y w)
+      → short ≡ ended list (drainStopped Y w)
+  stops-short Y e =
+      response program X w linked (suc j) list ∙ ap (ended list) (e (length list) (omega (arith, four)))
+
+  goes-short : (i c r v : ℕ) (Z : Plain) (z : List ℕ)
+      → ((places : ℕ) → 4 ≤ places
+      → finishes program (suc j) places X w ≡ afterCommit i c r v (finishes program j (places - 4) Z z))
+      → short ≡ ended list (afterCommit i c r v (drainStopped Z z))
+  goes-short i c r v Z z e =
+      response program X w linked (suc j) list
+      ∙ ap (ended list)
+      (e (length list) (omega (arith, four))
+      ∙ ap (afterCommit i c r v) (finishes-short program j (length list - 4) Z z (omega (arith, four))))
+
+  none-told : commitsIn (short .answer) ≡ 0 → None short
+  none-told h = go (turn program j X w)
+    where
+      go : Turn program j X w → None short
+      go (stops Y e) =
+          subst None (sym (stops-short Y e))
+          (first-told (drainStopped Y w) (e (suc j * 4) (omega arith)) ∙ telling-stopped program n more Y w)
+      go (goes i c r v Z z e) =
+          let made = ap (λ (r : Result). commitsIn (r .answer)) (goes-short i c r v Z z e) in
+          absurd (let q : 1 ≡ 0 = sym made ∙ h in omega arith)
+
+  one-told : (commitsIn (short .answer) ≡ 0 → ⊥) → One short
+  one-told h = go (turn program j X w)
+    where
+      go : Turn program j X w → One short
+      go (stops Y e) = absurd (h (ap (λ (r : Result). commitsIn (r .answer)) (stops-short Y e)))
+      go (goes i c r v Z z e) =
+          let is = goes-short i c r v Z z e in
+          let again : Linked program Z z =
+          subst (λ (r : Result). Linked program (r .state) (r .memory)) is
+          (respond-links program (finish (suc j) list) X w linked .linked) in
+          subst One (sym is)
+          (first-told (afterCommit i c r v (finishes program j (suc j * 4 - 4) Z z)) (e (suc j * 4) (omega arith))
+          ∙ telling-onward program n more i c r v (finishes program j (suc j * 4 - 4) Z z)
+          ∙ ap (λ (l : List ℕ). commitLine i c r v ++ l)
+          (ap (λ (places : ℕ). telling program (suc n) more (finishes program j places Z z))
+          (let q : suc j * 4 - 4 ≡ j * 4 = omega arith in q)
+          ∙ sym (whole-told program Z z again j (suc n) more)))
+
+-- The same by the limit k. No commit was made:
+pub told-none : (program : List ℕ) (X : Plain) (w : List ℕ) → Linked program X w → (k : ℕ) → (k ≡ 0 → ⊥)
+    → (list : List ℕ) → length list ≡ 4 → (n : ℕ) (more : Steps)
+    → let r = respond program (finish k list) X w in
+    commitsIn (r .answer) ≡ 0
+    → transcript program (at X w n) (before (whole k) more) ≡ transcript program (at (r .state) (r .memory) n) more
+told-none program X w linked zero some list four n more h = absurd (some refl)
+told-none program X w linked (suc j) some list four n more h = none-told program X w linked j list four n more h
+
+-- or one:
+pub told-one : (program : List ℕ) (X : Plain) (w : List ℕ) → Linked program X w → (k : ℕ) → (k ≡ 0 → ⊥)
+    → (list : List ℕ) → length list ≡ 4 → (n : ℕ) (more : Steps)
+    → let r = respond program (finish k list) X w in
+    (commitsIn (r .answer) ≡ 0 → ⊥)
+    → transcript program (at X w n) (before (whole k) more)
+    ≡ firstLine (r .list) ++ transcript program (at (r .state) (r .memory) (suc n)) (before (whole (k - 1)) more)
+told-one program X w linked zero some list four n more h = absurd (some refl)
+told-one program X w linked (suc j) some list four n more h =
+    let r = respond program (finish (suc j) list) X w in
+    one-told program X w linked j list four n more h
+    ∙ ap (λ (q : ℕ). firstLine (r .list) ++ transcript program (at (r .state) (r .memory) (suc n)) (before (whole q) more))
+    (let q : j ≡ suc j - 1 = omega arith in q)
+
+-- ---- the player
+
+-- a limit of 0: the next step comes
+pub limit-reached : (program : List ℕ) (m : Machine) (n k : ℕ) (memory out : List ℕ) (start : ℕ) → k ≡ 0
+    → Goes program (Finishing k) m memory n out start Stepping m memory n out start
+limit-reached program m n k memory out start e =
+    record {
+      piece = [];
+      writes = writes-none out start;
+      short = omega arith;
+      lent = refl;
+      falls = omega arith;
+      plays = λ _. refl;
+      goes = λ usable few. (
+        λ more. ap (λ (k : ℕ). transcript program (standing m memory n) (before (whole k) more)) e
+            ∙ told-nothing program (plain m) memory (usable .linked) n more,
+        usable,
+        omega arith,
+      );
+    }
+
+module _ (program : List ℕ) (m u : Machine) (n k : ℕ) (memory after list left out : List ℕ) (start : ℕ) (said : Answer)
+    (some : k ≡ 0 → ⊥) (four : length list ≡ 4) (meets : Meets program m (finish k list) memory said u after left)
+    (lent : length after ≡ length memory) where
+  -- where the machine's finish left this machine and memory
+  abbrev made : Result
+  made = respond program (finish k list) (plain m) memory
+
+  used : Usable program m memory → Usable program u after
+  used usable =
+      record {
+        sound = meets .lawful (usable .sound);
+        linked = subst (λ (X : Plain). Linked program X after) (sym (meets .state (usable .sound)))
+            (subst (λ (w : List ℕ). Linked program (made .state) w) (sym (meets .memory (usable .sound)))
+            (respond-links program (finish k list) (plain m) memory (usable .linked) .linked));
+      }
+
+  -- no commit: the end of the program or a fault, so the whole finish ends here
+  pub finish-stops : commitsIn said ≡ 0 → Goes program (Finishing k) m memory n out start Stepping u after n out start
+  finish-stops none =
+      record {
+        piece = [];
+        writes = writes-none out start;
+        short = omega arith;
+        lent = lent;
+        falls = omega arith;
+        plays = λ _. refl;
+        goes = λ usable few. (
+          λ more.
+              told-none program (plain m) memory (usable .linked) k some list four n more
+              (ap commitsIn (sym (meets .answer (usable .sound))) ∙ none)
+              ∙ ap₂ (λ (X : Plain) (w : List ℕ). transcript program (at X w n) more)
+              (sym (meets .state (usable .sound)))
+              (sym (meets .memory (usable .sound))),
+          used usable,
+          omega arith,
+        );
+      }
+
+  -- a commit, which is written: the finish goes on with one commit less
+  pub finish-goes : (commitsIn said ≡ 0 → ⊥) → {j : ℕ} → (n < 18446744073709551615 → j ≡ suc n) → {into : List ℕ} {end : ℕ}
+      → Writes out start (firstLine left) into end × (end ≤ start + longest)
+      → Goes program (Finishing k) m memory n out start (Finishing (k - 1)) u after j into end
+  finish-goes one {j} next put =
+      record {
+        piece = firstLine left;
+        writes = put .0;
+        short = put .1;
+        lent = lent;
+        falls = omega (arith, some);
+        plays = λ on. on;
+        goes = λ usable few. (
+          λ more.
+              told-one program (plain m) memory (usable .linked) k some list four n more
+              (λ z. one (ap commitsIn (meets .answer (usable .sound)) ∙ z))
+              ∙ ap₂
+              (λ (l : List ℕ) (q : ℕ).
+              firstLine l ++ transcript program (at (made .state) (made .memory) q) (before (whole (k - 1)) more))
+              (sym (meets .list (usable .sound)))
+              (sym (next (few refl)))
+              ∙ ap₂
+              (λ (X : Plain) (w : List ℕ). firstLine left ++ transcript program (at X w j) (before (whole (k - 1)) more))
+              (sym (meets .state (usable .sound)))
+              (sym (meets .memory (usable .sound))),
+          used usable,
+          let h = next (few refl) in omega (arith, some),
+        );
+      }

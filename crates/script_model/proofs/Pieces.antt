@@ -1,0 +1,93 @@
+-- THE THEOREM OF THE PIECES. Begin a script with a program and a memory lent rightly, and call `fill` as often as you
+-- like, each time on any buffer, with the player and the memory that the call before handed back. Write the first
+-- `end` bytes of each buffer. Then at every moment what was written, followed by what is left to print, is what the
+-- script prints (`so-far`); and once the player is over, what was written is what the script prints, byte for byte
+-- (`pieces-are`).
+--
+-- At the beginning all is left and nothing is written. A fill moves a piece from the front of what is left to the end
+-- of what is written: the piece is the first `end` bytes of the buffer, as it was set there from place 0. A player
+-- that is over has nothing left. That a player gets there is a field of `Fills`: a call with a buffer of 80 bytes or
+-- more on a player that is not over lowers `weight` (`falls`). Assumes nothing.
+use mathlib.Core.Path.{_≡_, refl, sym, ap, ap₂, _∙_}
+use mathlib.Core.Bool.{true, false, false≢true}
+use mathlib.Core.List.{List, [], _∷_, _++_, append-nil, append-assoc}
+use Prim.Native.Nat.{ℕ, _+_, _≤_}
+use native.Mathlib.Omega.{arith}
+use lib.ListN.{length, take, drop}
+use lib.Seq.{sets, sets-eq, take-append-seam}
+use Rattle.theorem.specs.Play.{Played}
+use Rattle.script_model.specs.declared.Phase.{Phase}
+use Rattle.script_model.specs.declared.Phase.the-variants.{Over, Bad, Stepping, Finishing, Words}
+use Rattle.script_model.specs.declared.Player.{Player}
+use Rattle.script_model.specs.Language.{Steps}
+use Rattle.script_model.specs.Output.{printed}
+use Rattle.script_model.specs.Playing.{left, leftIn, isOver, Fills, wronglyLent, Begins}
+use Rattle.script_model.specs.Truth.{Fillings, ready, filled, joined}
+use Rattle.script_model.specs.computed.Invariant.{Playing}
+
+joined-snoc : (pieces : List (List ℕ)) (piece : List ℕ) → joined (pieces ++ (piece ∷ [])) ≡ joined pieces ++ piece
+unfolding joined
+joined-snoc [] piece = append-nil piece
+joined-snoc (first ∷ pieces) piece =
+    ap (λ (bytes : List ℕ). first ++ bytes) (joined-snoc pieces piece) ∙ sym (append-assoc first (joined pieces) piece)
+
+-- the bytes set from place 0 on are the first of the buffer
+front : (out piece into : List ℕ) (n : ℕ) → n ≡ 0 + length piece → into ≡ sets out 0 piece → n ≤ length out
+    → take n into ≡ piece
+front out piece into n e w h =
+    let long : n ≡ length piece = omega (arith, e) in
+    let room : 0 + length piece ≤ length out = omega (arith, e, h) in
+    ap₂ (λ (k : ℕ) (l : List ℕ). take k l) long (w ∙ sets-eq piece out 0 room)
+    ∙ take-append-seam piece (drop (0 + length piece) out)
+
+over-left : (program : List ℕ) (phase : Phase) (more : Steps) (x : Played) → isOver phase ≡ true
+    → leftIn program phase more x ≡ []
+over-left program Over more x e = refl
+over-left program (Bad n) more x e = absurd (false≢true e)
+over-left program Stepping more x e = absurd (false≢true e)
+over-left program (Finishing k) more x e = absurd (false≢true e)
+over-left program (Words a) more x e = absurd (false≢true e)
+
+-- after these pieces: what is written and what is left is what the script prints, and the player may go on
+record Stands (text program : List ℕ) (pieces : List (List ℕ)) (r : Player) (w : List ℕ) : Type 0 where
+  told : printed text ≡ joined pieces ++ left text program r w
+  playing : Playing text program r w
+
+one-more : (text program : List ℕ) (pieces : List (List ℕ)) (q r : Player) (v w out into : List ℕ) (n : ℕ)
+    → Stands text program pieces q v → Fills text program q v out r w into n
+    → Stands text program (pieces ++ (take n into ∷ [])) r w
+one-more text program pieces q r v w out into n s f =
+    let piece = f .tells .piece in
+    let rest = left text program r w in
+    let goes = f .tells .goes (s .playing) in
+    let wrote = front out piece into n (f .tells .writes .ended) (f .tells .writes .written) (f .within) in
+    record {
+      told = s .told ∙ ap (λ (bytes : List ℕ). joined pieces ++ bytes) (goes .0)
+          ∙ sym (append-assoc (joined pieces) piece rest)
+          ∙ ap (λ (bytes : List ℕ). joined pieces ++ bytes ++ rest) (sym wrote)
+          ∙ ap (λ (bytes : List ℕ). bytes ++ rest) (sym (joined-snoc pieces (take n into)));
+      playing = goes .1;
+    }
+
+stands : (text program : List ℕ) (p : Player) (memory : List ℕ) → Stands text program [] p memory
+    → {pieces : List (List ℕ)} {r : Player} {w : List ℕ} → Fillings text program p memory pieces r w
+    → Stands text program pieces r w
+stands text program p memory s ready = s
+stands text program p memory s (filled run f) =
+    one-more text program _ _ _ _ _ _ _ _ (stands text program p memory s run) f
+
+module _ (text program memory : List ℕ) (q : Player) (used : ℕ) (into after : List ℕ)
+    (begun : Begins text program memory q used into after) (lent : wronglyLent text program memory ≡ false)
+    (pieces : List (List ℕ)) (r : Player) (w : List ℕ) (run : Fillings text (take used into) q after pieces r w) where
+  -- what was written is the beginning of what the script prints, and the rest is left
+  pub so-far : printed text ≡ joined pieces ++ left text (take used into) r w
+  unfolding joined
+  so-far =
+      let start = begun .begins lent in
+      stands text (take used into) q after (record { told = sym (start .0); playing = start .1 }) run .told
+
+  pub pieces-are : isOver (r .phase) ≡ true → joined pieces ≡ printed text
+  pieces-are over =
+      sym
+      (so-far ∙ ap (λ (bytes : List ℕ). joined pieces ++ bytes) (over-left (take used into) (r .phase) _ _ over)
+      ∙ append-nil (joined pieces))

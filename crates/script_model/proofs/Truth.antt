@@ -1,0 +1,56 @@
+-- THE RECORD THEOREM OF A SCRIPT. Take any text of at most 65,536 bytes whose first line gives sizes within their
+-- limits. Open the machine with those sizes, the script's program and a memory of zeros, and make the calls of the
+-- script's steps, up to the first bad line if there is one. Then the opening is accepted, and what is printed are the
+-- record and the memory of the sequential run (ScriptTruth), whatever the steps were and in whatever order they
+-- executed.
+--
+-- The program was joined of well-formed instructions, at most 256 of them, so the opening passes its checks
+-- (Openings). The rest is the record theorem: the record and the memory that the calls come to are the run's. Assumes
+-- nothing.
+use mathlib.Core.Path.{_≡_, sym, ap, _∙_}
+use mathlib.Core.Bool.{true, false}
+use mathlib.Core.List.{List, _++_}
+use Prim.Native.Nat.{ℕ, _*_, _≤_}
+use lib.ListN.{length, take}
+use Rattle.text.specs.Lines.{linesOf}
+use Rattle.theorem.proofs.Record.{record-theorem}
+use Rattle.script_model.specs.declared.Player.{Player}
+use Rattle.script_model.specs.Language.{script}
+use Rattle.script_model.specs.Output.{commitLines, wordLines, ending, endLine, closing, scriptOpening, most, printed}
+use Rattle.script_model.specs.Playing.{isOver, wronglyLent, Begins}
+use Rattle.script_model.specs.Truth.{Sized, zeros, scriptPlayed, scriptRun, ScriptTruth, Fillings, joined}
+use Rattle.script_model.proofs.Openings.{script-opens}
+use Rattle.script_model.proofs.Beginnings.{printed-short}
+use Rattle.script_model.proofs.Pieces.{pieces-are}
+
+pub script-truth : (text : List ℕ) → length text ≤ most → Sized (script (linesOf text))
+    → ScriptTruth text (script (linesOf text))
+script-truth text short sized =
+    let s = script (linesOf text) in
+    let opens = script-opens (linesOf text) sized in
+    let t = record-theorem (s .banks) (s .rows) (s .stages) (s .words) (s .body .program) (zeros s) opens
+    (s .body .steps .calls) in
+    record {
+      opens = opens;
+      truth = t;
+      prints = printed-short text short
+          ∙ ap (λ (numbers : List ℕ). commitLines numbers ++ closing (scriptPlayed s) (s .body .steps .flaw)) (t .record-is);
+      closes = ap
+          (λ (memory : List ℕ). wordLines 0 memory ++ endLine (ending (scriptPlayed s .state)) (scriptPlayed s .commits))
+          (t .memory-is);
+      counts = sym (ap length (t .record-is)) ∙ t .record-grows;
+    }
+
+-- So what the calls of `fill` hand out, once the player is over, is that of the sequential run.
+pub pieces-tell : (text program memory : List ℕ) (q : Player) (used : ℕ) (into after : List ℕ)
+    → Begins text program memory q used into after
+    → wronglyLent text program memory ≡ false
+    → (pieces : List (List ℕ)) (r : Player) (w : List ℕ)
+    → Fillings text (take used into) q after pieces r w
+    → isOver (r .phase) ≡ true
+    → length text ≤ most
+    → let s = script (linesOf text) in
+    Sized s → joined pieces ≡ commitLines (scriptRun s .record′) ++ closing (scriptPlayed s) (s .body .steps .flaw)
+pieces-tell text program memory q used into after begun lent pieces r w fills over short sized =
+    pieces-are text program memory q used into after begun lent pieces r w fills over
+    ∙ script-truth text short sized .prints

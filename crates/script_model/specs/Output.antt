@@ -1,0 +1,89 @@
+-- What a script prints: text in, bytes out.
+-- Assumes nothing.
+use mathlib.Core.Bool.{cond}
+use mathlib.Core.List.{List, [], _∷_, _++_}
+use mathlib.Core.Option.{Option, none, some}
+use Prim.Native.Nat.{ℕ, suc}
+use lib.Dec.{eqb, ltb}
+use lib.ListN.{length, replicate}
+use Rattle.text.specs.Decimal.{decimal}
+use Rattle.text.specs.Lines.{linesOf}
+use Rattle.engine.specs.Conditions.{faults}
+use Rattle.machine_model.specs.Window.{entryAt, reference}
+use Rattle.machine_model.specs.Calls.{Plain, programDone, opened}
+use Rattle.theorem.specs.Play.{Played, play, start}
+use Rattle.script_model.specs.declared.Ending.{Ending}
+use Rattle.script_model.specs.declared.Ending.the-variants.{Open, Done, Fault}
+use Rattle.script_model.specs.Language.{Steps, Script, script}
+
+-- the letter of a code: A, P, L, S
+abbrev pub letter : ℕ → ℕ
+letter code = cond (eqb code 1) 65 (cond (eqb code 2) 80 (cond (eqb code 3) 76 83))
+
+-- a number and the byte after it: a comma (44) or the line feed (10)
+abbrev pub numberField : ℕ → ℕ → List ℕ
+numberField n b = decimal n ++ (b ∷ [])
+
+-- index, letter, register (for S the address) and value
+abbrev pub commitLine : ℕ → ℕ → ℕ → ℕ → List ℕ
+commitLine i code r v = numberField i 44 ++ (letter code ∷ 44 ∷ []) ++ numberField r 44 ++ numberField v 10
+
+-- a line for each commit of a record
+unfoldable pub commitLines : List ℕ → List ℕ
+commitLines (i ∷ code ∷ r ∷ v ∷ ns) = commitLine i code r v ++ commitLines ns
+commitLines (i ∷ code ∷ r ∷ []) = []
+commitLines (i ∷ code ∷ []) = []
+commitLines (i ∷ []) = []
+commitLines [] = []
+
+-- `m,address,value`
+abbrev pub wordLine : ℕ → ℕ → List ℕ
+wordLine a v = (109 ∷ 44 ∷ []) ++ numberField a 44 ++ numberField v 10
+
+-- a line for each non-zero word, in rising address from a on
+unfoldable pub wordLines : ℕ → List ℕ → List ℕ
+wordLines a [] = []
+wordLines a (v ∷ vs) = cond (eqb v 0) [] (wordLine a v) ++ wordLines (suc a) vs
+
+-- `done` when all is committed, `fault` when the oldest has executed at an address of W or more, else `open`
+abbrev pub ending : Plain → Ending
+ending X = cond (programDone X) Done (cond (faults (X .buffer .words) (reference (entryAt (X .entries) 0))) Fault Open)
+
+abbrev pub fate : Ending → List ℕ
+fate Open = 111 ∷ 112 ∷ 101 ∷ 110 ∷ []
+fate Done = 100 ∷ 111 ∷ 110 ∷ 101 ∷ []
+fate Fault = 102 ∷ 97 ∷ 117 ∷ 108 ∷ 116 ∷ []
+
+-- `end,fate,commits`
+abbrev pub endLine : Ending → ℕ → List ℕ
+endLine e commits = (101 ∷ 110 ∷ 100 ∷ 44 ∷ []) ++ fate e ++ (44 ∷ []) ++ numberField commits 10
+
+-- `bad,line`
+abbrev pub badLine : ℕ → List ℕ
+badLine n = (98 ∷ 97 ∷ 100 ∷ 44 ∷ []) ++ numberField n 10
+
+-- the closing lines, or the bad line in their place
+abbrev pub closing : Played → Option ℕ → List ℕ
+closing x none = wordLines 0 (x .memory) ++ endLine (ending (x .state)) (x .commits)
+closing x (some n) = badLine n
+
+-- the commits of the steps played from x on, then the closing lines
+abbrev pub transcript : List ℕ → Played → Steps → List ℕ
+transcript program x s =
+    let y = play program x (s .calls) in
+    commitLines (y .record′) ++ closing y (s .flaw)
+
+-- the opening: memory starts as zeros
+abbrev pub scriptOpening : Script → Played
+scriptOpening s =
+    start (opened (s .banks) (s .rows) (s .stages) (s .words) (s .body .program)) (replicate (s .words) 0)
+
+abbrev pub output : Script → List ℕ
+output s = transcript (s .body .program) (scriptOpening s) (s .body .steps)
+
+-- the largest input
+abbrev pub most : ℕ
+most = 65536
+
+unfoldable pub printed : List ℕ → List ℕ
+printed text = cond (ltb most (length text)) (badLine 0) (output (script (linesOf text)))

@@ -1,0 +1,63 @@
+-- What the record theorem says of a script (ScriptTruth), and what the calls of `fill` hand out (Fillings, joined). The
+-- theorems are proved in proofs/Truth.antt and proofs/Pieces.antt.
+-- Assumes nothing.
+use mathlib.Core.Path.{_≡_}
+use mathlib.Core.Bool.{true}
+use mathlib.Core.List.{List, [], _∷_, _++_}
+use mathlib.Core.Option.{none}
+use Prim.Native.Nat.{ℕ, _*_}
+use lib.ListN.{length, take, replicate}
+use Rattle.table.specs.Limits.{sizesFit}
+use Rattle.engine.specs.Conditions.{refusal}
+use Rattle.machine_model.specs.Calls.{openChecks}
+use Rattle.theorem.specs.Sequential.{Run, runAfter}
+use Rattle.theorem.specs.Play.{Played, play}
+use Rattle.theorem.specs.Truth.{Truth}
+use Rattle.script_model.specs.declared.Player.{Player}
+use Rattle.script_model.specs.Language.{Script}
+use Rattle.script_model.specs.Output.{commitLines, wordLines, ending, endLine, closing, scriptOpening, printed}
+use Rattle.script_model.specs.Playing.{Fills}
+
+-- the sizes of a good first line
+abbrev pub Sized : Script → Type 0
+Sized s = sizesFit (s .banks) (s .rows) (s .stages) (s .words) ≡ true
+
+-- the memory that a script opens with
+abbrev pub zeros : Script → List ℕ
+zeros s = replicate (s .words) 0
+
+-- what the calls of a script's steps come to
+abbrev pub scriptPlayed : Script → Played
+scriptPlayed s = play (s .body .program) (scriptOpening s) (s .body .steps .calls)
+
+-- the sequential run, after as many steps
+abbrev pub scriptRun : Script → Run
+scriptRun s = runAfter (s .body .program) (zeros s) (scriptPlayed s .commits)
+
+-- Of a text of at most 65,536 bytes that is script s, with sizes within their limits. The opening is accepted, and what is
+-- printed is the commit lines of the sequential run's record and then the closing lines: the non-zero words of the run's
+-- memory and the end line with the number of commits, or the bad line in their place.
+pub record ScriptTruth (text : List ℕ) (s : Script) : Type 0 where
+  -- no condition that refuses an opening holds
+  pub opens : refusal (openChecks (s .banks) (s .rows) (s .stages) (s .words) (s .body .program) (zeros s)) ≡ 0
+  -- the record theorem of the machine, of these calls
+  pub truth : Truth (s .body .program) (zeros s) (scriptPlayed s)
+  pub prints : printed text ≡ commitLines (scriptRun s .record′) ++ closing (scriptPlayed s) (s .body .steps .flaw)
+  -- the closing lines where no line is bad
+  pub closes : closing (scriptPlayed s) none
+      ≡ wordLines 0 (scriptRun s .memory) ++ endLine (ending (scriptPlayed s .state)) (scriptPlayed s .commits)
+  -- four numbers for each commit that the end line counts
+  pub counts : length (scriptRun s .record′) ≡ scriptPlayed s .commits * 4
+
+-- Calls of `fill` from player p and this memory on, one after the other, each on any buffer: the pieces written, and the player
+-- and the memory then.
+pub data Fillings (text program : List ℕ) (p : Player) (memory : List ℕ) : List (List ℕ) → Player → List ℕ → Type 0 where
+  ready : Fillings text program p memory [] p memory
+  filled : {pieces : List (List ℕ)} {q r : Player} {v w out into : List ℕ} {n : ℕ}
+      → Fillings text program p memory pieces q v → Fills text program q v out r w into n
+      → Fillings text program p memory (pieces ++ (take n into ∷ [])) r w
+
+-- all pieces, one after the other
+unfoldable pub joined : List (List ℕ) → List ℕ
+joined [] = []
+joined (piece ∷ pieces) = piece ++ joined pieces

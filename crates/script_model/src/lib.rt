@@ -1,0 +1,93 @@
+// The model of the script program: the types of a script being read and played. No code: specs/ says what a script asks for
+// and prints and what the player's calls promise; proofs/ has the laws behind the functions and the theorems of the output.
+use machine_model::Machine;
+
+// The most bytes that a script has, and the room in the buffer with which a line is begun: more than any line takes.
+pub const MOST: usize = 65536;
+
+pub const LINE: usize = 80;
+
+// What a line says; `Operation` has an instruction's code, d, s and imm.
+pub enum Item {
+    Malformed,
+    Sizes(u32, u32, u32, u32),
+    Operation(u32, u32, u32, u32),
+    Issue,
+    Execute(u32),
+    Squash(u32),
+    Commit,
+    Finish(u32),
+}
+
+// How a script ends (01's fate).
+pub enum Ending {
+    Open,
+    Done,
+    Fault,
+}
+
+// What the player does next: nothing, the bad line of this number, the next step, a finish with so many commits left, or the
+// memory words from this address on and then the end line.
+pub enum Phase {
+    Over,
+    Bad(u64),
+    Stepping,
+    Finishing(u32),
+    Words(usize),
+}
+
+// A script being played: `cursor` is where its next line begins, and `line` that line's number.
+pub struct Player {
+    pub phase: Phase,
+    pub cursor: usize,
+    pub line: u64,
+    pub commits: u64,
+    pub machine: Machine,
+}
+
+// A player at its beginning, and how many places of the program its script uses.
+pub struct Begun {
+    pub player: Player,
+    pub used: usize,
+}
+
+// A player after some output, and where that ends in the buffer.
+pub struct Piece {
+    pub player: Player,
+    pub end: usize,
+}
+
+// The sizes of a good first line, and where the next line begins.
+pub enum Header {
+    Absent,
+    Present(u32, u32, u32, u32, usize),
+}
+
+// The four numbers of an instruction, and where the next line begins.
+pub enum Found {
+    Nothing,
+    Four(u32, u32, u32, u32, usize),
+}
+
+// Where the steps begin, the number of that line, and the places of the program in use.
+pub struct Loaded {
+    pub cursor: usize,
+    pub line: u64,
+    pub used: usize,
+}
+
+// What a line asks for: that the player turns to this phase, or a call of the machine.
+pub enum Ask {
+    Turn(Phase),
+    Issue,
+    Execute(u32),
+    Squash(u32),
+    Commit,
+}
+
+// What a line asks for, and the place and the number of the line after it.
+pub struct Order {
+    pub ask: Ask,
+    pub cursor: usize,
+    pub line: u64,
+}

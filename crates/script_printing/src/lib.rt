@@ -1,0 +1,85 @@
+// Printing: the lines of commits, of memory words, of a bad line and of the end, written into a lent buffer.
+use script_model::Ending;
+ghost use mathlib.Core.Path.{_≡_};
+ghost use Prim.Native.Nat.{_+_, _≤_};
+ghost use lib.ListN.{length};
+ghost use Rattle.script_model.specs.Output.{numberField, letter, commitLine, wordLine, endLine, badLine};
+ghost use Rattle.script_model.specs.Playing.{longest, Writes};
+
+// A number and the byte after it.
+fn put_number(out: &mut [u8], at: usize, n: u64, after: u8) -> usize
+    requires { ⌜ at + 21 ≤ length (now out) ⌝ }
+    ensures { λ r. ⌜ Writes (now (out .entry)) at (numberField n after) (now (out .exit)) r × (r ≤ at + 21) ⌝ }
+{
+    let end = text::put_decimal(out, at, n);
+    out[end] = after;
+    end + 1
+}
+
+// The letter of a code.
+fn letter_of(code: u32) -> u8
+    ensures { λ r. ⌜ r ≡ letter code ⌝ }
+{
+    if code == 1 {
+        return b'A';
+    }
+    if code == 2 {
+        return b'P';
+    }
+    if code == 3 {
+        return b'L';
+    }
+    b'S'
+}
+
+// A commit's line.
+pub fn put_commit(out: &mut [u8], at: usize, i: u32, code: u32, r: u32, v: u32) -> usize
+    requires { ⌜ at + longest ≤ length (now out) ⌝ }
+    ensures { λ e. ⌜ Writes (now (out .entry)) at (commitLine i code r v) (now (out .exit)) e × (e ≤ at + longest) ⌝ }
+{
+    let a = put_number(out, at, i as u64, b',');
+    out[a] = letter_of(code);
+    out[a + 1] = b',';
+    let b = put_number(out, a + 2, r as u64, b',');
+    put_number(out, b, v as u64, b'\n')
+}
+
+// A memory word's line.
+pub fn put_word(out: &mut [u8], at: usize, address: usize, v: u32) -> usize
+    requires { ⌜ at + longest ≤ length (now out) ⌝ }
+    ensures { λ e. ⌜ Writes (now (out .entry)) at (wordLine address v) (now (out .exit)) e × (e ≤ at + longest) ⌝ }
+{
+    let a = text::put_text(out, at, b"m,");
+    let b = put_number(out, a, address as u64, b',');
+    put_number(out, b, v as u64, b'\n')
+}
+
+// The line that names a bad line.
+pub fn put_bad(out: &mut [u8], at: usize, n: u64) -> usize
+    requires { ⌜ at + longest ≤ length (now out) ⌝ }
+    ensures { λ e. ⌜ Writes (now (out .entry)) at (badLine n) (now (out .exit)) e × (e ≤ at + longest) ⌝ }
+{
+    let a = text::put_text(out, at, b"bad,");
+    put_number(out, a, n, b'\n')
+}
+
+// The end line.
+pub fn put_end(out: &mut [u8], at: usize, e: Ending, commits: u64) -> usize
+    requires { ⌜ at + longest ≤ length (now out) ⌝ }
+    ensures { λ r. ⌜ Writes (now (out .entry)) at (endLine e commits) (now (out .exit)) r × (r ≤ at + longest) ⌝ }
+{
+    match e {
+        Ending::Open => {
+            let a = text::put_text(out, at, b"end,open,");
+            put_number(out, a, commits, b'\n')
+        }
+        Ending::Done => {
+            let a = text::put_text(out, at, b"end,done,");
+            put_number(out, a, commits, b'\n')
+        }
+        Ending::Fault => {
+            let a = text::put_text(out, at, b"end,fault,");
+            put_number(out, a, commits, b'\n')
+        }
+    }
+}

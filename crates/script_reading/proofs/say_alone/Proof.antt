@@ -1,0 +1,17 @@
+-- `script_reading::say_alone` meets its contract: each branch is one of `alone`, by the tests taken. Assumes nothing.
+use borrow.Author.Needs.{needs}
+use borrow.Author.Tests.{eq-eqb, ne-eqb}
+use Rattle.script_reading.proofs.say_alone.Statement.{statement}
+use Rattle.script_reading.proofs.say_alone.Tie as tie
+
+returns : tie.Need-returns
+returns c = search (needs, eq-eqb)
+
+returns-2 : tie.Need-returns-2
+returns-2 c = search (needs, eq-eqb, ne-eqb)
+
+returns-3 : tie.Need-returns-3
+returns-3 c = search (needs, ne-eqb)
+
+pub say-alone-spec : {M : Type 1} → statement M
+say-alone-spec = tie.close (tie.spec returns returns-2 returns-3)
