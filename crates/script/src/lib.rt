@@ -4,7 +4,7 @@
 // lent buffer is full or all is printed. None requires anything; script_model/specs/Playing.antt has their contracts.
 use machine_model::PROGRAM;
 pub use script_model::Begun;
-use script_model::Header;
+use script_model::Found;
 use script_model::MOST;
 pub use script_model::Phase;
 pub use script_model::Piece;
@@ -61,8 +61,8 @@ pub fn begin(s: &[u8], program: &mut [u32], memory: &mut [u32]) -> Begun
     }
     let header = script_reading::read_header(s);
     match header {
-        Header::Absent => idle(Phase::Bad(1), program, memory),
-        Header::Present(banks, rows, stages, words, from) => {
+        Found::Nothing => idle(Phase::Bad(1), program, memory),
+        Found::Four(banks, rows, stages, words, from) => {
             clear(memory);
             let loaded = script_reading::read_program(s, from, program);
             let used = loaded.used;

@@ -19,7 +19,7 @@ use Rattle.machine_model.specs.Contract.{Opens}
 use Rattle.theorem.specs.Play.{play, start}
 use Rattle.theorem.specs.computed.Linked.{Linked}
 use Rattle.theorem.proofs.Linking.{linked-open}
-use Rattle.script_model.specs.declared.Header.the-variants.{Absent, Present}
+use Rattle.script_model.specs.declared.Found.the-variants.{Nothing, Four}
 use Rattle.script_model.specs.declared.Phase.{Phase}
 use Rattle.script_model.specs.declared.Phase.the-variants.{Over, Bad, Stepping}
 use Rattle.script_model.specs.declared.Player.{Player}
@@ -46,7 +46,7 @@ unread-prints : output unread ≡ badLine 1
 unfolding play commitLines
 unread-prints = refl
 
-pub printed-unheaded : (text : List ℕ) → length text ≤ most → headerOf text ≡ Absent → printed text ≡ badLine 1
+pub printed-unheaded : (text : List ℕ) → length text ≤ most → headerOf text ≡ Nothing → printed text ≡ badLine 1
 printed-unheaded text short h = printed-short text short ∙ ap output (script-unheaded text h) ∙ unread-prints
 
 -- ---- lent rightly
@@ -117,7 +117,7 @@ module _ (text program memory : List ℕ) where
       (u : Machine)
       → wronglyLent text program memory ≡ false
       → length text ≤ most
-      → headerOf text ≡ Present banks rows stages words from
+      → headerOf text ≡ Four banks rows stages words from
       → Loads text from into cursor line used
       → length into ≡ length program
       → after ≡ replicate (length memory) 0

@@ -3,9 +3,8 @@
 -- then by what it says. Assumes nothing.
 use mathlib.Core.Bool.{Bool, true, false, cond, _&&_, _||_, and-eq-true-iff}
 use mathlib.Core.List.{List, []}
-use mathlib.Core.Path.{_≡_, refl, sym, ap, ap₂, _∙_}
+use mathlib.Core.Path.{_≡_, refl, sym, ap, _∙_}
 use Prim.Native.Nat.{ℕ, suc, _+_, _≤_, _<_}
-use native.Mathlib.Numerals.{add-one}
 use native.Mathlib.Omega.{arith}
 use lib.Dec.{eqb, leb}
 use lib.ListN.{length}
@@ -19,14 +18,14 @@ use Rattle.table.specs.Limits.{sizesFit}
 use Rattle.script_model.specs.declared.Item.{Item}
 use Rattle.script_model.specs.declared.Item.the-variants.{Malformed, Sizes, Operation, Issue, Execute, Squash, Commit}
 use Rattle.script_model.specs.declared.Item.the-variants.{Finish}
-use Rattle.script_model.specs.declared.Header.the-variants.{Absent, Present}
+use Rattle.script_model.specs.declared.Found.the-variants.{Nothing, Four}
 use Rattle.script_model.specs.Language as language
 use Rattle.script_model.specs.Language.{parsedLine, Body, Script, unread, script}
 use Rattle.script_model.specs.Output.{most}
 use Rattle.script_model.specs.Playing.{wordsOf}
-use Rattle.script_model.specs.computed.Parts.{headerIn, headerBy, headerOf, bodyAt}
+use Rattle.script_model.specs.computed.Parts.{foundIn, foundBy, headerOf, bodyAt}
 
-never : {A : Type 0} {banks rows stages words at : ℕ} → Absent ≡ Present banks rows stages words at → A
+never : {A : Type 0} {banks rows stages words at : ℕ} → Nothing ≡ Four banks rows stages words at → A
 never e = absurd (let z : _≡_ {A = ℕ} 0 1 = cc in omega arith)
 
 abbrev sizedWith : ℕ → ℕ → ℕ → ℕ → Body → Script
@@ -34,14 +33,14 @@ sizedWith banks rows stages words b = record { banks = banks; rows = rows; stage
 
 -- an item that gives sizes, which lie within their limits
 sized : (i : Item) (next : ℕ) (b : Body) (banks rows stages words at : ℕ)
-    → headerIn i next ≡ Present banks rows stages words at
+    → foundIn true i next ≡ Four banks rows stages words at
     → (language.headed i b ≡ sizedWith banks rows stages words b)
     × (sizesFit banks rows stages words ≡ true)
     × (at ≡ next)
 sized Malformed next b banks rows stages words at h = never h
 sized (Sizes x y z w) next b banks rows stages words at h = go (sizesFit x y z w) refl h
   where
-    go : (t : Bool) → sizesFit x y z w ≡ t → cond t (Present x y z w next) Absent ≡ Present banks rows stages words at
+    go : (t : Bool) → sizesFit x y z w ≡ t → cond t (Four x y z w next) Nothing ≡ Four banks rows stages words at
         → (cond t (sizedWith x y z w b) unread ≡ sizedWith banks rows stages words b)
         × (sizesFit banks rows stages words ≡ true)
         × (at ≡ next)
@@ -59,11 +58,11 @@ sized Commit next b banks rows stages words at h = never h
 sized (Finish k) next b banks rows stages words at h = never h
 
 -- an item that gives none
-unsized : (i : Item) (next : ℕ) (b : Body) → headerIn i next ≡ Absent → language.headed i b ≡ unread
+unsized : (i : Item) (next : ℕ) (b : Body) → foundIn true i next ≡ Nothing → language.headed i b ≡ unread
 unsized Malformed next b h = refl
 unsized (Sizes x y z w) next b h = go (sizesFit x y z w) h
   where
-    go : (t : Bool) → cond t (Present x y z w next) Absent ≡ Absent
+    go : (t : Bool) → cond t (Four x y z w next) Nothing ≡ Nothing
         → cond t (sizedWith x y z w b) unread ≡ unread
     go true g = never (sym g)
     go false g = refl
@@ -82,11 +81,11 @@ pub record Headed (s : List ℕ) (banks rows stages words at : ℕ) : Type 0 whe
   pub within : at ≤ length s
   pub behind : 1 ≤ at
 
-pub headed : (s : List ℕ) (banks rows stages words at : ℕ) → headerOf s ≡ Present banks rows stages words at
+pub headed : (s : List ℕ) (banks rows stages words at : ℕ) → headerOf s ≡ Four banks rows stages words at
     → Headed s banks rows stages words at
 headed s banks rows stages words at h = go (lineAt s 0) (line-is s 0 (lineAt s 0) refl) h
   where
-    go : (l : Line) → LineIs s 0 l → headerBy s l ≡ Present banks rows stages words at
+    go : (l : Line) → LineIs s 0 l → foundBy true s l ≡ Four banks rows stages words at
         → Headed s banks rows stages words at
     go End is g = never g
     go (Unended from) is g = never g
@@ -94,7 +93,7 @@ headed s banks rows stages words at h = go (lineAt s 0) (line-is s 0 (lineAt s 0
         let next = suc (feed s 0) in
         let ends : feed s 0 < length s = omega arith in
         let line = slice 0 (feed s 0) s in
-        let says : headerIn (parsedLine line) next ≡ Present banks rows stages words at = rw (is .0, is .1) at g in
+        let says : foundIn true (parsedLine line) next ≡ Four banks rows stages words at = rw (is .0, is .1) at g in
         let all = sized (parsedLine line) next (bodyAt s next 2 []) banks rows stages words at says in
         record {
           script-is = ap script (line-whole s 0 ends) ∙ all .0
@@ -104,32 +103,18 @@ headed s banks rows stages words at h = go (lineAt s 0) (line-is s 0 (lineAt s 0
           behind = omega (arith, all .2);
         }
 
-pub script-unheaded : (s : List ℕ) → headerOf s ≡ Absent → script (linesOf s) ≡ unread
+pub script-unheaded : (s : List ℕ) → headerOf s ≡ Nothing → script (linesOf s) ≡ unread
 script-unheaded s h = go (lineAt s 0) (line-is s 0 (lineAt s 0) refl) h
   where
-    go : (l : Line) → LineIs s 0 l → headerBy s l ≡ Absent → script (linesOf s) ≡ unread
+    go : (l : Line) → LineIs s 0 l → foundBy true s l ≡ Nothing → script (linesOf s) ≡ unread
     go End is g = ap script (line-end s 0 is)
     go (Unended from) is g = ap script (line-unended s 0 (is .2))
     go (Whole from to) is g =
         let next = suc (feed s 0) in
         let ends : feed s 0 < length s = omega arith in
         let line = slice 0 (feed s 0) s in
-        let says : headerIn (parsedLine line) next ≡ Absent = rw (is .0, is .1) at g in
+        let says : foundIn true (parsedLine line) next ≡ Nothing = rw (is .0, is .1) at g in
         ap script (line-whole s 0 ends) ∙ unsized (parsedLine line) next (bodyAt s next 2 []) says
-
--- ---- as the code goes: from the line to the item, and from the item to the sizes
-
-pub header-present : (i : Item) (at banks rows stages words : ℕ) → i ≡ Sizes banks rows stages words
-    → sizesFit banks rows stages words ≡ true → Present banks rows stages words at ≡ headerIn i at
-header-present i at banks rows stages words e fit = rw (e, fit)
-
-pub header-unfit : (i : Item) (at banks rows stages words : ℕ) → i ≡ Sizes banks rows stages words
-    → sizesFit banks rows stages words ≡ false → Absent ≡ headerIn i at
-header-unfit i at banks rows stages words e unfit = rw (e, unfit)
-
-pub header-whole : (s : List ℕ) (from to : ℕ) (i : Item) → lineAt s 0 ≡ Whole from to → i ≡ parsedLine (slice from to s)
-    → headerIn i (to + 1) ≡ headerOf s
-header-whole s from to i line e = ap₂ headerIn e (add-one to) ∙ ap (headerBy s) (sym line)
 
 -- ---- how many words of memory are asked for
 
@@ -145,11 +130,11 @@ sizes-words banks rows stages words h =
 pub words-long : (s : List ℕ) → most < length s → 0 ≡ wordsOf s
 words-long s h = rw (lt-ltb most (length s) h)
 
-pub words-none : (s : List ℕ) → length s ≤ most → headerOf s ≡ Absent → 0 ≡ wordsOf s
+pub words-none : (s : List ℕ) → length s ≤ most → headerOf s ≡ Nothing → 0 ≡ wordsOf s
 words-none s h e = rw (le-ltb most (length s) h) (sym (ap (λ (k : Script). k .words) (script-unheaded s e)))
 
 pub words-told : (s : List ℕ) (banks rows stages words at : ℕ) → length s ≤ most
-    → headerOf s ≡ Present banks rows stages words at → (words ≡ wordsOf s) × (words ≤ 4096)
+    → headerOf s ≡ Four banks rows stages words at → (words ≡ wordsOf s) × (words ≤ 4096)
 words-told s banks rows stages words at h e =
     let all = headed s banks rows stages words at e in (
       rw (le-ltb most (length s) h) (sym (ap (λ (k : Script). k .words) (all .script-is))),

@@ -1,5 +1,5 @@
 -- Reading. Items: what a line says, by its numbers in an array and by its bytes in a slice. Heads: what the first line asks for.
--- Programs: the program's lines, as the loop reads them. Fitting: the program read is well formed. Zeros: a list made zeros.
+-- Founds: the four numbers of a line. Programs: the program's lines, as the loop reads them. Fitting: the program read is well formed. Zeros: a list made zeros.
 -- Printing. Writing: texts written one after another. Endings: how a script ends, by the machine that it left. Closings: the
 -- words of memory and the end line.
 -- Playing. Telling: a call's commits are printed before what the calls after it print. CallOnPlayer: what one call records and
@@ -10,6 +10,7 @@
 -- Examples: 01's sample, computed.
 pub mod Items
 pub mod Heads
+pub mod Founds
 pub mod Programs
 pub mod Fitting
 pub mod Zeros

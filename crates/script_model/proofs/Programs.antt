@@ -32,7 +32,7 @@ never e = absurd (let z : _≡_ {A = ℕ} 0 1 = cc in omega arith)
 -- ---- the numbers of one line
 
 -- an instruction found joins a program with room for it
-numbers-four : (p : List ℕ) (i : Item) (at code d s imm next : ℕ) → foundIn i at ≡ Four code d s imm next
+numbers-four : (p : List ℕ) (i : Item) (at code d s imm next : ℕ) → foundIn false i at ≡ Four code d s imm next
     → length p < 1024
     → (numbersOf p i ≡ some (code ∷ d ∷ s ∷ imm ∷ [])) × (next ≡ at)
 numbers-four p Malformed at code d s imm next h room = never h
@@ -55,7 +55,7 @@ numbers-four p Commit at code d s imm next h room = never h
 numbers-four p (Finish k) at code d s imm next h room = never h
 
 -- where none is found, none joins
-numbers-none : (p : List ℕ) (i : Item) (at : ℕ) → foundIn i at ≡ Nothing → numbersOf p i ≡ none
+numbers-none : (p : List ℕ) (i : Item) (at : ℕ) → foundIn false i at ≡ Nothing → numbersOf p i ≡ none
 numbers-none p Malformed at h = refl
 numbers-none p (Sizes x y z w) at h = refl
 numbers-none p (Operation x y z w) at h = go (ltb (length p) 1024) (wellFormed x y z w) h
@@ -114,14 +114,14 @@ pub body-four : (s p : List ℕ) (at n code d r imm next : ℕ) → foundAt s at
     → (bodyAt s at n p ≡ bodyAt s next (suc n) (p ++ (code ∷ d ∷ r ∷ imm ∷ []))) × (at < next) × (next ≤ length s)
 body-four s p at n code d r imm next h room = go (lineAt s at) (line-is s at (lineAt s at) refl) h
   where
-    go : (l : Line) → LineIs s at l → foundBy s l ≡ Four code d r imm next
+    go : (l : Line) → LineIs s at l → foundBy false s l ≡ Four code d r imm next
         → (bodyAt s at n p ≡ bodyAt s next (suc n) (p ++ (code ∷ d ∷ r ∷ imm ∷ []))) × (at < next) × (next ≤ length s)
     go End is g = never g
     go (Unended from) is g = never g
     go (Whole from to) is g =
         let ends : feed s at < length s = omega arith in
         let line = slice at (feed s at) s in
-        let says : foundIn (parsedLine line) (suc (feed s at)) ≡ Four code d r imm next = rw (is .0, is .1) at g in
+        let says : foundIn false (parsedLine line) (suc (feed s at)) ≡ Four code d r imm next = rw (is .0, is .1) at g in
         let four = numbers-four p (parsedLine line) (suc (feed s at)) code d r imm next says room in
         let ns = code ∷ d ∷ r ∷ imm ∷ [] in (
           ap (bodyOf n p) (line-whole s at ends)
@@ -156,27 +156,11 @@ body-here s p at n h = go (lineAt s at) refl (line-is s at (lineAt s at) refl)
 pub body-stop : (s p : List ℕ) (at n : ℕ) → foundAt s at ≡ Nothing
     → bodyAt s at n p ≡ record { program = p; steps = stepsAt s at n }
 body-stop s p at n h =
-    body-here s p at n (λ from to e. numbers-none p (parsedLine (slice from to s)) (suc to) (ap (foundBy s) (sym e) ∙ h))
+    body-here s p at n (λ from to e. numbers-none p (parsedLine (slice from to s)) (suc to) (ap (foundBy false s) (sym e) ∙ h))
 
 pub body-full : (s p : List ℕ) (at n : ℕ) → 1024 ≤ length p
     → bodyAt s at n p ≡ record { program = p; steps = stepsAt s at n }
 body-full s p at n h = body-here s p at n (λ from to e. numbers-full p (parsedLine (slice from to s)) h)
-
--- ---- as the code goes: from the line to the item, and from the item to the four numbers
-
-pub found-four : (i : Item) (at code d s imm : ℕ) → i ≡ Operation code d s imm → wellFormed code d s imm ≡ true
-    → Four code d s imm at ≡ foundIn i at
-found-four i at code d s imm e formed =
-    sym (ap (λ (j : Item). foundIn j at) e ∙ ap (λ (t : Bool). cond t (Four code d s imm at) Nothing) formed)
-
-pub found-none : (i : Item) (at code d s imm : ℕ) → i ≡ Operation code d s imm → wellFormed code d s imm ≡ false
-    → Nothing ≡ foundIn i at
-found-none i at code d s imm e unformed =
-    sym (ap (λ (j : Item). foundIn j at) e ∙ ap (λ (t : Bool). cond t (Four code d s imm at) Nothing) unformed)
-
-pub found-whole : (s : List ℕ) (at from to : ℕ) (i : Item) → lineAt s at ≡ Whole from to → i ≡ parsedLine (slice from to s)
-    → foundIn i (to + 1) ≡ foundAt s at
-found-whole s at from to i line e = ap₂ foundIn e (add-one to) ∙ ap (foundBy s) (sym line)
 
 -- ---- the loop
 

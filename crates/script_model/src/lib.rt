@@ -57,13 +57,7 @@ pub struct Piece {
     pub end: usize,
 }
 
-// The sizes of a good first line, and where the next line begins.
-pub enum Header {
-    Absent,
-    Present(u32, u32, u32, u32, usize),
-}
-
-// The four numbers of an instruction, and where the next line begins.
+// The four numbers that a line gives, and where the next line begins: sizes on the first line, an instruction on a later one.
 pub enum Found {
     Nothing,
     Four(u32, u32, u32, u32, usize),

@@ -1,21 +1,20 @@
 // Reading a script: what a line says, the sizes of the first line, and the program after it.
 use machine_model::PROGRAM;
 use script_model::Found;
-use script_model::Header;
 use script_model::Item;
 use script_model::Loaded;
 use script_model::MOST;
 use text::Line;
 use text::Numbers;
 ghost use mathlib.Core.Path.{_≡_};
-ghost use mathlib.Core.List.{[], _∷_};
-ghost use Prim.Native.Nat.{_+_, _≤_};
+ghost use Prim.Native.Nat.{ℕ, _+_, _≤_, _<_};
 ghost use lib.ListN.{length};
-ghost use lib.Seq.{sets, slice};
+ghost use lib.Seq.{slice};
+ghost use Rattle.text.specs.declared.Line.the-variants.{Whole};
 ghost use Rattle.text.specs.computed.Reader.{parsedFields};
 ghost use Rattle.script_model.specs.Language.{alone, withOne, withThree, withFour, lettered, parsedLine};
 ghost use Rattle.script_model.specs.Playing.{wordsOf};
-ghost use Rattle.script_model.specs.computed.Parts.{headerIn, headerOf, foundIn, foundAt, Loads};
+ghost use Rattle.script_model.specs.computed.Parts.{headerOf, foundIn, foundBy, foundAt, Loads};
 
 // A letter alone.
 fn say_alone(b: u8) -> Item
@@ -114,68 +113,28 @@ pub fn read_item(s: &[u8], from: usize, to: usize) -> Item
     say_fields(b, text::read_fields(s, from + 2, to))
 }
 
-// The sizes that this item of the first line gives, where the next line begins at `at`.
-fn take_sizes(item: Item, at: usize) -> Header
-    ensures { λ r. ⌜ r ≡ headerIn item at ⌝ }
+// The four numbers that an item gives, and where the next line begins: on the first line sizes within the limits, on a later one
+// a well-formed instruction.
+fn take_four(item: Item, first: bool, at: usize) -> Found
+    ensures { λ r. ⌜ r ≡ foundIn first item at ⌝ }
 {
     match item {
-        Item::Malformed => Header::Absent,
+        Item::Malformed => Found::Nothing,
         Item::Sizes(banks, rows, stages, words) => {
-            if table::sizes_fit(
+            let fit = table::sizes_fit(
                 banks as usize,
                 rows as usize,
                 stages as usize,
                 words as usize,
-            ) {
-                return Header::Present(banks, rows, stages, words, at);
+            );
+            if first & fit {
+                return Found::Four(banks, rows, stages, words, at);
             }
-            Header::Absent
+            Found::Nothing
         }
-        Item::Operation(_, _, _, _) => Header::Absent,
-        Item::Issue => Header::Absent,
-        Item::Execute(_) => Header::Absent,
-        Item::Squash(_) => Header::Absent,
-        Item::Commit => Header::Absent,
-        Item::Finish(_) => Header::Absent,
-    }
-}
-
-// The first line's sizes.
-pub fn read_header(s: &[u8]) -> Header
-    ensures { λ r. ⌜ r ≡ headerOf (now (s .entry)) ⌝ }
-{
-    let line = text::first_line(s);
-    match line {
-        Line::End => Header::Absent,
-        Line::Unended(_) => Header::Absent,
-        Line::Whole(from, to) => take_sizes(read_item(s, from, to), to + 1),
-    }
-}
-
-// How many words of memory the script asks for; 0 where its first line is bad.
-pub fn words_of(s: &[u8]) -> usize
-    ensures { λ r. ⌜ r ≡ wordsOf (now (s .entry)) ⌝ }
-    ensures { λ r. ⌜ r ≤ 4096 ⌝ }
-{
-    if MOST < s.len() {
-        return 0;
-    }
-    let header = read_header(s);
-    match header {
-        Header::Absent => 0,
-        Header::Present(_, _, _, words, _) => words as usize,
-    }
-}
-
-// The instruction that this item is, where the next line begins at `at`.
-fn take_operation(item: Item, at: usize) -> Found
-    ensures { λ r. ⌜ r ≡ foundIn item at ⌝ }
-{
-    match item {
-        Item::Malformed => Found::Nothing,
-        Item::Sizes(_, _, _, _) => Found::Nothing,
         Item::Operation(code, d, s, imm) => {
-            if machine_isa::well_formed(code, d, s, imm) {
+            let formed = machine_isa::well_formed(code, d, s, imm);
+            if !first & formed {
                 return Found::Four(code, d, s, imm, at);
             }
             Found::Nothing
@@ -188,15 +147,44 @@ fn take_operation(item: Item, at: usize) -> Found
     }
 }
 
-// The instruction in the line at `at`.
-fn find_operation(s: &[u8], at: usize) -> Found
-    ensures { λ r. ⌜ r ≡ foundAt (now (s .entry)) at ⌝ }
+// The four numbers that a line of the text gives.
+fn found_on(s: &[u8], line: Line, first: bool) -> Found
+    requires { ⌜ ((from to : ℕ) → line ≡ Whole from to → to < length (now s)) ⌝ }
+    ensures { λ r. ⌜ r ≡ foundBy first (now (s .entry)) line ⌝ }
 {
-    let line = text::line_at(s, at);
     match line {
         Line::End => Found::Nothing,
         Line::Unended(_) => Found::Nothing,
-        Line::Whole(from, to) => take_operation(read_item(s, from, to), to + 1),
+        Line::Whole(from, to) => take_four(read_item(s, from, to), first, to + 1),
+    }
+}
+
+// The sizes on the first line.
+pub fn read_header(s: &[u8]) -> Found
+    ensures { λ r. ⌜ r ≡ headerOf (now (s .entry)) ⌝ }
+{
+    found_on(s, text::first_line(s), true)
+}
+
+// The instruction on the line that begins at `at`.
+fn find_operation(s: &[u8], at: usize) -> Found
+    ensures { λ r. ⌜ r ≡ foundAt (now (s .entry)) at ⌝ }
+{
+    found_on(s, text::line_at(s, at), false)
+}
+
+// How many words of memory the script asks for; 0 where its first line is bad.
+pub fn words_of(s: &[u8]) -> usize
+    ensures { λ r. ⌜ r ≡ wordsOf (now (s .entry)) ⌝ }
+    ensures { λ r. ⌜ r ≤ 4096 ⌝ }
+{
+    if MOST < s.len() {
+        return 0;
+    }
+    let header = read_header(s);
+    match header {
+        Found::Nothing => 0,
+        Found::Four(_, _, _, words, _) => words as usize,
     }
 }
 

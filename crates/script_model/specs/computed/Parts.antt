@@ -1,7 +1,7 @@
 -- What the parts of the player compute, as the code does it.
 -- Assumes nothing.
 use mathlib.Core.Path.{_≡_}
-use mathlib.Core.Bool.{cond}
+use mathlib.Core.Bool.{Bool, true, false, cond, not, _&&_}
 use mathlib.Core.List.{List, []}
 use Prim.Native.Nat.{ℕ, suc, _+_, _-_, _*_, _≤_, _<_}
 use lib.Dec.{eqb}
@@ -22,8 +22,6 @@ use Rattle.script_model.specs.declared.Phase.{Phase}
 use Rattle.script_model.specs.declared.Phase.the-variants as phase
 use Rattle.script_model.specs.declared.Ask.{Ask}
 use Rattle.script_model.specs.declared.Ask.the-variants as ask
-use Rattle.script_model.specs.declared.Header.{Header}
-use Rattle.script_model.specs.declared.Header.the-variants as header
 use Rattle.script_model.specs.declared.Found.{Found}
 use Rattle.script_model.specs.declared.Found.the-variants as found
 use Rattle.script_model.specs.Language.{parsedLine, Steps, before, Body, body}
@@ -31,44 +29,31 @@ use Rattle.script_model.specs.Output.{wordLine, transcript}
 use Rattle.script_model.specs.Playing.{stepsAt, standing, leftIn}
 use Rattle.script_model.specs.computed.Invariant.{due, rank}
 
--- the sizes of a first line within the limits, and where the next line begins
-abbrev pub headerIn : Item → ℕ → Header
-headerIn Malformed at = header.Absent
-headerIn (Sizes banks rows stages words) at =
-    cond (sizesFit banks rows stages words) (header.Present banks rows stages words at) header.Absent
-headerIn (Operation code d s imm) at = header.Absent
-headerIn Issue at = header.Absent
-headerIn (Execute k) at = header.Absent
-headerIn (Squash k) at = header.Absent
-headerIn Commit at = header.Absent
-headerIn (Finish k) at = header.Absent
+-- the four numbers that an item gives, and where the next line begins: of the first line sizes within the limits, of a later one
+-- a well-formed instruction
+abbrev pub foundIn : Bool → Item → ℕ → Found
+foundIn first Malformed at = found.Nothing
+foundIn first (Sizes banks rows stages words) at =
+    cond (first && sizesFit banks rows stages words) (found.Four banks rows stages words at) found.Nothing
+foundIn first (Operation code d s imm) at = cond (not first && wellFormed code d s imm) (found.Four code d s imm at) found.Nothing
+foundIn first Issue at = found.Nothing
+foundIn first (Execute k) at = found.Nothing
+foundIn first (Squash k) at = found.Nothing
+foundIn first Commit at = found.Nothing
+foundIn first (Finish k) at = found.Nothing
 
-abbrev pub headerBy : List ℕ → Line → Header
-headerBy s End = header.Absent
-headerBy s (Unended at) = header.Absent
-headerBy s (Whole from to) = headerIn (parsedLine (slice from to s)) (suc to)
+abbrev pub foundBy : Bool → List ℕ → Line → Found
+foundBy first s End = found.Nothing
+foundBy first s (Unended at) = found.Nothing
+foundBy first s (Whole from to) = foundIn first (parsedLine (slice from to s)) (suc to)
 
-abbrev pub headerOf : List ℕ → Header
-headerOf s = headerBy s (lineAt s 0)
+-- on the first line
+abbrev pub headerOf : List ℕ → Found
+headerOf s = foundBy true s (lineAt s 0)
 
--- the numbers of a well-formed instruction, and where the next line begins
-abbrev pub foundIn : Item → ℕ → Found
-foundIn Malformed at = found.Nothing
-foundIn (Sizes banks rows stages words) at = found.Nothing
-foundIn (Operation code d s imm) at = cond (wellFormed code d s imm) (found.Four code d s imm at) found.Nothing
-foundIn Issue at = found.Nothing
-foundIn (Execute k) at = found.Nothing
-foundIn (Squash k) at = found.Nothing
-foundIn Commit at = found.Nothing
-foundIn (Finish k) at = found.Nothing
-
-abbrev pub foundBy : List ℕ → Line → Found
-foundBy s End = found.Nothing
-foundBy s (Unended at) = found.Nothing
-foundBy s (Whole from to) = foundIn (parsedLine (slice from to s)) (suc to)
-
+-- on a later line, which begins at `at`
 abbrev pub foundAt : List ℕ → ℕ → Found
-foundAt s at = foundBy s (lineAt s at)
+foundAt s at = foundBy false s (lineAt s at)
 
 -- the lines from `at` on, the first of which has number n, after a program of these numbers
 abbrev pub bodyAt : List ℕ → ℕ → ℕ → List ℕ → Body
