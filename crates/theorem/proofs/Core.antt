@@ -78,6 +78,31 @@ abbrev pub headIndex : List Entry → ℕ → ℕ
 headIndex [] next = next
 headIndex (e ∷ es) next = e .index
 
+-- with these entries, and issue going on at the first of the entries that left from position k on
+abbrev pub cutTo : Core → ℕ → List Entry → Core
+cutTo c k es =
+    record {
+      entries = es;
+      registers = c .registers;
+      memory = c .memory;
+      next = refetch (c .entries) k (c .next);
+      record′ = c .record′;
+      commits = c .commits;
+    }
+
+-- the oldest entry e committed, the entries es left
+abbrev pub afterCommit : Core → Entry → List Entry → Core
+afterCommit c e es =
+    record {
+      entries = es;
+      registers = registersAfter (c .registers) (e .instruction) (valueBy (e .fate));
+      memory = written (c .memory) (reference e);
+      next = c .next;
+      record′ = c .record′
+          ++ (e .index ∷ codeOf (e .instruction) ∷ target (e .instruction) (addressBy (e .fate)) ∷ valueBy (e .fate) ∷ []);
+      commits = suc (c .commits);
+    }
+
 pub data Step (program : List ℕ) (c : Core) : Core → Type 0 where
   issuing : c .next < length program / 4
       → Step program c
@@ -92,37 +117,11 @@ pub data Step (program : List ℕ) (c : Core) : Core → Type 0 where
   executing : (p left : ℕ) (f : Fate) → p < left → left ≤ length (c .entries) → entryAt (c .entries) p .fate ≡ Waiting
       → evaluate (entryAt (c .entries) p .instruction) (registersAt c p) (memoryAt c p) ≡ some f
       → Spares (referenceBy (entryAt (c .entries) p .instruction) f) (take (left - suc p) (drop (suc p) (c .entries)))
-      → Step program c
-      (record {
-        entries = take left (set (c .entries) p (entryWith (entryAt (c .entries) p) f));
-        registers = c .registers;
-        memory = c .memory;
-        next = refetch (c .entries) left (c .next);
-        record′ = c .record′;
-        commits = c .commits;
-      })
-  squashing : (k : ℕ)
-      → Step program c
-      (record {
-        entries = take k (c .entries);
-        registers = c .registers;
-        memory = c .memory;
-        next = refetch (c .entries) k (c .next);
-        record′ = c .record′;
-        commits = c .commits;
-      })
+      → Step program c (cutTo c left (take left (set (c .entries) p (entryWith (entryAt (c .entries) p) f))))
+  squashing : (k : ℕ) → Step program c (cutTo c k (take k (c .entries)))
   committing : (e : Entry) (es : List Entry) → c .entries ≡ e ∷ es → waits (e .fate) ≡ false
       → faults (length (c .memory)) (reference e) ≡ false
-      → Step program c
-      (record {
-        entries = es;
-        registers = registersAfter (c .registers) (e .instruction) (valueBy (e .fate));
-        memory = written (c .memory) (reference e);
-        next = c .next;
-        record′ = c .record′
-            ++ (e .index ∷ codeOf (e .instruction) ∷ target (e .instruction) (addressBy (e .fate)) ∷ valueBy (e .fate) ∷ []);
-        commits = suc (c .commits);
-      })
+      → Step program c (afterCommit c e es)
 
 -- an executed entry is what its instruction comes to over the registers and the memory that it sees
 abbrev pub Right : Instruction → (ℕ → Option ℕ) → (ℕ → ℕ) → Fate → Type 0

@@ -33,7 +33,7 @@ use Rattle.machine_model.specs.Window.{entryAt, entryWith, writesTo, valueOf, r
 use Rattle.machine_model.specs.Calls.{waits, valueBy, addressBy, registersAfter, target, refetch}
 use Rattle.theorem.specs.Sequential.{Run, does, faultsAt, ends, step, runAfter}
 use Rattle.theorem.proofs.Core.{Core, Step, issuing, executing, squashing, committing, seenBy, registersAt, memoryAt}
-use Rattle.theorem.proofs.Core.{clear, Spares, headIndex, Right, Good, Kept, fresh}
+use Rattle.theorem.proofs.Core.{clear, Spares, headIndex, cutTo, afterCommit, Right, Good, Kept, fresh}
 use Rattle.theorem.proofs.Knowing.{Tells, unknown-tells, good-more}
 
 -- ---- where issue goes on
@@ -310,15 +310,7 @@ module _ (program memory : List ℕ) where
       → Good program (headIndex (drop k (c .entries)) (c .next)) (λ (j : ℕ). some (getD (c .registers) j 0))
       (λ (a : ℕ). getD (c .memory) a 0)
       es
-      → Kept program memory
-      (record {
-        entries = es;
-        registers = c .registers;
-        memory = c .memory;
-        next = refetch (c .entries) k (c .next);
-        record′ = c .record′;
-        commits = c .commits;
-      })
+      → Kept program memory (cutTo c k es)
   kept-cut c k es kept same good =
       record {
         registers = kept .registers;
@@ -336,16 +328,7 @@ module _ (program memory : List ℕ) where
       → c .entries ≡ e ∷ es
       → waits (e .fate) ≡ false
       → faults (length (c .memory)) (reference e) ≡ false
-      → Kept program memory
-      (record {
-        entries = es;
-        registers = registersAfter (c .registers) (e .instruction) (valueBy (e .fate));
-        memory = written (c .memory) (reference e);
-        next = c .next;
-        record′ = c .record′
-            ++ (e .index ∷ codeOf (e .instruction) ∷ target (e .instruction) (addressBy (e .fate)) ∷ valueBy (e .fate) ∷ []);
-        commits = suc (c .commits);
-      })
+      → Kept program memory (afterCommit c e es)
   kept-commit c e es fits kept at w f =
       let goes = run-goes program memory c e es kept at w f in
       let g = good-oldest program memory c e es kept at in
