@@ -5,15 +5,21 @@ use table::SLOTS;
 use table::STAGES;
 use table::Table;
 ghost use mathlib.Core.Path.{_≡_};
+ghost use Prim.Native.Nat.{_+_, _*_, _/_, _%_};
+ghost use lib.Bits.{bitAnd};
 ghost use Rattle.mixes.specs.Turns.{added};
 
 // The next state of the generator, which is linear congruential modulo 2^31.
-pub fn advance(seed: u64) -> u64 {
+pub fn advance(seed: u64) -> u64
+    ensures { λ r. ⌜ r ≡ seed % 2147483648 * 1103515245 + 12345 ⌝ }
+{
     (seed % 2147483648) * 1103515245 + 12345
 }
 
 // Fifteen high bits of a state.
-pub fn bits(seed: u64) -> usize {
+pub fn bits(seed: u64) -> usize
+    ensures { λ r. ⌜ r ≡ seed / 65536 % 32768 ⌝ }
+{
     (seed / 65536 % 32768) as usize
 }
 
@@ -27,13 +33,17 @@ pub fn with(sum: u64, x: u64) -> u64
 }
 
 // One of sixteen addresses, spread over the banks; half of the draws give one of three.
-pub fn address_drawn(drawn: usize) -> u32 {
+pub fn address_drawn(drawn: usize) -> u32
+    ensures { λ r. ⌜ r ≡ bitAnd drawn (drawn / 16) % 16 * 5 ⌝ }
+{
     ((drawn & (drawn / 16)) % 16 * 5) as u32
 }
 
 // A table with one number changed, which mostly breaks a rule. Sizes only grow: rows that a smaller size
 // would leave outside are none of the table's in C.
-pub fn spoil(t: Table, what: usize, x: usize) -> Table {
+pub fn spoil(t: Table, what: usize, x: usize) -> Table
+    ensures { λ r. ⌜ (r .next ≡ t .next) × (r .numbers ≡ t .numbers) × (r .values ≡ t .values) ⌝ }
+{
     let banks = t.banks;
     let rows = t.rows;
     let r = x % SLOTS;
