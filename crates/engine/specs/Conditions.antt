@@ -1,10 +1,10 @@
 -- Where a call is turned down. Checks go from the smallest number up: a call is refused when a condition in its rows holds,
 -- and only then, with the first such number.
 -- Assumes nothing.
-use mathlib.Core.Bool.{Bool, true, false, cond, not}
+use mathlib.Core.Bool.{Bool, true, false, cond, not, _&&_, _||_}
 use mathlib.Core.List.{List, [], _∷_}
 use Prim.Native.Nat.{ℕ}
-use lib.Dec.{eqb, leb}
+use lib.Dec.{eqb, leb, ltb}
 use lib.ListN.{length}
 use Rattle.table.specs.Reference.{Fate, waiting, other, loaded, stored}
 
@@ -16,6 +16,21 @@ pub data Check : Type 0 where
 abbrev pub refusal : List Check → ℕ
 refusal [] = 0
 refusal (when c k ∷ checks) = cond c k (refusal checks)
+
+-- a condition with number k holds
+abbrev pub holds : ℕ → List Check → Bool
+holds k [] = false
+holds k (when c j ∷ checks) = (c && eqb j k) || holds k checks
+
+-- the numbers of these conditions rise from above `low` on
+abbrev pub risingFrom : ℕ → List Check → Bool
+risingFrom low [] = true
+risingFrom low (when c k ∷ checks) = ltb low k && risingFrom k checks
+
+-- Checks go from the smallest number up, and no number is 0, which stands for no refusal. Then the number of a refusal is the
+-- smallest of those whose condition holds (proofs/Refusing.antt).
+abbrev pub rising : List Check → Bool
+rising checks = risingFrom 0 checks
 
 -- memory length is not W
 abbrev pub wrongLength : ℕ → List ℕ → Check
