@@ -8,6 +8,7 @@ pub mod Opening
 pub mod Moving
 pub mod Executing
 pub mod Committing
+pub mod Ordered
 pub mod Numbers
 pub mod Tickets
 pub mod Starred

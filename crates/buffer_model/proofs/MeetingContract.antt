@@ -19,7 +19,7 @@ use Rattle.buffer_model.specs.Calls.{Call, issue, execute, squash, commi
 use Rattle.buffer_model.specs.Contract.{Meets}
 
 -- what an accepted call answers is no refusal
-accepts : (c : Call) (P : State) (m : List ℕ) → Accepts (acceptedResult c P m .answer)
+pub accepts : (c : Call) (P : State) (m : List ℕ) → Accepts (acceptedResult c P m .answer)
 accepts issue P m = tt
 accepts (execute τ act) P m = tt
 accepts (squash τ) P m = tt

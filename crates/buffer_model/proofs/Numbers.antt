@@ -1,21 +1,22 @@
 -- What the calls do to the window's stages and issue numbers, over the plain state.
 -- A call keeps a prefix of the live references under their numbers, adds one under the next number, or retires the
 -- oldest (Moves, moves). So a live position after it is one from before with its stage and number, or the new youngest
--- (kept-holds, issued-holds, retired-holds), and a dropped reference leaves its stage free (freed). A ticket is dead
--- when whatever is live at its stage was issued j issues after it, 1 ≤ j ≤ k, where k issues came after it (Dead). Every
--- call keeps that (dead-on), and while k < 2 ^ 32 none of these has the ticket's number (dead-unnamed).
+-- (kept-holds, issued-holds, retired-holds). A ticket is dead when whatever is live at its stage was issued j issues after it,
+-- 1 ≤ j ≤ k, where k issues came after it (Dead). Every call moves a ticket's reference as specs/Life.antt says, or leaves the
+-- ticket dead, and a dead one stays dead (tracked-on). While k < 2 ^ 32 a dead ticket names nothing (dead-unnamed).
 -- Assumes nothing.
 use mathlib.Core.Bool.{Bool, true, false, cond, _&&_, and-eq-true-iff}
 use mathlib.Core.List.{List, [], _∷_}
 use mathlib.Core.Logic.{_⊎_, inl, inr, ⊎-elim}
-use mathlib.Core.Path.{_≡_, refl, sym, ap, ap₂, _∙_}
-use Prim.Native.Nat.{ℕ, suc, _+_, _%_, _^_, _≤_, _<_}
+use mathlib.Core.Option.{Option, none, some}
+use mathlib.Core.Path.{_≡_, refl, sym, ap, ap₂, subst, _∙_}
+use Prim.Native.Nat.{ℕ, zero, suc, _+_, _%_, _^_, _≤_, _<_}
 use native.Mathlib.Nat.{eq-or-lt-of-le, le-of-suc-le-suc, le-refl}
 use native.Mathlib.Omega.{arith}
 use lib.Dec.{eqb, ltb}
 use lib.ListN.{length, take, set, length-append, length-take, length-drop, length-set, List·getD-append}
 use lib.Seq.{getD-at, getD-take, getD-drop, getD-set-same, getD-set-other}
-use borrow.Author.Tests.{ltb-true, lt-ltb, eqb-true, eqb-false, eq-eqb}
+use borrow.Author.Tests.{ltb-true, ltb-false, lt-ltb, eqb-true, eqb-false, eq-eqb}
 use Rattle.marks.specs.Circle.{stage, position}
 use Rattle.marks.proofs.Turns.{stage-lt, position-stage, stage-position, stage-from}
 use Rattle.table.specs.declared.Ticket.{Ticket}
@@ -28,7 +29,7 @@ use Rattle.engine.proofs.Meeting.{turned}
 use Rattle.buffer_model.specs.Answers.{Answer}
 use Rattle.buffer_model.specs.Refusals.{place, names}
 use Rattle.buffer_model.specs.Calls.{Call, issue, execute, squash, commit, Result, acceptedResult, refusalOf, respond}
-use Rattle.buffer_model.specs.Life.{withIssue, Drops}
+use Rattle.buffer_model.specs.Life.{Event, event, withIssue, unlessSquashed, unlessCommitted, movedTo, onward}
 
 -- the issue number of the reference at position p
 abbrev pub numberAt : State → ℕ → ℕ
@@ -52,14 +53,19 @@ pub record Keeps (P Q : State) : Type 0 where
   pub fewer : length (Q .refs) ≤ length (P .refs)
   pub numbers : (p : ℕ) → p < length (Q .refs) → numberAt Q p ≡ numberAt P p
 
--- What the call c with this answer makes of P, how many issues that adds to n, and when it drops position p.
+-- the event of a call with this answer that left Q
+abbrev pub leaving : Call → Answer → State → Event
+leaving c said Q = event c said (length (Q .refs))
+
+-- What the call c with this answer makes of P, how many issues that adds to n, and where it moves position p.
 pub data Moves (c : Call) (said : Answer) (P : State) : State → Type 0 where
-  keeps : {Q : State} → Keeps P Q → ((n : ℕ) → withIssue c said n ≡ n)
-      → ((p : ℕ) → Drops c said Q p → length (Q .refs) ≤ p) → Moves c said P Q
-  grows : ((n : ℕ) → withIssue c said n ≡ suc n)
-      → ((p : ℕ) → Drops c said (issued P) p → length (issued P .refs) ≤ p) → Moves c said P (issued P)
-  retires : ((n : ℕ) → withIssue c said n ≡ n) → ((p : ℕ) → Drops c said (retire P) p → p ≡ 0)
-      → Moves c said P (retire P)
+  keeps : {Q : State} → Keeps P Q → ((n : ℕ) → withIssue (leaving c said Q) n ≡ n)
+      → ((p : ℕ) → movedTo (leaving c said Q) p ≡ unlessSquashed (length (Q .refs)) p) → Moves c said P Q
+  grows : ((n : ℕ) → withIssue (leaving c said (issued P)) n ≡ suc n)
+      → ((p : ℕ) → movedTo (leaving c said (issued P)) p ≡ unlessSquashed (length (issued P .refs)) p)
+      → Moves c said P (issued P)
+  retires : ((n : ℕ) → withIssue (leaving c said (retire P)) n ≡ n)
+      → ((p : ℕ) → movedTo (leaving c said (retire P)) p ≡ unlessCommitted p) → Moves c said P (retire P)
 
 keeps-all : (P : State) → Keeps P P
 keeps-all P =
@@ -104,16 +110,16 @@ keeps-executes P p f =
 
 -- a refusal counts no issue and drops nothing
 refused-moves : (c : Call) (k : ℕ) (P : State) → Moves c (refused k) P P
-refused-moves issue k P = keeps (keeps-all P) (λ n. refl) (λ p h. h)
-refused-moves (execute τ act) k P = keeps (keeps-all P) (λ n. refl) (λ p h. h)
-refused-moves (squash τ) k P = keeps (keeps-all P) (λ n. refl) (λ p h. h)
-refused-moves commit k P = keeps (keeps-all P) (λ n. refl) (λ p h. absurd h)
+refused-moves issue k P = keeps (keeps-all P) (λ n. refl) (λ p. refl)
+refused-moves (execute τ act) k P = keeps (keeps-all P) (λ n. refl) (λ p. refl)
+refused-moves (squash τ) k P = keeps (keeps-all P) (λ n. refl) (λ p. refl)
+refused-moves commit k P = keeps (keeps-all P) (λ n. refl) (λ p. refl)
 
 accepted-moves : (c : Call) (P : State) (m : List ℕ) → Moves c (acceptedResult c P m .answer) P (acceptedResult c P m .state)
-accepted-moves issue P m = grows (λ n. refl) (λ p h. h)
-accepted-moves (execute τ act) P m = keeps (keeps-executes P (place P τ) (fateBy act)) (λ n. refl) (λ p h. h)
-accepted-moves (squash τ) P m = keeps (keeps-first P (place P τ)) (λ n. refl) (λ p h. h)
-accepted-moves commit P m = retires (λ n. refl) (λ p h. h)
+accepted-moves issue P m = grows (λ n. refl) (λ p. refl)
+accepted-moves (execute τ act) P m = keeps (keeps-executes P (place P τ) (fateBy act)) (λ n. refl) (λ p. refl)
+accepted-moves (squash τ) P m = keeps (keeps-first P (place P τ)) (λ n. refl) (λ p. refl)
+accepted-moves commit P m = retires (λ n. refl) (λ p. refl)
 
 pub moves : (c : Call) (P : State) (m : List ℕ) → Moves c (respond c P m .answer) P (respond c P m .state)
 unfolding respond
@@ -170,7 +176,7 @@ named-holds P τ f e =
       eqb-true (numberAt P p) (τ .number) (inner .1),
     )
 
-holds-place : (P : State) (τ : Ticket) (p : ℕ) → Fits P → Holds P (τ .stage) p → place P τ ≡ p
+pub holds-place : (P : State) (τ : Ticket) (p : ℕ) → Fits P → Holds P (τ .stage) p → place P τ ≡ p
 holds-place P τ p f h =
     ap (position (P .oldest) (P .stages)) (sym (h .stage))
     ∙ position-stage (P .oldest) (P .stages) (f .start) p (omega arith)
@@ -186,22 +192,11 @@ holds-named P τ p f h e =
 
 pub unnamed : (P : State) (τ : Ticket) → Fits P → ((p : ℕ) → Holds P (τ .stage) p → numberAt P p ≡ τ .number → ⊥)
     → names P τ ≡ false
-unnamed P τ f none = go (names P τ) refl
+unnamed P τ f free = go (names P τ) refl
   where
     go : (t : Bool) → names P τ ≡ t → t ≡ false
-    go true e = let h = named-holds P τ f e in absurd (none (place P τ) (h .0) (h .1))
+    go true e = let h = named-holds P τ f e in absurd (free (place P τ) (h .0) (h .1))
     go false e = refl
-
--- a call that drops the reference a ticket names leaves its stage free
-pub freed : {c : Call} {said : Answer} {P Q : State} (τ : Ticket) → Fits P → names P τ ≡ true → Moves c said P Q
-    → Drops c said Q (place P τ) → ((p : ℕ) → Holds Q (τ .stage) p → ⊥) × (Q .next ≡ P .next)
-freed {P = P} τ f e (keeps k count cut) d =
-    (λ p h. omega (arith, cut (place P τ) d, holds-place P τ p f (kept-holds k h)), k .next)
-freed {P = P} τ f e (grows count cut) d =
-    let was = named-holds P τ f e .0 in
-    absurd (omega (arith, cut (place P τ) d, length-append (P .refs) (ref (P .next) waiting ∷ [])))
-freed {P = P} τ f e (retires count cut) d =
-    (λ p h. omega (arith, cut (place P τ) d, holds-place P τ (1 + p) f (retired-holds P (τ .stage) p f h .0)), refl)
 
 -- k issues came after the ticket's own
 abbrev pub Since : Ticket → ℕ → State → Type 0
@@ -216,31 +211,103 @@ pub record Dead (τ : Ticket) (k : ℕ) (P : State) : Type 0 where
   pub since : Since τ k P
   pub later : (p : ℕ) → Holds P (τ .stage) p → Later τ k (numberAt P p)
 
-module _ (τ : Ticket) (k n : ℕ) where
-  pub since-on : {c : Call} {said : Answer} {P Q : State} → Moves c said P Q → Since τ (k + n) P
-      → Since τ (k + withIssue c said n) Q
-  since-on (keeps held count cut) s = omega (arith, count n)
-  since-on (grows count cut) s = omega (arith, count n)
-  since-on (retires count cut) s = omega (arith, count n)
+-- k issues came after the ticket's own, and its reference is at position p
+pub record Held (τ : Ticket) (k p : ℕ) (P : State) : Type 0 where
+  pub since : Since τ k P
+  pub holds : Holds P (τ .stage) p
+  pub number : numberAt P p ≡ τ .number
 
-  later-on : {c : Call} {said : Answer} {P Q : State} → Fits P → Moves c said P Q → Dead τ (k + n) P
-      → (p : ℕ) → Holds Q (τ .stage) p → Later τ (k + withIssue c said n) (numberAt Q p)
-  later-on f (keeps held count cut) d p h =
+-- the ticket's reference is at this position, or the ticket is dead
+abbrev pub Tracked : Ticket → ℕ → Option ℕ → State → Type 0
+Tracked τ k none P = Dead τ k P
+Tracked τ k (some p) P = Held τ k p P
+
+-- one position has the ticket's stage
+the-place : (P : State) (τ : Ticket) (p q : ℕ) → Fits P → Holds P (τ .stage) p → Holds P (τ .stage) q → p ≡ q
+the-place P τ p q f h g = sym (holds-place P τ p f h) ∙ holds-place P τ q f g
+
+module _ (τ : Ticket) (n : ℕ) {c : Call} {said : Answer} {P : State} (f : Fits P) where
+  since-on : {Q : State} → Moves c said P Q → Since τ n P → Since τ (withIssue (leaving c said Q) n) Q
+  since-on (keeps held count to) s = omega (arith, count n)
+  since-on (grows count to) s = omega (arith, count n)
+  since-on (retires count to) s = omega (arith, count n)
+
+  later-on : {Q : State} → Moves c said P Q → Dead τ n P → (p : ℕ) → Holds Q (τ .stage) p
+      → Later τ (withIssue (leaving c said Q) n) (numberAt Q p)
+  later-on (keeps held count to) d p h =
       let l = d .later p (kept-holds held h) in
       (l .0, l .1, omega (arith, count n), held .numbers p (h .live) ∙ l .3)
-  later-on {P = P} f (grows count cut) d p h =
+  later-on (grows count to) d p h =
       ⊎-elim
       (λ w. let l = d .later p (w .0) in (l .0, l .1, omega (arith, count n), w .1 ∙ l .3))
-      (λ w. (suc (k + n), omega arith, omega (arith, count n), omega arith))
+      (λ w. (suc n, omega arith, omega (arith, count n), omega arith))
       (issued-holds P (τ .stage) p h)
-  later-on {P = P} f (retires count cut) d p h =
+  later-on (retires count to) d p h =
       let old = retired-holds P (τ .stage) p f h in
       let l = d .later (1 + p) (old .0) in
       (l .0, l .1, omega (arith, count n), old .1 ∙ l .3)
 
-  pub dead-on : {c : Call} {said : Answer} {P Q : State} → Fits P → Moves c said P Q → Dead τ (k + n) P
-      → Dead τ (k + withIssue c said n) Q
-  dead-on f move d = record { since = since-on move (d .since); later = later-on f move d }
+  held-on : {Q : State} (move : Moves c said P Q) (p : ℕ) → Held τ n p P
+      → Tracked τ (withIssue (leaving c said Q) n) (movedTo (leaving c said Q) p) Q
+  held-on {Q} (keeps held count to) p h =
+      subst (λ (x : Option ℕ). Tracked τ k x Q) (sym (to p)) (go (ltb p (length (Q .refs))) refl)
+    where
+      k : ℕ
+      k = withIssue (leaving c said Q) n
+
+      go : (b : Bool) → ltb p (length (Q .refs)) ≡ b → Tracked τ k (cond b (some p) none) Q
+      go true e =
+          let l = ltb-true p (length (Q .refs)) e in
+          record {
+            since = since-on (keeps held count to) (h .since);
+            holds = record { live = l; stage = rw (held .oldest, held .stages) (h .holds .stage) };
+            number = held .numbers p l ∙ h .number;
+          }
+      go false e =
+          record {
+            since = since-on (keeps held count to) (h .since);
+            later = λ q g.
+                absurd (omega (arith, g .live, ltb-false p (length (Q .refs)) e, the-place P τ q p f (kept-holds held g) (h .holds)));
+          }
+  held-on (grows count to) p h =
+      let new = ref (P .next) waiting in
+      let l : p < length (issued P .refs) = omega (arith, h .holds .live, length-append (P .refs) (new ∷ [])) in
+      subst (λ (x : Option ℕ). Tracked τ (withIssue (leaving c said (issued P)) n) x (issued P))
+      (sym (to p ∙ ap (λ (b : Bool). cond b (some p) none) (lt-ltb p (length (issued P .refs)) l)))
+      (record {
+        since = since-on (grows count to) (h .since);
+        holds = record { live = l; stage = h .holds .stage };
+        number = ap numberOf (List·getD-append (P .refs) (new ∷ []) blank p (h .holds .live)) ∙ h .number;
+      })
+  held-on (retires count to) p h =
+      subst (λ (x : Option ℕ). Tracked τ k x (retire P)) (sym (to p)) (go p h)
+    where
+      k : ℕ
+      k = withIssue (leaving c said (retire P)) n
+
+      go : (p : ℕ) → Held τ n p P → Tracked τ k (unlessCommitted p) (retire P)
+      go zero h =
+          record {
+            since = since-on (retires count to) (h .since);
+            later = λ q g.
+                absurd (omega (arith, the-place P τ (1 + q) 0 f (retired-holds P (τ .stage) q f g .0) (h .holds)));
+          }
+      go (suc p) h =
+          let one : 1 + p ≡ suc p = omega arith in
+          record {
+            since = since-on (retires count to) (h .since);
+            holds = record {
+              live = omega (arith, h .holds .live, length-drop 1 (P .refs));
+              stage = stage-from (P .oldest) (P .stages) (f .start) 1 p (omega (arith, h .holds .live, f .live-bounded))
+                  ∙ ap (stage (P .oldest) (P .stages)) one ∙ h .holds .stage;
+            };
+            number = ap numberOf (getD-drop 1 (P .refs) p blank) ∙ ap (numberAt P) one ∙ h .number;
+          }
+
+  pub tracked-on : {Q : State} → Moves c said P Q → (x : Option ℕ) → Tracked τ n x P
+      → Tracked τ (withIssue (leaving c said Q) n) (onward (leaving c said Q) x) Q
+  tracked-on move none d = record { since = since-on move (d .since); later = later-on move d }
+  tracked-on move (some p) h = held-on move p h
 
 pub dead-unnamed : (P : State) (τ : Ticket) (k : ℕ) → Fits P → Dead τ k P → k < 2 ^ 32 → names P τ ≡ false
 dead-unnamed P τ k f d h = unnamed P τ f (λ p held e. let l = d .later p held in omega arith)

@@ -1,13 +1,16 @@
--- The ticket theorem, of the concrete calls through their contract: a ticket whose reference was squashed or committed
--- touches no later one (stale).
--- From a ticket's issue on, the table's next number tells how many issues came after it (life-since). The call that
--- drops its reference frees the stage, and from then on the ticket is dead (life-dead, by the laws of Numbers). A dead
--- ticket names nothing while fewer than 2 ^ 32 issues came after it, and a call with a ticket that names nothing is
--- refused (unnamed-refused). Assumes nothing.
+-- The ticket theorem, of the concrete calls through their contract. In the life of an opened table take any issue with its
+-- ticket. After any further calls the ticket names its reference still, where those calls moved it (undropped-named), or one of
+-- them squashed or committed it, and then the ticket touches no later reference (stale).
+-- The calls move the reference, or leave its ticket dead, one by one (life-tracked, by the laws of Numbers). A dead ticket
+-- names nothing while fewer than 2 ^ 32 issues came after it, and a call with a ticket that names nothing is refused
+-- (unnamed-refused).
+-- Assumes nothing.
 use mathlib.Core.Bool.{Bool, true, false, cond, not, true≢false}
 use mathlib.Core.List.{List, [], _∷_}
+use mathlib.Core.Logic.{_⊎_, inl, inr}
+use mathlib.Core.Option.{Option, none, some}
 use mathlib.Core.Path.{_≡_, refl, sym, ap, subst, _∙_}
-use Prim.Native.Nat.{ℕ, _+_, _^_, _≤_, _<_}
+use Prim.Native.Nat.{ℕ, _^_, _<_}
 use native.Mathlib.Omega.{arith}
 use lib.Dec.{eqb}
 use lib.ListN.{length, length-append}
@@ -28,8 +31,8 @@ use Rattle.buffer_model.specs.Answers.{Answer}
 use Rattle.buffer_model.specs.Refusals.{openChecks, place, names}
 use Rattle.buffer_model.specs.Calls.{Call, issue, Result, acceptedResult, refusalOf, respond}
 use Rattle.buffer_model.specs.Contract.{Meets, Opens}
-use Rattle.buffer_model.specs.Life.{Event, TableLife, born, lived, issuesIn, withIssue, Drops, Uses, toExecute, toSquash}
-use Rattle.buffer_model.proofs.Numbers.{Fits, Moves, moves, holds-named, unnamed, freed, Since, since-on, Dead, dead-on}
+use Rattle.buffer_model.specs.Life.{Event, TableLife, born, lived, issuesIn, followed, Uses, toExecute, toSquash}
+use Rattle.buffer_model.proofs.Numbers.{Fits, Moves, moves, holds-named, holds-place, Held, Tracked, tracked-on}
 use Rattle.buffer_model.proofs.Numbers.{dead-unnamed}
 
 -- a table that keeps the rules fits the circle
@@ -58,11 +61,11 @@ record Issued (P : State) (τ : Ticket) (Q : State) : Type 0 where
 -- a call that answers no refusal has its result
 not-refused : (k : ℕ) (P : State) (m : List ℕ) (r : Result) (said : Answer) → said ≡ judged k P m [] r .answer
     → ((j : ℕ) → said ≡ refused j → ⊥) → judged k P m [] r ≡ r
-not-refused k P m r said e none = go (eqb k 0) e
+not-refused k P m r said e kept = go (eqb k 0) e
   where
     go : (t : Bool) → said ≡ cond {A = Result} t r (turned k P m []) .answer → cond t r (turned k P m []) ≡ r
     go true e = refl
-    go false e = absurd (none k e)
+    go false e = absurd (kept k e)
 
 issue-named : (P : State) (m : List ℕ) (τ : Ticket) → named τ ≡ respond issue P m .answer
     → Issued P τ (respond issue P m .state)
@@ -84,28 +87,16 @@ was-issued : {t u : Table} {m v : List ℕ} {τ : Ticket} → Rules t → Meets 
 was-issued {t} {u} {m} {v} {τ} rules meets =
     subst (Issued (view t) τ) (sym (meets .state rules)) (issue-named (view t) m τ (meets .answer rules))
 
--- an issue's ticket names the new reference
-pub issued-named : {t u : Table} {m v : List ℕ} {τ : Ticket} → Rules t → Meets t issue m (named τ) u v
-    → names (view u) τ ≡ true
-issued-named {t} {u} {m} {v} {τ} rules meets =
-    let new = was-issued rules meets in
-    let same = new .state in
-    let refs = view t .refs in
-    let youngest = ref (view t .next) waiting in
-    subst (λ (Q : State). names Q τ ≡ true) (sym same)
-    (holds-named (issued (view t)) τ (length refs) (subst Fits same (fits (meets .lawful rules)))
-    (record { live = omega (arith, length-append refs (youngest ∷ [])); stage = sym (new .stage) })
-    (ap numberOf (getD-at refs youngest [] blank (length refs) refl) ∙ sym (new .number)))
-
 -- a ticket that names nothing is refused with 7, or a wrong memory length before it with 3
 unnamed-judged : (long isNamed : Bool) (others : ℕ) (P : State) (m : List ℕ) (r : Result) → isNamed ≡ false
-    → (k : ℕ) × (k ≤ 7) × (judged (cond (not long) 3 (cond (not isNamed) 7 others)) P m [] r .answer ≡ refused k)
+    → (k : ℕ) × ((k ≡ 3) ⊎ (k ≡ 7))
+    × (judged (cond (not long) 3 (cond (not isNamed) 7 others)) P m [] r .answer ≡ refused k)
 unnamed-judged true true others P m r e = absurd (true≢false e)
-unnamed-judged true false others P m r e = (7, omega arith, refl)
-unnamed-judged false isNamed others P m r e = (3, omega arith, refl)
+unnamed-judged true false others P m r e = (7, inr refl, refl)
+unnamed-judged false isNamed others P m r e = (3, inl refl, refl)
 
 unnamed-call : (P : State) (m : List ℕ) (τ : Ticket) (c : Call) → names P τ ≡ false → Uses τ c
-    → (k : ℕ) × (k ≤ 7) × (respond c P m .answer ≡ refused k)
+    → (k : ℕ) × ((k ≡ 3) ⊎ (k ≡ 7)) × (respond c P m .answer ≡ refused k)
 unfolding respond
 unnamed-call P m τ c e (toExecute {act = act}) = unnamed-judged (eqb (length m) (P .words)) (names P τ) _ P m _ e
 unnamed-call P m τ c e toSquash = unnamed-judged true (names P τ) 0 P m _ e
@@ -113,41 +104,23 @@ unnamed-call P m τ c e toSquash = unnamed-judged true (names P τ) 0 P m _ e
 -- a call with a ticket that names nothing is refused with 3 or 7, and changes nothing
 pub unnamed-refused : {t u : Table} {c : Call} {m v : List ℕ} {said : Answer} (τ : Ticket) → Rules t
     → names (view t) τ ≡ false → Uses τ c → Meets t c m said u v
-    → (k : ℕ) × (k ≤ 7) × (said ≡ refused k) × (u ≡ t) × (v ≡ m)
+    → (k : ℕ) × ((k ≡ 3) ⊎ (k ≡ 7)) × (said ≡ refused k) × (u ≡ t) × (v ≡ m)
 unnamed-refused {t} {u} {c} {m} τ rules e uses meets =
     let no-name = unnamed-call (view t) m τ c e uses in
     let same = meets .refuses rules (no-name .0) (no-name .2) in
     (no-name .0, no-name .1, same .0, same .1, same .2)
 
--- a squashed or committed reference loses its ticket
-pub dropped-unnamed : {t u : Table} {m v : List ℕ} {said : Answer} (c : Call) (τ : Ticket) → Rules t
-    → names (view t) τ ≡ true → Meets t c m said u v → Drops c said (view u) (place (view t) τ)
-    → names (view u) τ ≡ false
-dropped-unnamed {t} {u} c τ rules e meets drops =
-    unnamed (view u) τ (fits (meets .lawful rules))
-    (λ p h q. freed τ (fits rules) e (moved rules meets) drops .0 p h)
-
--- what each call keeps, counting its issue, holds after a life
-through : {t u : Table} {es : List Event} (I : ℕ → State → Type 0)
-    → ((c : Call) (said : Answer) (P Q : State) (n : ℕ) → Fits P → Moves c said P Q → I n P
-    → I (withIssue c said n) Q)
-    → Rules t → I 0 (view t) → TableLife t es u → I (issuesIn es) (view u)
-unfolding issuesIn
-through I step rules i born = i
-through I step rules i (lived {es = es} {u = u} {w = w} {c = c} {said = said} life meets) =
+-- a ticket whose reference was at position p is tracked through a life
+life-tracked : {t u : Table} {es : List Event} (τ : Ticket) (p : ℕ) → Rules t → Tracked τ 0 (some p) (view t)
+    → TableLife t es u → Tracked τ (issuesIn es) (followed es p) (view u)
+unfolding issuesIn followed
+life-tracked τ p rules now born = now
+life-tracked τ p rules now (lived {es = es} life meets) =
     let before = life-rules rules life in
-    step c said (view u) (view w) (issuesIn es) (fits before) (moved before meets) (through I step rules i life)
-
-life-since : {t u : Table} {es : List Event} (τ : Ticket) → Rules t → Since τ 0 (view t) → TableLife t es u
-    → Since τ (0 + issuesIn es) (view u)
-life-since τ = through (λ (n : ℕ) (P : State). Since τ (0 + n) P) (λ c said P Q n f. since-on τ 0 n)
-
-life-dead : {t u : Table} {es : List Event} (τ : Ticket) (k : ℕ) → Rules t → Dead τ (k + 0) (view t) → TableLife t es u
-    → Dead τ (k + issuesIn es) (view u)
-life-dead τ k = through (λ (n : ℕ) (P : State). Dead τ (k + n) P) (λ c said P Q n. dead-on τ k n)
+    tracked-on τ (issuesIn es) (fits before) (moved before meets) (followed es p) (life-tracked τ p rules now life)
 
 -- an opening that was done made a table that keeps the rules
-opened : {banks rows stages words : ℕ} {m : List ℕ} {t : Table} → Opens banks rows stages words m done t → Rules t
+pub opened : {banks rows stages words : ℕ} {m : List ℕ} {t : Table} → Opens banks rows stages words m done t → Rules t
 opened {banks} {rows} {stages} {words} {m} {t} opens = go (eqb k 0) refl
   where
     k : ℕ
@@ -159,27 +132,47 @@ opened {banks} {rows} {stages} {words} {m} {t} opens = go (eqb k 0) refl
         let said : done ≡ refused k = opens .refuses k (eqb-false k 0 e) refl .0 in
         absurd (let z : _≡_ {A = ℕ} 0 1 = cc in omega arith)
 
--- While a table is handed on untouched from its opening and no older one is used again (t to u, v to w, x to y), no
--- ticket τ of its squashed or committed references touches a later one, as long as fewer than 4,294,967,296 issues came
--- after it: a call that is given τ is refused, and hands back table and memory as they were.
-pub stale : {banks rows stages words : ℕ} {m₀ m₁ m₂ m₃ m₄ m₅ m₆ : List ℕ} {t u v w x y z : Table}
-    {es es₁ es₂ : List Event} {τ : Ticket} {said told : Answer} (c : Call) {d : Call}
-    -- τ was issued in the life of an opened table,
-    → Opens banks rows stages words m₀ done t → TableLife t es u → Meets u issue m₁ (named τ) v m₂
-    -- its reference was squashed or committed by the call c,
-    → TableLife v es₁ w → names (view w) τ ≡ true → Meets w c m₃ said x m₄ → Drops c said (view x) (place (view w) τ)
-    -- and fewer than 2 ^ 32 issues came after it when the call d was given τ
-    → TableLife x es₂ y → issuesIn es₁ + issuesIn es₂ < 2 ^ 32 → Uses τ d → Meets y d m₅ told z m₆
-    → (k : ℕ) × (k ≤ 7) × (told ≡ refused k) × (z ≡ y) × (m₆ ≡ m₅)
-stale {x = x} {y = y} {es₁ = es₁} {es₂ = es₂} {τ = τ} c opens life start life₁ live call drops life₂ few uses meets =
-    let rules-u = life-rules (opened opens) life in
-    let rules-v = start .lawful rules-u in
-    let rules-w = life-rules rules-v life₁ in
-    let rules-x = call .lawful rules-w in
-    let rules-y = life-rules rules-x life₂ in
-    let new = was-issued rules-u start in
-    let since = life-since τ rules-v (omega (arith, ap (λ (P : State). P .next) (new .state))) life₁ in
-    let free = freed τ (fits rules-w) live (moved rules-w call) drops in
-    let gone : Dead τ (issuesIn es₁ + 0) (view x) = record { since = omega arith; later = λ p h. absurd (free .0 p h) } in
-    let dead = life-dead τ (issuesIn es₁) rules-x gone life₂ in
-    unnamed-refused τ rules-y (dead-unnamed (view y) τ (issuesIn es₁ + issuesIn es₂) (fits rules-y) dead few) uses meets
+module _ {banks rows stages words : ℕ} {m₀ m₁ m₂ : List ℕ} {t u v w : Table} {earlier later : List Event} {τ : Ticket}
+    -- in the life of an opened table an issue answered τ: its reference is the youngest,
+    (opens : Opens banks rows stages words m₀ done t) (life : TableLife t earlier u) (start : Meets u issue m₁ (named τ) v m₂)
+    -- and any further calls came after it
+    (life′ : TableLife v later w) where
+  -- where they moved its reference; none: one of them squashed or committed it
+  abbrev pub now-at : Option ℕ
+  now-at = followed later (length (view u .refs))
+
+  rules-w : Rules w
+  rules-w = life-rules (start .lawful (life-rules (opened opens) life)) life′
+
+  tracked : Tracked τ (issuesIn later) now-at (view w)
+  tracked =
+      let rules-u = life-rules (opened opens) life in
+      let new = was-issued rules-u start in
+      let refs = view u .refs in
+      let youngest = ref (view u .next) waiting in
+      life-tracked τ (length refs) (start .lawful rules-u)
+      (subst (λ (P : State). Tracked τ 0 (some (length refs)) P) (sym (new .state))
+      (record {
+        since = omega (arith, new .number);
+        holds = record { live = omega (arith, length-append refs (youngest ∷ [])); stage = sym (new .stage) };
+        number = ap numberOf (getD-at refs youngest [] blank (length refs) refl) ∙ sym (new .number);
+      }))
+      life′
+
+  -- A reference that was not squashed or committed stays named by its ticket, at its position.
+  pub undropped-named : (p : ℕ) → now-at ≡ some p → (names (view w) τ ≡ true) × (place (view w) τ ≡ p)
+  undropped-named p e =
+      let h : Held τ (issuesIn later) p (view w) =
+      subst (λ (x : Option ℕ). Tracked τ (issuesIn later) x (view w)) e tracked in
+      (holds-named (view w) τ p (fits rules-w) (h .holds) (h .number), holds-place (view w) τ p (fits rules-w) (h .holds))
+
+  -- "no ticket of its squashed or committed references touches a later one, as long as fewer than 4,294,967,296 issues came
+  -- after it": a call that is given it is refused with 3 or 7, and hands back table and memory as they were.
+  pub stale : now-at ≡ none → issuesIn later < 2 ^ 32
+      → {c : Call} {m m′ : List ℕ} {x : Table} {said : Answer} → Uses τ c → Meets w c m said x m′
+      → (k : ℕ) × ((k ≡ 3) ⊎ (k ≡ 7)) × (said ≡ refused k) × (x ≡ w) × (m′ ≡ m)
+  stale e few uses meets =
+      unnamed-refused τ rules-w
+      (dead-unnamed (view w) τ (issuesIn later) (fits rules-w)
+      (subst (λ (x : Option ℕ). Tracked τ (issuesIn later) x (view w)) e tracked) few)
+      uses meets

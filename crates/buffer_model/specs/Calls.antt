@@ -14,7 +14,7 @@ use Rattle.lookup.specs.Forwarding.{forwarded}
 use Rattle.lookup.specs.Outcome.{survivors, executes}
 use Rattle.engine.specs.declared.Action.{Action}
 use Rattle.engine.specs.declared.Action.the-variants.{Compute, LoadAt, StoreAt}
-use Rattle.engine.specs.Conditions.{refusal}
+use Rattle.engine.specs.Conditions.{Check, refusal}
 use Rattle.engine.specs.Contract
 use Rattle.engine.specs.Contract.{done, named, executed, judged}
 use Rattle.engine.specs.Execution.{fateBy, answerOf, written}
@@ -73,11 +73,14 @@ acceptedResult commit P memory =
     }
 
 -- the conditions of each call
+abbrev pub checksOf : Call → State → List ℕ → List Check
+checksOf issue P memory = issueChecks P
+checksOf (execute τ act) P memory = executeChecks P memory τ (fateBy act)
+checksOf (squash τ) P memory = squashChecks P τ
+checksOf commit P memory = commitChecks P memory
+
 abbrev pub refusalOf : Call → State → List ℕ → ℕ
-refusalOf issue P memory = refusal (issueChecks P)
-refusalOf (execute τ act) P memory = refusal (executeChecks P memory τ (fateBy act))
-refusalOf (squash τ) P memory = refusal (squashChecks P τ)
-refusalOf commit P memory = refusal (commitChecks P memory)
+refusalOf c P memory = refusal (checksOf c P memory)
 
 unfoldable pub respond : Call → State → List ℕ → Result
 respond c P memory = judged (refusalOf c P memory) P memory [] (acceptedResult c P memory)
