@@ -1,7 +1,7 @@
 -- MeetingContract: how a contract is met. TestsAreTheView: the code's tests are those of the plain state. Opening, Moving,
--- Executing, Committing:
--- each call meets its contract. Numbers: stages and issue numbers under the calls. Tickets: the ticket theorem. Starred: 01's
--- examples.
+-- Executing, Committing: each call meets its contract. Ordered: refused when a condition holds, and only then, with the smallest
+-- number. Numbers: stages and issue numbers under the calls. Tickets: the ticket theorem. Starred: the examples. Broken: damaged
+-- tables.
 pub mod MeetingContract
 pub mod TestsAreTheView
 pub mod Opening
@@ -12,3 +12,4 @@ pub mod Ordered
 pub mod Numbers
 pub mod Tickets
 pub mod Starred
+pub mod Broken

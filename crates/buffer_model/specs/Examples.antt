@@ -1,18 +1,30 @@
--- 01's starred examples as a table: the sizes, the memory lent, the calls, and what each call answers. Below them stand rows
--- for what they leave out. Each row starts from a fresh opening; proofs/Starred.antt shows that every row comes out.
+-- 01's starred examples as a table: the sizes and the memory of an opening, the calls after it, and what opening and calls
+-- answer. Below them stand rows for what they leave out; specs/Edges.antt has the limits and the refusals. proofs/Starred.antt
+-- shows that every row comes out.
 -- As long as nothing has been squashed or committed, position p is at stage p under issue number p: its ticket is τ p p.
 -- Assumes nothing.
 use mathlib.Core.Path.{_≡_}
-use mathlib.Core.List.{List, [], _∷_}
+use mathlib.Core.Bool.{cond}
+use mathlib.Core.List.{List, [], _∷_, map}
 use mathlib.Core.Option.{none, some}
 use Prim.Native.Nat.{ℕ}
+use lib.Dec.{eqb}
 use lib.ListN.{replicate, set}
+use Rattle.table.specs.declared.Table.{Table}
 use Rattle.table.specs.declared.Ticket.{Ticket}
 use Rattle.table.specs.Reference.{State}
+use Rattle.engine.specs.Conditions.{refusal}
 use Rattle.engine.specs.Contract.{refused, done, named, executed}
 use Rattle.engine.specs.Opening.{opening}
 use Rattle.buffer_model.specs.Answers.{Answer}
+use Rattle.buffer_model.specs.Refusals.{openChecks}
 use Rattle.buffer_model.specs.Calls.{Call, issue, executeLoad, executeStore, executeOther, squash, commit, respond}
+use Rattle.buffer_model.specs.Contract.{Meets, Opens}
+
+-- a call on the memory that the calls before it left, or on another one that is lent to it alone
+pub data Turn : Type 0 where
+  call : Call → Turn
+  callOn : List ℕ → Call → Turn
 
 pub record Example : Type 0 where
   pub banks : ℕ
@@ -20,23 +32,44 @@ pub record Example : Type 0 where
   pub stages : ℕ
   pub words : ℕ
   pub memory : List ℕ
-  pub calls : List Call
+  pub turns : List Turn
   pub answers : List Answer
 
 -- what the calls answer, each on the state and memory that the call before left
-unfoldable pub played : State → List ℕ → List Call → List Answer
+unfoldable pub played : State → List ℕ → List Turn → List Answer
 played P memory [] = []
-played P memory (c ∷ calls) =
-    respond c P memory .answer ∷ played (respond c P memory .state) (respond c P memory .memory) calls
+played P memory (call c ∷ turns) =
+    respond c P memory .answer ∷ played (respond c P memory .state) (respond c P memory .memory) turns
+played P memory (callOn lent c ∷ turns) = respond c P lent .answer ∷ played (respond c P lent .state) memory turns
 
--- what a row's calls answer after an opening with its sizes
+-- what an opening whose conditions give k answers, and the calls after it: on the table of a refused one all are refused with 2
+abbrev pub openedBy : ℕ → State → List ℕ → List Turn → List Answer
+openedBy k P memory turns =
+    cond (eqb k 0) (done ∷ played P memory turns) (refused k ∷ map (λ (turn : Turn). refused 2) turns)
+
 abbrev pub answered : Example → List Answer
-answered e = played (opening (e .banks) (e .rows) (e .stages) (e .words)) (e .memory) (e .calls)
+answered e =
+    openedBy (refusal (openChecks (e .banks) (e .rows) (e .stages) (e .words) (e .memory)))
+    (opening (e .banks) (e .rows) (e .stages) (e .words)) (e .memory) (e .turns)
 
--- each row of a table comes out: its calls answer what it says
+-- calls that met their contracts, from this table and memory on, each on the table that the call before handed back
+pub data Session : Table → List ℕ → List Turn → List Answer → Type 0 where
+  over : {t : Table} {m : List ℕ} → Session t m [] []
+  goes : {t u : Table} {m v : List ℕ} {c : Call} {said : Answer} {turns : List Turn} {answers : List Answer}
+      → Meets t c m said u v → Session u v turns answers → Session t m (call c ∷ turns) (said ∷ answers)
+  lends : {t u : Table} {m l v : List ℕ} {c : Call} {said : Answer} {turns : List Turn} {answers : List Answer}
+      → Meets t c l said u v → Session u m turns answers → Session t m (callOn l c ∷ turns) (said ∷ answers)
+
+-- a row comes out: an opening and calls that meet their contracts answer what it says
+abbrev pub Shown : Example → Type 0
+Shown e =
+    (said : Answer) (t : Table) (answers : List Answer)
+    → Opens (e .banks) (e .rows) (e .stages) (e .words) (e .memory) said t → Session t (e .memory) (e .turns) answers
+    → said ∷ answers ≡ e .answers
+
 abbrev pub AllShown : List Example → Type 0
 AllShown [] = Unit {0}
-AllShown (e ∷ rows) = (answered e ≡ e .answers) × AllShown rows
+AllShown (e ∷ rows) = Shown e × AllShown rows
 
 -- the ticket of this stage and issue number
 abbrev pub τ : ℕ → ℕ → Ticket
@@ -46,10 +79,18 @@ abbrev pub τ : ℕ → ℕ → Ticket
 abbrev pub usualMemory : List ℕ
 usualMemory = set (replicate 200 0) 100 140
 
--- all as usual but for B and R
+-- all as usual but for B and R; the opening is done
 abbrev pub sized : ℕ → ℕ → List Call → List Answer → Example
 sized B R calls answers =
-    record { banks = B; rows = R; stages = 4; words = 200; memory = usualMemory; calls = calls; answers = answers }
+    record {
+      banks = B;
+      rows = R;
+      stages = 4;
+      words = 200;
+      memory = usualMemory;
+      turns = map call calls;
+      answers = done ∷ answers;
+    }
 
 abbrev pub usual : List Call → List Answer → Example
 usual = sized 1 4
@@ -125,8 +166,7 @@ examples =
     (named (τ 0 0) ∷ named (τ 1 1) ∷ named (τ 2 2) ∷ named (τ 3 3)
     ∷ executed 0 none ∷ executed 0 none ∷ named (τ 0 0) ∷ named (τ 1 1) ∷ named (τ 0 4) ∷ named (τ 1 5)
     ∷ executed 0 none ∷ executed 7 none ∷ [])
-    -- Not starred in 01, from here on. With these rows each refusal occurs that a call can meet on an opened table which keeps
-    -- its rules (1 is the opening's, 2 that of a broken table).
+    -- Not starred in 01, from here on.
 
     -- A store of the same word squashes too.
     ∷ usual
@@ -140,26 +180,6 @@ examples =
     ∷ usual
     (issue ∷ issue ∷ executeLoad (τ 1 1) 200 ∷ executeStore (τ 0 0) 200 7 ∷ [])
     (named (τ 0 0) ∷ named (τ 1 1) ∷ executed 0 none ∷ executed 0 (some (τ 1 1)) ∷ [])
-    -- Memory of 199 words where W is 200: refusal 3 of the calls lent memory; issue and squash are lent none.
-    ∷ record {
-      banks = 1;
-      rows = 4;
-      stages = 4;
-      words = 200;
-      memory = replicate 199 0;
-      calls =
-          issue ∷ executeLoad (τ 0 0) 5 ∷ executeStore (τ 0 0) 5 7 ∷ executeOther (τ 0 0) ∷ commit
-          ∷ squash (τ 0 0) ∷ [];
-      answers = named (τ 0 0) ∷ refused 3 ∷ refused 3 ∷ refused 3 ∷ refused 3 ∷ done ∷ [];
-    }
-    -- A ticket whose stage is n or more: refusal 7.
-    ∷ usual (issue ∷ executeOther (τ 4 0) ∷ squash (τ 4 0) ∷ []) (named (τ 0 0) ∷ refused 7 ∷ refused 7 ∷ [])
-    -- Executed twice: refusal 8.
-    ∷ usual
-    (issue ∷ executeOther (τ 0 0) ∷ executeLoad (τ 0 0) 5 ∷ [])
-    (named (τ 0 0) ∷ executed 0 none ∷ refused 8 ∷ [])
-    -- Commit with nothing live: refusal 11. Commit of a reference that has not executed: refusal 12.
-    ∷ usual (commit ∷ issue ∷ commit ∷ []) (refused 11 ∷ named (τ 0 0) ∷ refused 12 ∷ [])
     -- Commit two, issue two; a squash from position 1 also drops positions 2 and 3, past the last stage.
     ∷ usual
     (issue ∷ issue ∷ issue ∷ issue

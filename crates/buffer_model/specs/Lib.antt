@@ -5,4 +5,6 @@ pub mod Calls
 pub mod Contract
 pub mod Life
 pub mod Examples
+pub mod Edges
+pub mod Damaged
 pub mod computed
