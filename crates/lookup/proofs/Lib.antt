@@ -1,6 +1,6 @@
 -- Loops: the searches step by step. Finds: what they find. Forwards, Violations, Firsts, Bankrows: what they find is what the
--- list of references says. Places: the row and what is left, whole. Telling: what the marks of a stage say. Sentences: 01's
--- sentences of the definitions.
+-- list of references says. Places: the row and what is left, whole. Telling: what the marks of a stage say. Sentences,
+-- Eviction: 01's sentences of the definitions.
 pub mod Loops
 pub mod Finds
 pub mod Forwards
@@ -10,3 +10,4 @@ pub mod Bankrows
 pub mod Places
 pub mod Telling
 pub mod Sentences
+pub mod Eviction
