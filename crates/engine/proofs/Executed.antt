@@ -19,13 +19,12 @@ use Rattle.table.specs.Limits.{slots}
 use Rattle.table.specs.Reference.{other, loaded, stored, State}
 use Rattle.table.specs.View.{stageOf, view}
 use Rattle.table.specs.Rules.{Rules}
-use Rattle.table.specs.Moves.{squashTo, withFate}
+use Rattle.table.specs.Moves.{windowed, squashTo, withFate}
 use Rattle.table.proofs.Fates.{length-refs}
 use Rattle.table.proofs.Owning.{RowFor, row-small, row-for-less}
-use Rattle.engine.specs.computed.Steps.{cutMarks, cut, noted}
+use Rattle.engine.specs.computed.Steps.{remade, cutMarks, cut, noted}
 use Rattle.engine.proofs.Lengths.{Lengths}
 use Rattle.engine.proofs.Narrowing.{cut-rules, cut-view, cut-lengths, cut-row}
-use Rattle.engine.proofs.Windowed.{windowed}
 use Rattle.engine.proofs.Marking.{load-rules, load-view, store-rules, store-view, noted-rules, noted-view}
 use Rattle.lookup.specs.declared.Place.{Place}
 use Rattle.lookup.specs.Forwarding.{forwarded}
@@ -129,20 +128,6 @@ pub effect-made : (t : Table) (q : Effect) (s done : ℕ) (addresses cutLoads lo
     → addresses ≡ cond (q .load || q .store) (set (t .addresses) (q .row) (q .address)) (t .addresses)
     → loads ≡ marking cutLoads (q .load) (q .row) s → stores ≡ marking cutStores (q .store) (q .row) s
     → values ≡ cond (q .store) (set (t .values) s (q .value)) (t .values)
-    → record {
-      banks = t .banks;
-      rows = t .rows;
-      stages = t .stages;
-      words = t .words;
-      oldest = t .oldest;
-      live = q .left;
-      next = t .next;
-      executed = done;
-      numbers = t .numbers;
-      addresses = addresses;
-      loads = loads;
-      stores = stores;
-      values = values;
-    } ≡ applyEffect t q s
+    → remade t (t .oldest) (q .left) done addresses loads stores values ≡ applyEffect t q s
 effect-made t q s done addresses cutLoads loads cutStores stores values hcl hcs he ha hl hs hv =
     rw (hl, hs, hv, ha, he, hcl, hcs)

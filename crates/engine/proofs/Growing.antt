@@ -17,7 +17,7 @@ use Rattle.marks.proofs.Sets.{has-and}
 use Rattle.marks.proofs.Turns.{stage-injective, firsts-at}
 use Rattle.table.specs.declared.Table.{Table}
 use Rattle.table.specs.Limits.{stagesMost}
-use Rattle.table.specs.Moves.{issued}
+use Rattle.table.specs.Moves.{windowed, issued}
 use Rattle.table.specs.Reference.{waiting, Ref, ref}
 use Rattle.table.specs.Rules.{Rules}
 use Rattle.table.specs.View.{stageOf, refAt, tabulate, view}
@@ -27,7 +27,6 @@ use Rattle.table.proofs.Owning.{mark-position}
 use Rattle.engine.specs.computed.Steps.{grown}
 use Rattle.engine.proofs.Fewer.{fewer-rules}
 use Rattle.engine.proofs.Lengths.{Lengths, stage-small}
-use Rattle.engine.proofs.Windowed.{windowed}
 
 module _ (t : Table) (rules : Rules t) (lengths : Lengths t) (room : t .live < t .stages) where
   -- a stage is executed where it was and the mask of the live stages has it

@@ -1,14 +1,13 @@
 -- Refusing: the smallest number. Meeting: how a contract is met. Opening: a fresh table. Lengths: the arrays' lengths.
--- Reaching: mark words cut below an end. Fewer: a table with fewer marks. Windowed: a state with other references. Growing:
--- issue. Narrowing: squash and commit. Marking: a mark set. Fated: a reference's fate by the marks of its stage. Rowed: the
--- row of a load's place. Executed: what an execution leaves.
+-- Reaching: mark words cut below an end. Fewer: a table with fewer marks. Growing: issue. Narrowing: squash and commit. Marking:
+-- a mark set. Fated: a reference's fate by the marks of its stage. Rowed: the row of a load's place. Executed: what an execution
+-- leaves.
 pub mod Refusing
 pub mod Meeting
 pub mod Opening
 pub mod Lengths
 pub mod Reaching
 pub mod Fewer
-pub mod Windowed
 pub mod Narrowing
 pub mod Growing
 pub mod Marking

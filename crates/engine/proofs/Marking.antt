@@ -21,17 +21,16 @@ use Rattle.marks.proofs.Sets.{has-or, has-one}
 use Rattle.marks.proofs.Turns.{stage-lt, position-stage, stage-injective}
 use Rattle.table.specs.declared.Table.{Table}
 use Rattle.table.specs.Limits.{rowsIn}
-use Rattle.table.specs.Moves.{withFate}
+use Rattle.table.specs.Moves.{windowed, withFate}
 use Rattle.table.specs.Reference.{Fate, other, loaded, stored, ref, numberOf, at}
 use Rattle.table.specs.Rules.{Live, Rules}
 use Rattle.table.specs.View.{stageOf, address, loadMark, storeMark, mark, value, fateAt, refAt, view}
 use Rattle.table.proofs.Fates.{mark-load, mark-kind, no-load, no-store, fates-same, fate-load, fate-store, fate-other, at-refs}
 use Rattle.table.proofs.Lists.{tabulate-set}
 use Rattle.table.proofs.Owning.{RowFor, row-small, row-of-mark, mark-position}
-use Rattle.engine.specs.computed.Steps.{noted, loadMarked, storeMarked}
+use Rattle.engine.specs.computed.Steps.{executing, noted, withStage, loadMarked, storeMarked}
 use Rattle.engine.proofs.Fewer.{fewer-rules}
 use Rattle.engine.proofs.Lengths.{Lengths, stage-small}
-use Rattle.engine.proofs.Windowed.{windowed}
 
 -- a set with stage s more
 more-here : (w s : ℕ) → has (bitOr w (2 ^ s)) s ≡ true
@@ -44,29 +43,25 @@ more-other w s u h =
 more-had : (w s u : ℕ) → has w u ≡ true → has (bitOr w (2 ^ s)) u ≡ true
 more-had w s u h = has-or w (2 ^ s) u ∙ ap (λ (b : Bool). b || has (2 ^ s) u) h
 
--- the words with stage s more in row r
-abbrev marking : List ℕ → ℕ → ℕ → List ℕ
-marking words r s = set words r (bitOr (getD words r 0) (2 ^ s))
-
-marking-here : (words : List ℕ) (r s : ℕ) → r < length words → has (getD (marking words r s) r 0) s ≡ true
+marking-here : (words : List ℕ) (r s : ℕ) → r < length words → has (getD (withStage words r s) r 0) s ≡ true
 marking-here words r s h =
     ap (λ (w : ℕ). has w s) (getD-set-same words r (bitOr (getD words r 0) (2 ^ s)) 0 h) ∙ more-here (getD words r 0) s
 
 marking-other : (words : List ℕ) (r s : ℕ) → r < length words
-    → (q u : ℕ) → (u ≡ s → ⊥) → has (getD (marking words r s) q 0) u ≡ has (getD words q 0) u
+    → (q u : ℕ) → (u ≡ s → ⊥) → has (getD (withStage words r s) q 0) u ≡ has (getD words q 0) u
 marking-other words r s h q u d = go (eqb q r) refl
   where
     word : ℕ
     word = bitOr (getD words r 0) (2 ^ s)
 
-    go : (b : Bool) → eqb q r ≡ b → has (getD (marking words r s) q 0) u ≡ has (getD words q 0) u
+    go : (b : Bool) → eqb q r ≡ b → has (getD (withStage words r s) q 0) u ≡ has (getD words q 0) u
     go true e =
         rw (eqb-true q r e)
         (ap (λ (w : ℕ). has w u) (getD-set-same words r word 0 h) ∙ more-other (getD words r 0) s u d)
     go false e = ap (λ (w : ℕ). has w u) (getD-set-other words r q word 0 (eqb-false q r e))
 
 -- no other row gains the stage
-marking-row : (words : List ℕ) (r s q : ℕ) → has (getD words q 0) s ≡ false → has (getD (marking words r s) q 0) s ≡ true
+marking-row : (words : List ℕ) (r s q : ℕ) → has (getD words q 0) s ≡ false → has (getD (withStage words r s) q 0) s ≡ true
     → q ≡ r
 marking-row words r s q n m = go (eqb q r) refl
   where
@@ -75,25 +70,6 @@ marking-row words r s q n m = go (eqb q r) refl
     go false e =
         let same = getD-set-other words r q (bitOr (getD words r 0) (2 ^ s)) 0 (eqb-false q r e) in
         absurd (true≢false (sym m ∙ ap (λ (w : ℕ). has w s) same ∙ n))
-
--- t with stage s executed, and with these arrays
-abbrev executing : Table → ℕ → List ℕ → List ℕ → List ℕ → List ℕ → Table
-executing t s addresses loads stores values =
-    record {
-      banks = t .banks;
-      rows = t .rows;
-      stages = t .stages;
-      words = t .words;
-      oldest = t .oldest;
-      live = t .live;
-      next = t .next;
-      executed = bitOr (t .executed) (2 ^ s);
-      numbers = t .numbers;
-      addresses = addresses;
-      loads = loads;
-      stores = stores;
-      values = values;
-    }
 
 module _ (t : Table) (rules : Rules t) where
   idle-bare : (s : ℕ) → has (t .executed) s ≡ false → (r : ℕ) → r < rowsIn (t .banks) → mark t r s ≡ false
@@ -269,7 +245,7 @@ module _ (t : Table) (rules : Rules t) (lengths : Lengths t) (p a r : ℕ) (here
 
 module _ (t : Table) (rules : Rules t) (lengths : Lengths t) (p a r : ℕ) (here : p < t .live)
     (idle : has (t .executed) (stageOf t p) ≡ false) (row : RowFor t a r (t .live)) where
-  load-gains : Gains t r (stageOf t p) (marking (t .loads) r (stageOf t p)) (t .stores) (t .values)
+  load-gains : Gains t r (stageOf t p) (withStage (t .loads) r (stageOf t p)) (t .stores) (t .values)
   load-gains =
       let bare = idle-bare t rules (stageOf t p) idle in
       let none : (q : ℕ) → q < rowsIn (t .banks) → storeMark t q (stageOf t p) ≡ true → ⊥ =
@@ -285,19 +261,19 @@ module _ (t : Table) (rules : Rules t) (lengths : Lengths t) (p a r : ℕ) (here
 
   pub load-rules : Rules (loadMarked t r (stageOf t p) a)
   load-rules =
-      marked-rules t rules lengths p a r here row (marking (t .loads) r (stageOf t p)) (t .stores) (t .values) load-gains
+      marked-rules t rules lengths p a r here row (withStage (t .loads) r (stageOf t p)) (t .stores) (t .values) load-gains
 
   pub load-view : view (loadMarked t r (stageOf t p) a) ≡ withFate (view t) p (loaded a)
   load-view =
       let s = stageOf t p in
-      marked-view t rules lengths p a r here row (marking (t .loads) r s) (t .stores) (t .values) load-gains (loaded a)
+      marked-view t rules lengths p a r here row (withStage (t .loads) r s) (t .stores) (t .values) load-gains (loaded a)
       (fate-load (loadMarked t r s a) load-rules r s (row .row)
       (marking-here (t .loads) r s (omega (arith, row-small t rules r (row .row), lengths .loads)))
-      ∙ ap loaded (address-here t rules lengths p a r here row (marking (t .loads) r s) (t .stores) (t .values) load-gains))
+      ∙ ap loaded (address-here t rules lengths p a r here row (withStage (t .loads) r s) (t .stores) (t .values) load-gains))
 
 module _ (t : Table) (rules : Rules t) (lengths : Lengths t) (p a r v : ℕ) (here : p < t .live)
     (idle : has (t .executed) (stageOf t p) ≡ false) (row : RowFor t a r (t .live)) where
-  store-gains : Gains t r (stageOf t p) (t .loads) (marking (t .stores) r (stageOf t p))
+  store-gains : Gains t r (stageOf t p) (t .loads) (withStage (t .stores) r (stageOf t p))
       (set (t .values) (stageOf t p) v)
   store-gains =
       let bare = idle-bare t rules (stageOf t p) idle in
@@ -314,16 +290,16 @@ module _ (t : Table) (rules : Rules t) (lengths : Lengths t) (p a r v : ℕ) (he
 
   pub store-rules : Rules (storeMarked t r (stageOf t p) a v)
   store-rules =
-      marked-rules t rules lengths p a r here row (t .loads) (marking (t .stores) r (stageOf t p))
+      marked-rules t rules lengths p a r here row (t .loads) (withStage (t .stores) r (stageOf t p))
       (set (t .values) (stageOf t p) v) store-gains
 
   pub store-view : view (storeMarked t r (stageOf t p) a v) ≡ withFate (view t) p (stored a v)
   store-view =
       let s = stageOf t p in
       let values = set (t .values) s v in
-      marked-view t rules lengths p a r here row (t .loads) (marking (t .stores) r s) values store-gains (stored a v)
+      marked-view t rules lengths p a r here row (t .loads) (withStage (t .stores) r s) values store-gains (stored a v)
       (fate-store (storeMarked t r s a v) store-rules r s (row .row)
       (marking-here (t .stores) r s (omega (arith, row-small t rules r (row .row), lengths .stores)))
       ∙ ap₂ stored
-      (address-here t rules lengths p a r here row (t .loads) (marking (t .stores) r s) values store-gains)
+      (address-here t rules lengths p a r here row (t .loads) (withStage (t .stores) r s) values store-gains)
       (getD-set-same (t .values) s v 0 (omega (arith, lengths .values, stage-small t rules p (le-of-lt here)))))

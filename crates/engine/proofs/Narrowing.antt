@@ -17,7 +17,7 @@ use Rattle.marks.specs.Stages.{has}
 use Rattle.marks.proofs.Turns.{stage-zero, stage-lt, stage-from, firsts-has, firsts-at}
 use Rattle.table.specs.declared.Table.{Table}
 use Rattle.table.specs.Limits.{rowsIn}
-use Rattle.table.specs.Moves.{squashTo, retire}
+use Rattle.table.specs.Moves.{windowed, squashTo, retire}
 use Rattle.table.specs.Reference.{ref}
 use Rattle.table.specs.Rules.{Rules}
 use Rattle.table.specs.View.{stageOf, mark, fateAt, refAt, view}
@@ -28,7 +28,6 @@ use Rattle.engine.specs.computed.Steps.{within, narrowed, cut}
 use Rattle.engine.proofs.Fewer.{Fewer, fewer-marks, fewer-rules}
 use Rattle.engine.proofs.Lengths.{Lengths}
 use Rattle.engine.proofs.Reaching.{within-length, within-has, within-same}
-use Rattle.engine.proofs.Windowed.{windowed}
 
 narrowed-fewer : (t : Table) (o k : ℕ) → Fewer t (narrowed t o k)
 narrowed-fewer t o k =

@@ -2,12 +2,11 @@
 -- Assumes nothing.
 use mathlib.Core.Bool.{Bool, true, false, cond, _||_}
 use mathlib.Core.List.{List}
-use Prim.Native.Nat.{ℕ, _^_}
-use lib.Bits.{bitOr}
+use Prim.Native.Nat.{ℕ}
 use lib.ListN.{getD, set}
 use Rattle.table.specs.declared.Table.{Table}
 use Rattle.table.specs.Bank.{bank}
-use Rattle.engine.specs.computed.Steps.{cutMarks}
+use Rattle.engine.specs.computed.Steps.{cut, executing, withStage}
 use Rattle.lookup.specs.computed.Search.{forward, loadPlace, storePlace}
 use Rattle.engine.specs.declared.Action.{Action}
 use Rattle.engine.specs.declared.Action.the-variants.{Compute, LoadAt, StoreAt}
@@ -38,23 +37,13 @@ effectAt t p memory act =
 
 -- stage s joins the mark word of row r, where `on`
 abbrev pub marking : List ℕ → Bool → ℕ → ℕ → List ℕ
-marking words on r s = cond on (set words r (bitOr (getD words r 0) (2 ^ s))) words
+marking words on r s = cond on (withStage words r s) words
 
 -- the table after an execution at stage s with this effect
 abbrev pub applyEffect : Table → Effect → ℕ → Table
 applyEffect t q s =
-    record {
-      banks = t .banks;
-      rows = t .rows;
-      stages = t .stages;
-      words = t .words;
-      oldest = t .oldest;
-      live = q .left;
-      next = t .next;
-      executed = bitOr (t .executed) (2 ^ s);
-      numbers = t .numbers;
-      addresses = cond (q .load || q .store) (set (t .addresses) (q .row) (q .address)) (t .addresses);
-      loads = marking (cutMarks (t .banks) (t .oldest) (t .stages) (t .live) (q .left) (t .loads)) (q .load) (q .row) s;
-      stores = marking (cutMarks (t .banks) (t .oldest) (t .stages) (t .live) (q .left) (t .stores)) (q .store) (q .row) s;
-      values = cond (q .store) (set (t .values) s (q .value)) (t .values);
-    }
+    let u = cut t (q .left) in
+    executing u s (cond (q .load || q .store) (set (t .addresses) (q .row) (q .address)) (t .addresses))
+    (marking (u .loads) (q .load) (q .row) s)
+    (marking (u .stores) (q .store) (q .row) s)
+    (cond (q .store) (set (t .values) s (q .value)) (t .values))

@@ -11,6 +11,25 @@ use Rattle.table.specs.declared.Table.{Table}
 use Rattle.table.specs.Limits.{rowsIn}
 use Rattle.table.specs.View.{stageOf}
 
+-- t with another window, other executed stages and other arrays, under its sizes and issue numbers
+abbrev pub remade : Table → ℕ → ℕ → ℕ → List ℕ → List ℕ → List ℕ → List ℕ → Table
+remade t oldest live executed addresses loads stores values =
+    record {
+      banks = t .banks;
+      rows = t .rows;
+      stages = t .stages;
+      words = t .words;
+      oldest = oldest;
+      live = live;
+      next = t .next;
+      executed = executed;
+      numbers = t .numbers;
+      addresses = addresses;
+      loads = loads;
+      stores = stores;
+      values = values;
+    }
+
 -- the mark words, the first n of them with nothing outside the set m
 abbrev pub within : ℕ → List ℕ → ℕ → List ℕ
 within n words m = map (λ (w : ℕ). bitAnd w m) (take n words) ++ drop n words
@@ -18,21 +37,10 @@ within n words m = map (λ (w : ℕ). bitAnd w m) (take n words) ++ drop n words
 -- the window of k stages from stage o on: marks outside it go, in the rows of the banks in use
 abbrev pub narrowed : Table → ℕ → ℕ → Table
 narrowed t o k =
-    record {
-      banks = t .banks;
-      rows = t .rows;
-      stages = t .stages;
-      words = t .words;
-      oldest = o;
-      live = k;
-      next = t .next;
-      executed = t .executed;
-      numbers = t .numbers;
-      addresses = t .addresses;
-      loads = within (rowsIn (t .banks)) (t .loads) (firsts o (t .stages) k);
-      stores = within (rowsIn (t .banks)) (t .stores) (firsts o (t .stages) k);
-      values = t .values;
-    }
+    remade t o k (t .executed) (t .addresses)
+    (within (rowsIn (t .banks)) (t .loads) (firsts o (t .stages) k))
+    (within (rowsIn (t .banks)) (t .stores) (firsts o (t .stages) k))
+    (t .values)
 
 -- mark words of so many banks and of a window of n stages from o on, of which `left` of `live` references stay
 abbrev pub cutMarks : ℕ → ℕ → ℕ → ℕ → ℕ → List ℕ → List ℕ
@@ -41,21 +49,10 @@ cutMarks banks o n live left words = cond (ltb left live) (within (rowsIn banks)
 -- the table of which the first `left` references stay
 abbrev pub cut : Table → ℕ → Table
 cut t left =
-    record {
-      banks = t .banks;
-      rows = t .rows;
-      stages = t .stages;
-      words = t .words;
-      oldest = t .oldest;
-      live = left;
-      next = t .next;
-      executed = t .executed;
-      numbers = t .numbers;
-      addresses = t .addresses;
-      loads = cutMarks (t .banks) (t .oldest) (t .stages) (t .live) left (t .loads);
-      stores = cutMarks (t .banks) (t .oldest) (t .stages) (t .live) left (t .stores);
-      values = t .values;
-    }
+    remade t (t .oldest) left (t .executed) (t .addresses)
+    (cutMarks (t .banks) (t .oldest) (t .stages) (t .live) left (t .loads))
+    (cutMarks (t .banks) (t .oldest) (t .stages) (t .live) left (t .stores))
+    (t .values)
 
 -- a new youngest reference in the next stage, not executed
 abbrev pub grown : Table → Table
@@ -76,59 +73,24 @@ grown t =
       values = t .values;
     }
 
+-- t with stage s executed, and with these arrays
+abbrev pub executing : Table → ℕ → List ℕ → List ℕ → List ℕ → List ℕ → Table
+executing t s addresses loads stores values =
+    remade t (t .oldest) (t .live) (bitOr (t .executed) (2 ^ s)) addresses loads stores values
+
 -- stage s has executed without memory
 abbrev pub noted : Table → ℕ → Table
-noted t s =
-    record {
-      banks = t .banks;
-      rows = t .rows;
-      stages = t .stages;
-      words = t .words;
-      oldest = t .oldest;
-      live = t .live;
-      next = t .next;
-      executed = bitOr (t .executed) (2 ^ s);
-      numbers = t .numbers;
-      addresses = t .addresses;
-      loads = t .loads;
-      stores = t .stores;
-      values = t .values;
-    }
+noted t s = executing t s (t .addresses) (t .loads) (t .stores) (t .values)
+
+-- the mark words with stage s more in row r
+abbrev pub withStage : List ℕ → ℕ → ℕ → List ℕ
+withStage words r s = set words r (bitOr (getD words r 0) (2 ^ s))
 
 -- a load mark of stage s in row r, which is now address a's
 abbrev pub loadMarked : Table → ℕ → ℕ → ℕ → Table
-loadMarked t r s a =
-    record {
-      banks = t .banks;
-      rows = t .rows;
-      stages = t .stages;
-      words = t .words;
-      oldest = t .oldest;
-      live = t .live;
-      next = t .next;
-      executed = bitOr (t .executed) (2 ^ s);
-      numbers = t .numbers;
-      addresses = set (t .addresses) r a;
-      loads = set (t .loads) r (bitOr (getD (t .loads) r 0) (2 ^ s));
-      stores = t .stores;
-      values = t .values;
-    }
+loadMarked t r s a = executing t s (set (t .addresses) r a) (withStage (t .loads) r s) (t .stores) (t .values)
 
 -- a store mark of stage s in row r, which is now address a's, with the word v
 abbrev pub storeMarked : Table → ℕ → ℕ → ℕ → ℕ → Table
 storeMarked t r s a v =
-    record {
-      banks = t .banks;
-      rows = t .rows;
-      stages = t .stages;
-      words = t .words;
-      oldest = t .oldest;
-      live = t .live;
-      next = t .next;
-      executed = bitOr (t .executed) (2 ^ s);
-      numbers = t .numbers;
-      addresses = set (t .addresses) r a;
-      loads = t .loads;
-      stores = set (t .stores) r (bitOr (getD (t .stores) r 0) (2 ^ s));
-      values = set (t .values) s v;
-    }
+    executing t s (set (t .addresses) r a) (t .loads) (withStage (t .stores) r s) (set (t .values) s v)
