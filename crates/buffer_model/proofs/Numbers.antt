@@ -25,6 +25,7 @@ use Rattle.table.specs.Moves.{issued, squashTo, retire}
 use Rattle.lookup.specs.Outcome.{survivors, executes}
 use Rattle.engine.specs.Contract.{refused}
 use Rattle.engine.specs.Execution.{fateBy}
+use Rattle.engine.specs.Opening.{opening}
 use Rattle.engine.proofs.Meeting.{turned}
 use Rattle.buffer_model.specs.Answers.{Answer}
 use Rattle.buffer_model.specs.Refusals.{place, names}
@@ -158,6 +159,16 @@ retired-holds P s p f h =
       },
       ap numberOf (getD-drop 1 (P .refs) p blank),
     )
+
+-- "The first issue number is 0, and each successful issue adds one, wrapping from 4,294,967,295 to 0."
+pub first-number : (banks rows stages words : ℕ) → opening banks rows stages words .next ≡ 0
+first-number banks rows stages words = refl
+
+pub next-number : (P : State) → P .next < 4294967295 → issued P .next ≡ P .next + 1
+next-number P h = omega (arith, h)
+
+pub last-number : (P : State) → P .next ≡ 4294967295 → issued P .next ≡ 0
+last-number P h = omega (arith, h)
 
 -- a ticket names the reference at its stage that has its number
 named-holds : (P : State) (τ : Ticket) → Fits P → names P τ ≡ true

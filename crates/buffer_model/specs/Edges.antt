@@ -76,6 +76,13 @@ calls =
     (done ∷ named (τ 0 0) ∷ refused 7 ∷ refused 7 ∷ refused 7 ∷ refused 7 ∷ refused 7
     ∷ refused 7 ∷ done ∷ named (τ 0 1) ∷ refused 7 ∷ refused 7 ∷ executed 0 none ∷ named (τ 0 1)
     ∷ refused 7 ∷ refused 7 ∷ [])
+    -- 7: with stage 1 the oldest of two, stage 0 is at position 1, and stage 2 is no stage.
+    ∷ row 1 4 2 8 8
+    (map call
+    (issue ∷ executeOther (τ 0 0) ∷ commit ∷ issue ∷ issue
+    ∷ executeOther (τ 2 2) ∷ squash (τ 2 2) ∷ executeOther (τ 0 2) ∷ squash (τ 0 2) ∷ []))
+    (done ∷ named (τ 0 0) ∷ executed 0 none ∷ named (τ 0 0) ∷ named (τ 1 1) ∷ named (τ 0 2)
+    ∷ refused 7 ∷ refused 7 ∷ executed 0 none ∷ done ∷ [])
     -- 8: executed, whatever it executed.
     ∷ row 1 4 4 8 8
     (map call
