@@ -1,7 +1,7 @@
 -- MeetingContract: how a contract is met. TestsAreTheView: the code's tests are those of the plain state. Opening, Moving,
 -- Executing, Committing: each call meets its contract. Ordered: refused when a condition holds, and only then, with the smallest
--- number. Numbers: stages and issue numbers under the calls. Tickets: the ticket theorem. Starred: the examples. Broken: damaged
--- tables.
+-- number. Stalling: 10 exactly where no row is to be had. Numbers: stages and issue numbers under the calls. Tickets: the
+-- ticket theorem. Starred: the examples. Broken: damaged tables.
 pub mod MeetingContract
 pub mod TestsAreTheView
 pub mod Opening
@@ -9,6 +9,7 @@ pub mod Moving
 pub mod Executing
 pub mod Committing
 pub mod Ordered
+pub mod Stalling
 pub mod Numbers
 pub mod Tickets
 pub mod Starred

@@ -278,7 +278,8 @@ module _ (τ : Ticket) (n : ℕ) {c : Call} {said : Answer} {P : State} (f : Fit
           record {
             since = since-on (keeps held count to) (h .since);
             later = λ q g.
-                absurd (omega (arith, g .live, ltb-false p (length (Q .refs)) e, the-place P τ q p f (kept-holds held g) (h .holds)));
+                let same = the-place P τ q p f (kept-holds held g) (h .holds) in
+                absurd (omega (arith, g .live, ltb-false p (length (Q .refs)) e, same));
           }
   held-on (grows count to) p h =
       let new = ref (P .next) waiting in

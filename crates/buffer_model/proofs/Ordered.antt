@@ -48,7 +48,7 @@ numbers-rise (calls (squash τ) t m) = refl
 numbers-rise (calls commit t m) = refl
 
 -- the first condition that holds decides
-abbrev Decided : ℕ → Answer → Type 0
+abbrev pub Decided : ℕ → Answer → Type 0
 Decided k said = (k ≡ 0 → (j : ℕ) → said ≡ refused j → ⊥) × ((k ≡ 0 → ⊥) → said ≡ refused k)
 
 call-decided : (c : Call) (t : Table) (m : List ℕ) {u : Table} {v : List ℕ} {said : Answer} → Meets t c m said u v
@@ -73,7 +73,7 @@ call-decided c t m {u} {v} {said} meets = go (lawful t) refl
               meets .refuses rules k (ap (λ (x : Result). x .answer) (judged-refused k (view t) m [] r some)) .0,
         )
 
-decided : {q : Asked} {said : Answer} → Answered q said → Decided (refusal (conditions q)) said
+pub decided : {q : Asked} {said : Answer} → Answered q said → Decided (refusal (conditions q)) said
 decided (opened made) =
     (λ z j f. no-refusal done j tt (sym (made .opens z .0) ∙ f), λ some. made .refuses _ some refl .0)
 decided (called {c = c} {t = t} {m = m} meets) = call-decided c t m meets
@@ -87,14 +87,20 @@ refused-smallest {q} answered k h =
     let some : refusal (conditions q) ≡ 0 → ⊥ = λ z. omega (arith, least .0) in
     (decided answered .1 some, refusal-holds (conditions q) some, least .1)
 
--- "and only then".
-pub refused-holds : {q : Asked} (k : ℕ) → Answered q (refused k) → holds k (conditions q) ≡ true
-refused-holds {q} k answered = go (eqb (refusal (conditions q)) 0) refl
+-- the number of a refusal is that of the first condition that holds
+pub refused-first : {q : Asked} (k : ℕ) → Answered q (refused k)
+    → (refusal (conditions q) ≡ k) × (refusal (conditions q) ≡ 0 → ⊥)
+refused-first {q} k answered = go (eqb (refusal (conditions q)) 0) refl
   where
-    go : (b : Bool) → eqb (refusal (conditions q)) 0 ≡ b → holds k (conditions q) ≡ true
+    go : (b : Bool) → eqb (refusal (conditions q)) 0 ≡ b → (refusal (conditions q) ≡ k) × (refusal (conditions q) ≡ 0 → ⊥)
     go true e = absurd (decided answered .0 (eqb-true _ 0 e) k refl)
     go false e =
         let some = eqb-false (refusal (conditions q)) 0 e in
         let same : refused k ≡ refused (refusal (conditions q)) = decided answered .1 some in
-        let number : refusal (conditions q) ≡ k = cc in
-        subst (λ (j : ℕ). holds j (conditions q) ≡ true) number (refusal-holds (conditions q) some)
+        (cc, some)
+
+-- "and only then".
+pub refused-holds : {q : Asked} (k : ℕ) → Answered q (refused k) → holds k (conditions q) ≡ true
+refused-holds {q} k answered =
+    let first = refused-first k answered in
+    subst (λ (j : ℕ). holds j (conditions q) ≡ true) (first .0) (refusal-holds (conditions q) (first .1))

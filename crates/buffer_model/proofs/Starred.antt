@@ -4,9 +4,8 @@
 -- Assumes nothing.
 use mathlib.Core.Bool.{Bool, true, false, cond}
 use mathlib.Core.List.{List, [], _∷_, _++_, map}
-use mathlib.Core.Path.{_≡_, refl, sym, ap, ap₂, subst, _∙_}
+use mathlib.Core.Path.{_≡_, refl, ap, ap₂, subst, _∙_}
 use Prim.Native.Nat.{ℕ}
-use native.Mathlib.Omega.{arith}
 use lib.Dec.{eqb}
 use borrow.Author.Tests.{eqb-true, eqb-false}
 use Rattle.marks.specs.Counting.{count, last}
@@ -26,8 +25,7 @@ use Rattle.engine.proofs.Opening.{no-rules}
 use Rattle.buffer_model.specs.Answers.{Answer}
 use Rattle.buffer_model.specs.Refusals.{openChecks}
 use Rattle.buffer_model.specs.Calls.{respond}
-use Rattle.buffer_model.specs.Contract.{Opens}
-use Rattle.buffer_model.specs.Examples.{Turn, Example, played, openedBy, answered, Session, over, goes, lends, Shown, AllShown}
+use Rattle.buffer_model.specs.Examples.{Turn, Example, played, answered, Session, over, goes, lends, Shown, AllShown}
 use Rattle.buffer_model.specs.Examples.{examples}
 use Rattle.buffer_model.specs.Edges.{openings, calls}
 

@@ -3,7 +3,6 @@
 -- Stage s in a mark word is 2 ^ s: 1, 2, 4 and 8 are stages 0 to 3. Rows 0 to 7 are places of bank 0, rows 8 to 15 of bank 1.
 -- Assumes nothing.
 use mathlib.Core.Path.{_≡_}
-use mathlib.Core.Bool.{Bool, true, false}
 use mathlib.Core.List.{List, [], _∷_}
 use Prim.Native.Nat.{ℕ}
 use lib.ListN.{replicate, set}

@@ -9,7 +9,7 @@ use Rattle.table.specs.View.{tabulate}
 use Rattle.engine.specs.Contract.{refused, done, named, executed}
 use Rattle.buffer_model.specs.Answers.{Answer}
 use Rattle.buffer_model.specs.Calls.{issue, executeLoad, executeStore, executeOther, squash, commit}
-use Rattle.buffer_model.specs.Examples.{Turn, call, callOn, Example, τ, usual}
+use Rattle.buffer_model.specs.Examples.{Turn, call, callOn, Example, τ}
 
 -- sizes, the words of a memory of zeros, the calls and the answers
 abbrev pub row : ℕ → ℕ → ℕ → ℕ → ℕ → List Turn → List Answer → Example

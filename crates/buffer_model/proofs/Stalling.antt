@@ -1,0 +1,91 @@
+-- "Without such a row the answer is refusal 10", both ways, through the contract: an execution answers 10 exactly where none of
+-- its smaller conditions holds and the plain list has no row for its address (lookup's proofs/Eviction.antt).
+-- Assumes nothing.
+use mathlib.Core.Bool.{Bool, true, false, not, and-eq-true-iff}
+use mathlib.Core.List.{List, [], _∷_}
+use mathlib.Core.Path.{_≡_, refl, ap, _∙_}
+use Prim.Native.Nat.{ℕ, _<_}
+use native.Mathlib.Omega.{arith}
+use lib.Dec.{eqb, ltb}
+use lib.ListN.{length}
+use borrow.Author.Tests.{ltb-true, eqb-true, eq-eqb}
+use Rattle.table.specs.declared.Table.{Table}
+use Rattle.table.specs.declared.Ticket.{Ticket}
+use Rattle.table.specs.Reference.{fateOf, at}
+use Rattle.table.specs.View.{view}
+use Rattle.table.specs.Rules.{Rules}
+use Rattle.table.specs.computed.Check.{lawful}
+use Rattle.table.proofs.Lawful.{lawful-rules, rules-lawful}
+use Rattle.lookup.specs.Outcome.{survivors}
+use Rattle.lookup.specs.Rows.{touches}
+use Rattle.lookup.proofs.Eviction.{Stalled, stalls, stalls-only}
+use Rattle.engine.specs.declared.Action.{Action}
+use Rattle.engine.specs.Conditions.{when, refusal, hasExecuted}
+use Rattle.engine.specs.Contract.{refused}
+use Rattle.engine.specs.Execution.{fateBy}
+use Rattle.buffer_model.specs.Answers.{Answer}
+use Rattle.buffer_model.specs.Refusals.{place, names}
+use Rattle.buffer_model.specs.Calls.{execute}
+use Rattle.buffer_model.specs.Contract.{Meets}
+use Rattle.buffer_model.proofs.Ordered.{Asked, calls, conditions, Answered, called, decided, refused-first}
+
+-- none of 2, 3, 7 and 8 holds of an execution with this ticket
+pub record Executable (t : Table) (τ : Ticket) (m : List ℕ) : Type 0 where
+  pub rules : Rules t
+  pub lent : length m ≡ t .words
+  pub named : names (view t) τ ≡ true
+  pub waits : hasExecuted (fateOf (at (view t .refs) (place (view t) τ))) ≡ false
+
+-- the last condition decides where none before it holds, and only there
+last-of-five : (a b c d e : Bool)
+    → refusal (when (not a) 2 ∷ when (not b) 3 ∷ when (not c) 7 ∷ when d 8 ∷ when e 10 ∷ []) ≡ 10
+    → (a ≡ true) × (b ≡ true) × (c ≡ true) × (d ≡ false) × (e ≡ true)
+last-of-five false b c d e z = absurd (omega arith)
+last-of-five true false c d e z = absurd (omega arith)
+last-of-five true true false d e z = absurd (omega arith)
+last-of-five true true true true e z = absurd (omega arith)
+last-of-five true true true false false z = absurd (omega arith)
+last-of-five true true true false true z = (refl, refl, refl, refl, refl)
+
+module _ (t : Table) (τ : Ticket) (act : Action) (m : List ℕ) where
+  abbrev asked : Asked
+  asked = calls (execute τ act) t m
+
+  -- the position that the ticket names is live
+  named-place : names (view t) τ ≡ true → place (view t) τ < length (view t .refs)
+  named-place e =
+      let outer = and-eq-true-iff (ltb (τ .stage) (t .stages)) _ .0 e in
+      let inner = and-eq-true-iff (ltb (place (view t) τ) (length (view t .refs))) _ .0 (outer .1) in
+      ltb-true (place (view t) τ) (length (view t .refs)) (inner .0)
+
+  pub ten-stalls : {u : Table} {v : List ℕ} → Meets t (execute τ act) m (refused 10) u v
+      → Executable t τ m × ((a : ℕ) × (touches a (fateBy act) ≡ true) × Stalled (view t) (place (view t) τ) a)
+  ten-stalls meets =
+      let answered : Answered asked (refused 10) = called meets in
+      let w = last-of-five (lawful t) (eqb (length m) (t .words)) (names (view t) τ)
+      (hasExecuted (fateOf (at (view t .refs) (place (view t) τ))))
+      (eqb (survivors (view t) (place (view t) τ) (fateBy act)) 0)
+      (refused-first 10 answered .0) in (
+        record {
+          rules = lawful-rules t (w .0);
+          lent = eqb-true (length m) (t .words) (w .1);
+          named = w .2;
+          waits = w .3;
+        },
+        stalls-only (view t) (place (view t) τ) (fateBy act) (named-place (w .2)) (eqb-true _ 0 (w .4)),
+      )
+
+  pub stalls-ten : {u : Table} {v : List ℕ} {said : Answer} → Meets t (execute τ act) m said u v → Executable t τ m
+      → (a : ℕ) → touches a (fateBy act) ≡ true → Stalled (view t) (place (view t) τ) a → said ≡ refused 10
+  stalls-ten {u} {v} {said} meets ready a e stall =
+      let answered : Answered asked said = called meets in
+      let none = stalls (view t) (place (view t) τ) a (fateBy act) e stall in
+      let ten : refusal (conditions asked) ≡ 10 =
+      rw (
+        rules-lawful t (ready .rules),
+        eq-eqb (length m) (t .words) (ready .lent),
+        ready .named,
+        ready .waits,
+        eq-eqb (survivors (view t) (place (view t) τ) (fateBy act)) 0 none,
+      ) in
+      decided answered .1 (λ z. omega (arith, ten)) ∙ ap refused ten
