@@ -6,9 +6,10 @@
 -- A call on a sound machine does to its plain state what the plain call does, with the same answer, and hands back a sound
 -- machine. So calls made from a state of the play follow the play of the same calls (Follows), and what Record says of that
 -- one is said of them. An opening that says `done` was not refused, so m is sound and its plain state is the opened one.
+-- Further calls make one life with those before them (life-join), so what is said of every life is said after them too.
 -- Assumes nothing.
 use mathlib.Core.Path.{_≡_, refl, sym, subst, ap, ap₂, _∙_}
-use mathlib.Core.Bool.{true, not, _&&_}
+use mathlib.Core.Bool.{true, false, not, _&&_}
 use mathlib.Core.List.{List, [], _∷_, _++_, append-nil, append-assoc}
 use Prim.Native.Nat.{ℕ, zero, suc, _+_, _≤_}
 use native.Mathlib.Nat.{add-zero, zero-add, add-assoc}
@@ -18,7 +19,7 @@ use Rattle.engine.specs.Conditions.{refusal}
 use Rattle.machine_model.specs.declared.Machine.{Machine}
 use Rattle.machine_model.specs.Calls.{Plain, Call, Answer, respond, openChecks}
 use Rattle.machine_model.specs.Contract.{plain, Sound, Meets, Opens}
-use Rattle.theorem.specs.Sequential.{runAfter}
+use Rattle.theorem.specs.Sequential.{runAfter, ends}
 use Rattle.theorem.specs.Play.{recorded, commitsIn, Played, plays, play, start, needed, isRefused, allAccepted}
 use Rattle.theorem.specs.Life.{Life, born, lived}
 use Rattle.theorem.specs.Truth.{Truth, noneRefused, CallsTruth}
@@ -95,6 +96,23 @@ module _ (program : List ℕ) where
             ∙ sym (answers-snoc x cs c);
       }
 
+-- two lives in a row are one
+pub life-join : {program : List ℕ} {m u x : Machine} {w v y : List ℕ} {cs₁ cs₂ : List Call} {answers₁ answers₂ : List Answer}
+    {record₁ record₂ : List ℕ} {k j : ℕ}
+    → Life program m w cs₁ answers₁ u v record₁ k
+    → Life program u v cs₂ answers₂ x y record₂ j
+    → Life program m w (cs₁ ++ cs₂) (answers₁ ++ answers₂) x y (record₁ ++ record₂) (k + j)
+life-join {cs₁ = cs₁} {answers₁ = answers₁} {record₁ = record₁} {k = k} life born =
+    rw (append-nil cs₁, append-nil answers₁, append-nil record₁, add-zero k) life
+life-join {cs₁ = cs₁} {answers₁ = answers₁} {record₁ = record₁} {k = k} life
+    (lived {cs = cs} {answers = answers} {record′ = record′} {list = list} {n = n} {said = said} c more h) =
+    rw (
+      ← append-assoc cs₁ cs (c ∷ []),
+      ← append-assoc answers₁ answers (said ∷ []),
+      ← append-assoc record₁ record′ (recorded said list),
+      ← add-assoc k n (commitsIn said),
+    ) (lived c (life-join life more) h)
+
 -- ---- from an opening
 
 -- one that says `done` was not refused
@@ -145,7 +163,25 @@ module _ {B R n W : ℕ} {program w : List ℕ} {m : Machine} (opens : Opens B R
               ap noneRefused (f .said) ∙ sym (accepted-answers program there (needed (plain u))) ∙ g .0,
               g .1,
               omega (arith, ap (λ z. z .commits) (f .played), g .2),
+              ap (λ z. z .record′) (f .played) ∙ g .3,
             );
         stops = λ e {cs = later} more.
             omega (arith, ap (λ z. z .commits) (from-there more .played), plain-truth .stops e later);
       }
+
+-- Lives in a row are one, so the theorem holds again after further calls: those that u needs lead to the run after its next
+-- step, and after its end any calls leave it where it stands.
+module _ {B R n W : ℕ} {program w : List ℕ} {m : Machine} (opens : Opens B R n W program w done m) {cs : List Call}
+    {answers : List Answer} {u : Machine} {v record′ : List ℕ} {k : ℕ} (life : Life program m w cs answers u v record′ k)
+    {answers₂ : List Answer} {x : Machine} {y more : List ℕ} {j : ℕ} where
+  pub calls-next : ends program (runAfter program w k) ≡ false → Life program u v (needed (plain u)) answers₂ x y more j
+      → CallsTruth program w x y (record′ ++ more) (suc k)
+  calls-next e later =
+      let one : k + j ≡ suc k = omega (arith, calls-theorem opens life .goes-on e later .2) in
+      subst (CallsTruth program w x y (record′ ++ more)) one (calls-theorem opens (life-join life later))
+
+  pub calls-over : {cs₂ : List Call} → ends program (runAfter program w k) ≡ true → Life program u v cs₂ answers₂ x y more j
+      → CallsTruth program w x y (record′ ++ more) k
+  calls-over e later =
+      let none : k + j ≡ k = omega (arith, calls-theorem opens life .stops e later) in
+      subst (CallsTruth program w x y (record′ ++ more)) none (calls-theorem opens (life-join life later))

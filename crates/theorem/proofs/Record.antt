@@ -203,6 +203,7 @@ module _ (program memory : List ℕ) where
 
 module _ (B R n W : ℕ) (program memory : List ℕ) (opens : refusal (openChecks B R n W program memory) ≡ 0) where
   pub record-theorem : (calls : List Call) → Truth program memory (play program (start (opened B R n W program) memory) calls)
+  unfolding runAfter
   record-theorem calls =
       let x₀ = start (opened B R n W program) memory in
       let h₀ : Held program memory x₀ =
@@ -214,6 +215,12 @@ module _ (B R n W : ℕ) (program memory : List ℕ) (opens : refusal (openCheck
         record-grows = h .kept .fours;
         registers-are = h .kept .registers;
         memory-is = h .kept .lent;
-        goes-on = needed-next program memory x h;
+        goes-on = λ e.
+            let g = needed-next program memory x h e in (
+              g .0,
+              g .1,
+              omega (arith, g .2),
+              held-play program memory x h (next x) .kept .record′ ∙ ap (λ (k : ℕ). runAfter program memory k .record′) (g .2),
+            );
         stops = none-play program memory x h;
       }

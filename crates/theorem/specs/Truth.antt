@@ -3,13 +3,13 @@
 -- Assumes nothing.
 use mathlib.Core.Path.{_≡_}
 use mathlib.Core.Bool.{Bool, true, false, not, _&&_}
-use mathlib.Core.List.{List, [], _∷_}
+use mathlib.Core.List.{List, [], _∷_, _++_}
 use Prim.Native.Nat.{ℕ, suc, _*_, _≤_}
 use lib.ListN.{length}
 use Rattle.machine_model.specs.declared.Machine.{Machine}
 use Rattle.machine_model.specs.Calls.{Call, Answer}
 use Rattle.machine_model.specs.Contract.{plain}
-use Rattle.theorem.specs.Sequential.{Run, runAfter, ends}
+use Rattle.theorem.specs.Sequential.{Run, runAfter, ends, step}
 use Rattle.theorem.specs.Play.{Played, play, needed, isRefused, allAccepted}
 use Rattle.theorem.specs.Life.{Life}
 
@@ -22,8 +22,8 @@ next x = needed (x .state)
 
 -- Any list of calls on an opened program, refused ones among them, came to x. The record of x is the record of the run, four
 -- numbers a commit, and the committed registers and the memory are the run's. As long as the run has not ended, `next`, at
--- most three calls that 01 names, are all accepted after x and commit one instruction more. Once it has ended, no further
--- calls commit anything.
+-- most three calls that 01 names, are all accepted after x and commit its next instruction: they commit one more, and the
+-- record is then that of the run after its next step. Once it has ended, no further calls commit anything.
 pub record Truth (program memory : List ℕ) (x : Played) : Type 0 where
   pub record-is : x .record′ ≡ run program memory x .record′
   pub record-grows : length (x .record′) ≡ x .commits * 4
@@ -31,6 +31,7 @@ pub record Truth (program memory : List ℕ) (x : Played) : Type 0 where
   pub memory-is : x .memory ≡ run program memory x .memory
   pub goes-on : ends program (run program memory x) ≡ false
       → (allAccepted program x (next x) ≡ true) × (length (next x) ≤ 3) × (play program x (next x) .commits ≡ suc (x .commits))
+      × (play program x (next x) .record′ ≡ step program (run program memory x) .record′)
   pub stops : ends program (run program memory x) ≡ true → (more : List Call) → play program x more .commits ≡ x .commits
 
 unfoldable pub noneRefused : List Answer → Bool
@@ -39,8 +40,8 @@ noneRefused (a ∷ answers) = not (isRefused a) && noneRefused answers
 
 -- The same of the calls. Any calls from an opening with memory w, refused ones among them, each as its contract says, led to
 -- machine u and memory v, with a record and k commits read off the answers. These are k steps of the run. As long as it has
--- not ended, the calls that u needs, at most three, are answered without a refusal and tell of one commit. Once it has ended,
--- any further calls tell of none.
+-- not ended, the calls that u needs, at most three, are answered without a refusal and tell of one commit, and the record
+-- with the numbers that they add is that of the run after its next step. Once it has ended, any further calls tell of none.
 pub record CallsTruth (program w : List ℕ) (u : Machine) (v record′ : List ℕ) (k : ℕ) : Type 0 where
   pub record-is : record′ ≡ runAfter program w k .record′
   pub record-grows : length record′ ≡ k * 4
@@ -49,6 +50,7 @@ pub record CallsTruth (program w : List ℕ) (u : Machine) (v record′ : List �
   pub goes-on : ends program (runAfter program w k) ≡ false → {answers : List Answer} {x : Machine} {y more : List ℕ} {j : ℕ}
       → Life program u v (needed (plain u)) answers x y more j
       → (noneRefused answers ≡ true) × (length (needed (plain u)) ≤ 3) × (j ≡ 1)
+      × (record′ ++ more ≡ step program (runAfter program w k) .record′)
   pub stops : ends program (runAfter program w k) ≡ true → {cs : List Call} {answers : List Answer} {x : Machine}
       {y more : List ℕ} {j : ℕ}
       → Life program u v cs answers x y more j
