@@ -11,7 +11,7 @@
 use mathlib.Core.Path.{_≡_, refl, sym, subst, ap, ap₂, _∙_}
 use mathlib.Core.Bool.{true, false, not, _&&_}
 use mathlib.Core.List.{List, [], _∷_, _++_, append-nil, append-assoc}
-use Prim.Native.Nat.{ℕ, zero, suc, _+_, _≤_}
+use Prim.Native.Nat.{ℕ, zero, suc, _+_}
 use native.Mathlib.Nat.{add-zero, zero-add, add-assoc}
 use native.Mathlib.Omega.{arith}
 use Rattle.engine.specs.Contract.{done}
@@ -23,7 +23,7 @@ use Rattle.theorem.specs.Sequential.{runAfter, ends}
 use Rattle.theorem.specs.Play.{recorded, commitsIn, Played, plays, play, start, needed, isRefused, allAccepted}
 use Rattle.theorem.specs.Life.{Life, born, lived}
 use Rattle.theorem.specs.Truth.{Truth, noneRefused, CallsTruth}
-use Rattle.theorem.proofs.Record.{record-theorem}
+use Rattle.theorem.proofs.Record.{after, record-theorem}
 
 -- machine u and memory v in the play, with this record and n commits
 abbrev pub reached : Machine → List ℕ → List ℕ → ℕ → Played
@@ -116,7 +116,7 @@ life-join {cs₁ = cs₁} {answers₁ = answers₁} {record₁ = record₁} {k =
 -- ---- from an opening
 
 -- one that says `done` was not refused
-done-opens : {B R n W : ℕ} {program w : List ℕ} {m : Machine} → Opens B R n W program w done m
+pub done-opens : {B R n W : ℕ} {program w : List ℕ} {m : Machine} → Opens B R n W program w done m
     → refusal (openChecks B R n W program w) ≡ 0
 done-opens {B} {R} {n} {W} {program} {w} h = go (refusal (openChecks B R n W program w)) refl
   where
@@ -130,19 +130,21 @@ done-opens {B} {R} {n} {W} {program} {w} h = go (refusal (openChecks B R n W pro
 
 module _ {B R n W : ℕ} {program w : List ℕ} {m : Machine} (opens : Opens B R n W program w done m) {cs : List Call}
     {answers : List Answer} {u : Machine} {v record′ : List ℕ} {k : ℕ} (life : Life program m w cs answers u v record′ k) where
-  from-opening : Follows program (start (plain m) w) cs answers u v record′ k
+  pub from-opening : Follows program (start (plain m) w) cs answers u v record′ k
   from-opening = follows program [] 0 (opens .state (done-opens opens) .0) life
 
   -- the plain state of the machine in the play
-  abbrev there : Played
+  abbrev pub there : Played
   there = reached u v record′ k
 
+  -- what holds where the calls lead in the play holds of it
+  pub holds-there : (P : Played → Type 0) → P (after B R n W program w cs) → P there
+  holds-there P h =
+      subst P (sym (from-opening .played) ∙ same-played refl refl refl (zero-add k))
+      (subst (λ X. P (play program (start X w) cs)) (sym (opens .state (done-opens opens) .1)) h)
+
   plain-truth : Truth program w there
-  plain-truth =
-      let o = done-opens opens in
-      let t = subst (λ X. Truth program w (play program (start X w) cs)) (sym (opens .state o .1))
-      (record-theorem B R n W program w o cs) in
-      subst (Truth program w) (sym (from-opening .played) ∙ same-played refl refl refl (zero-add k)) t
+  plain-truth = holds-there (Truth program w) (record-theorem B R n W program w (done-opens opens) cs)
 
   -- further calls go on from there
   from-there : {cs₂ : List Call} {answers₂ : List Answer} {x : Machine} {y record₂ : List ℕ} {j : ℕ}

@@ -36,7 +36,7 @@ use Rattle.theorem.proofs.Links.{coreOf, Steps, stays, steps-join, Link
 use Rattle.theorem.proofs.Linking.{issue-links, execute-links, squash-links, commit-links}
 
 -- what holds of both ways of a choice holds of the chosen one
-either : {A : Type 0} (P : A → Type 0) (t : Bool) {x y : A} → P x → P y → P (cond t x y)
+pub either : {A : Type 0} (P : A → Type 0) (t : Bool) {x y : A} → P x → P y → P (cond t x y)
 either P true p q = p
 either P false p q = q
 
@@ -65,17 +65,17 @@ reaches-join : {program memory : List ℕ} {X Y Z : Plain} → Reaches program X
 reaches-join r s = record { linked = s .linked; steps = λ rec n. steps-join (r .steps rec n) (s .steps rec n) }
 
 -- a call that leaves memory and answers no commit
-record Quiet (memory : List ℕ) (r : Result) : Type 0 where
-  keeps : r .memory ≡ memory
-  nothing : recorded (r .answer) (r .list) ≡ []
-  uncounted : commitsIn (r .answer) ≡ 0
+pub record Quiet (memory : List ℕ) (r : Result) : Type 0 where
+  pub keeps : r .memory ≡ memory
+  pub nothing : recorded (r .answer) (r .list) ≡ []
+  pub uncounted : commitsIn (r .answer) ≡ 0
 
-issue-quiet : (program : List ℕ) (X : Plain) (memory : List ℕ) → Quiet memory (issueResult program X memory)
+pub issue-quiet : (program : List ℕ) (X : Plain) (memory : List ℕ) → Quiet memory (issueResult program X memory)
 issue-quiet program X memory =
     either (Quiet memory) (eqb (refusal (issueChecks program X)) 0) (record { keeps = refl; nothing = refl; uncounted = refl })
     (record { keeps = refl; nothing = refl; uncounted = refl })
 
-execute-quiet : (program : List ℕ) (X : Plain) (memory : List ℕ) (p : ℕ) → Quiet memory (executions program X memory p)
+pub execute-quiet : (program : List ℕ) (X : Plain) (memory : List ℕ) (p : ℕ) → Quiet memory (executions program X memory p)
 execute-quiet program X memory p =
     either (Quiet memory) (eqb (refusal (executeChecks program X memory p)) 0)
     (record { keeps = refl; nothing = refl; uncounted = refl })

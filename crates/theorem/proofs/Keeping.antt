@@ -30,7 +30,7 @@ use Rattle.machine_model.specs.declared.Fate.the-variants.{Waiting, Executed}
 use Rattle.machine_model.specs.declared.Entry.{Entry}
 use Rattle.machine_model.specs.Program.{instructionAt, codeOf, wellFormed, wellFormedAt, programFits, dOf}
 use Rattle.machine_model.specs.Window.{entryAt, entryWith, writesTo, valueOf, registerSeen, referenceBy, reference, evaluate}
-use Rattle.machine_model.specs.Calls.{waits, valueBy, addressBy, registersAfter, target, refetch}
+use Rattle.machine_model.specs.Calls.{waits, valueBy, addressBy, registersAfter, target}
 use Rattle.theorem.specs.Sequential.{Run, does, faultsAt, ends, step, runAfter}
 use Rattle.theorem.proofs.Core.{Core, Step, issuing, executing, squashing, committing, seenBy, registersAt, memoryAt}
 use Rattle.theorem.proofs.Core.{clear, Spares, headIndex, cutTo, afterCommit, Right, Good, Kept, fresh}

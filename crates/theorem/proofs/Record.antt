@@ -10,7 +10,7 @@
 use mathlib.Core.Path.{_≡_, refl, sym, subst, ap, _∙_}
 use mathlib.Core.Bool.{Bool, true, false, cond, not, _&&_}
 use mathlib.Core.List.{List, [], _∷_, _++_}
-use Prim.Native.Nat.{ℕ, zero, suc, _+_, _*_, _≤_, _<_}
+use Prim.Native.Nat.{ℕ, zero, suc, _+_, _≤_, _<_}
 use native.Mathlib.Nat.{add-zero}
 use native.Mathlib.Omega.{arith}
 use lib.Dec.{eqb, leb}
@@ -38,9 +38,9 @@ use Rattle.theorem.proofs.Linking.{linked-open, issue-accepted, execute
 use Rattle.theorem.proofs.Finishing.{respond-links}
 
 -- what every call keeps
-record Held (program memory : List ℕ) (x : Played) : Type 0 where
-  linked : Linked program (x .state) (x .memory)
-  kept : Kept program memory (coreOf (x .state) (x .memory) (x .record′) (x .commits))
+pub record Held (program memory : List ℕ) (x : Played) : Type 0 where
+  pub linked : Linked program (x .state) (x .memory)
+  pub kept : Kept program memory (coreOf (x .state) (x .memory) (x .record′) (x .commits))
 
 -- x and one call more, with this result
 abbrev played : Played → Result → Played
@@ -97,12 +97,12 @@ module _ (program memory : List ℕ) where
       let l = respond-links program c (x .state) (x .memory) (h .linked) in
       record { linked = l .linked; kept = kept-steps (h .linked .fits) (h .kept) (l .steps (x .record′) (x .commits)) }
 
-  held-play : (x : Played) → Held program memory x → (calls : List Call) → Held program memory (play program x calls)
+  pub held-play : (x : Played) → Held program memory x → (calls : List Call) → Held program memory (play program x calls)
   unfolding play
   held-play x h [] = h
   held-play x h (c ∷ calls) = held-play (plays program x c) (held-plays x h c) calls
 
-  none-play : (x : Played) → Held program memory x → ends program (run program memory x) ≡ true → (more : List Call)
+  pub none-play : (x : Played) → Held program memory x → ends program (run program memory x) ≡ true → (more : List Call)
       → play program x more .commits ≡ x .commits
   unfolding play
   none-play x h e [] = refl
@@ -184,7 +184,7 @@ module _ (program memory : List ℕ) where
       (c .0, omega arith, omega (arith, c .2)))
       (held-plays x h issue)
 
-  needed-next : (x : Played) → Held program memory x → ends program (run program memory x) ≡ false → Next x (next x)
+  pub needed-next : (x : Played) → Held program memory x → ends program (run program memory x) ≡ false → Next x (next x)
   needed-next x h n = go (x .state .entries) refl
     where
       oldest : (e : Entry) (es : List Entry) → x .state .entries ≡ e ∷ es → (t : Bool) → waits (e .fate) ≡ t
@@ -201,15 +201,22 @@ module _ (program memory : List ℕ) where
           let s : next x ≡ cond (waits (e .fate)) (execute 0 ∷ commit ∷ []) (commit ∷ []) = rw (q, live) in
           subst (Next x) (sym s) (oldest e es q (waits (e .fate)) refl)
 
+-- where these calls lead from an opening
+abbrev pub after : ℕ → ℕ → ℕ → ℕ → List ℕ → List ℕ → List Call → Played
+after B R n W program memory calls = play program (start (opened B R n W program) memory) calls
+
 module _ (B R n W : ℕ) (program memory : List ℕ) (opens : refusal (openChecks B R n W program memory) ≡ 0) where
-  pub record-theorem : (calls : List Call) → Truth program memory (play program (start (opened B R n W program) memory) calls)
+  pub held-after : (calls : List Call) → Held program memory (after B R n W program memory calls)
+  held-after calls =
+      held-play program memory (start (opened B R n W program) memory)
+      (record { linked = linked-open B R n W program memory opens; kept = kept-fresh program memory })
+      calls
+
+  pub record-theorem : (calls : List Call) → Truth program memory (after B R n W program memory calls)
   unfolding runAfter
   record-theorem calls =
-      let x₀ = start (opened B R n W program) memory in
-      let h₀ : Held program memory x₀ =
-      record { linked = linked-open B R n W program memory opens; kept = kept-fresh program memory } in
-      let x = play program x₀ calls in
-      let h = held-play program memory x₀ h₀ calls in
+      let x = after B R n W program memory calls in
+      let h = held-after calls in
       record {
         record-is = h .kept .record′;
         record-grows = h .kept .fours;
