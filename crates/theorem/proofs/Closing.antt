@@ -9,30 +9,27 @@
 -- Further calls make one life with those before them (life-join), so what is said of every life is said after them too.
 -- Assumes nothing.
 use mathlib.Core.Path.{_≡_, refl, sym, subst, ap, ap₂, _∙_}
-use mathlib.Core.Bool.{true, false, not, _&&_}
+use mathlib.Core.Bool.{true, false}
 use mathlib.Core.List.{List, [], _∷_, _++_, append-nil, append-assoc}
-use Prim.Native.Nat.{ℕ, zero, suc, _+_}
+use Prim.Native.Nat.{ℕ, zero, suc, _+_, _≤_}
 use native.Mathlib.Nat.{add-zero, zero-add, add-assoc}
 use native.Mathlib.Omega.{arith}
+use lib.ListN.{length}
 use Rattle.engine.specs.Contract.{done}
 use Rattle.engine.specs.Conditions.{refusal}
 use Rattle.machine_model.specs.declared.Machine.{Machine}
 use Rattle.machine_model.specs.Calls.{Plain, Call, Answer, respond, openChecks}
 use Rattle.machine_model.specs.Contract.{plain, Sound, Meets, Opens}
 use Rattle.theorem.specs.Sequential.{runAfter, ends}
-use Rattle.theorem.specs.Play.{recorded, commitsIn, Played, plays, play, start, needed, isRefused, allAccepted}
+use Rattle.theorem.specs.Play.{recorded, commitsIn, Played, plays, play, start, needed, noneRefused, answersOf}
 use Rattle.theorem.specs.Life.{Life, born, lived}
-use Rattle.theorem.specs.Truth.{Truth, noneRefused, CallsTruth}
+use Rattle.theorem.specs.Truth.{Truth, CallsTruth}
+use Rattle.theorem.proofs.Sentences.{Unrefused, none-unrefused}
 use Rattle.theorem.proofs.Record.{after, record-theorem}
 
 -- machine u and memory v in the play, with this record and n commits
 abbrev pub reached : Machine → List ℕ → List ℕ → ℕ → Played
 reached u v record′ n = record { state = plain u; memory = v; record′ = record′; commits = n }
-
--- what the calls of the play answer, one after the other
-unfoldable pub answersOf : List ℕ → Played → List Call → List Answer
-answersOf program x [] = []
-answersOf program x (c ∷ cs) = respond program c (x .state) (x .memory) .answer ∷ answersOf program (plays program x c) cs
 
 -- Calls cs that led to machine u and memory v, with these answers, this record and n commits, go on from x as the play does.
 pub record Follows (program : List ℕ) (x : Played) (cs : List Call) (answers : List Answer) (u : Machine) (v record′ : List ℕ)
@@ -60,12 +57,6 @@ module _ (program : List ℕ) where
   answers-snoc x [] c = refl
   answers-snoc x (b ∷ cs) c =
       ap (λ l. respond program b (x .state) (x .memory) .answer ∷ l) (answers-snoc (plays program x b) cs c)
-
-  accepted-answers : (x : Played) (cs : List Call) → allAccepted program x cs ≡ noneRefused (answersOf program x cs)
-  unfolding allAccepted answersOf noneRefused
-  accepted-answers x [] = refl
-  accepted-answers x (c ∷ cs) =
-      ap (λ t. not (isRefused (respond program c (x .state) (x .memory) .answer)) && t) (accepted-answers (plays program x c) cs)
 
   -- ---- a life follows the play
   meets-plays : {u x : Machine} {v y list : List ℕ} {said : Answer} (c : Call) (r : List ℕ) (n : ℕ) → Sound u
@@ -162,7 +153,7 @@ module _ {B R n W : ℕ} {program w : List ℕ} {m : Machine} (opens : Opens B R
         goes-on = λ e more.
             let f = from-there more in
             let g = plain-truth .goes-on e in (
-              ap noneRefused (f .said) ∙ sym (accepted-answers program there (needed (plain u))) ∙ g .0,
+              ap noneRefused (f .said) ∙ g .0,
               g .1,
               omega (arith, ap (λ z. z .commits) (f .played), g .2),
               ap (λ z. z .record′) (f .played) ∙ g .3,
@@ -171,16 +162,20 @@ module _ {B R n W : ℕ} {program w : List ℕ} {m : Machine} (opens : Opens B R
             omega (arith, ap (λ z. z .commits) (from-there more .played), plain-truth .stops e later);
       }
 
--- Lives in a row are one, so the theorem holds again after further calls: those that u needs lead to the run after its next
--- step, and after its end any calls leave it where it stands.
+-- Lives in a row are one, so the theorem holds again after further calls. As long as the run has not ended, the calls that u
+-- needs, three at most, none of them refused, lead to the run after its next step; once it has, any calls leave it there.
 module _ {B R n W : ℕ} {program w : List ℕ} {m : Machine} (opens : Opens B R n W program w done m) {cs : List Call}
     {answers : List Answer} {u : Machine} {v record′ : List ℕ} {k : ℕ} (life : Life program m w cs answers u v record′ k)
     {answers₂ : List Answer} {x : Machine} {y more : List ℕ} {j : ℕ} where
   pub calls-next : ends program (runAfter program w k) ≡ false → Life program u v (needed (plain u)) answers₂ x y more j
-      → CallsTruth program w x y (record′ ++ more) (suc k)
+      → (length (needed (plain u)) ≤ 3) × Unrefused answers₂ × CallsTruth program w x y (record′ ++ more) (suc k)
   calls-next e later =
-      let one : k + j ≡ suc k = omega (arith, calls-theorem opens life .goes-on e later .2) in
-      subst (CallsTruth program w x y (record′ ++ more)) one (calls-theorem opens (life-join life later))
+      let g = calls-theorem opens life .goes-on e later in
+      let one : k + j ≡ suc k = omega (arith, g .2) in (
+        omega (arith, g .1),
+        none-unrefused answers₂ (g .0),
+        subst (CallsTruth program w x y (record′ ++ more)) one (calls-theorem opens (life-join life later)),
+      )
 
   pub calls-over : {cs₂ : List Call} → ends program (runAfter program w k) ≡ true → Life program u v cs₂ answers₂ x y more j
       → CallsTruth program w x y (record′ ++ more) k

@@ -29,7 +29,7 @@ use Rattle.machine_model.specs.Calls.{Plain, Call, issue, execute, commit, Resu
 use Rattle.machine_model.specs.Calls.{executing, respond, openChecks, opened, issueChecks, executeChecks, commitChecks}
 use Rattle.theorem.specs.Sequential.{runAfter, ends}
 use Rattle.theorem.specs.Truth.{run, next, Truth}
-use Rattle.theorem.specs.Play.{recorded, commitsIn, Played, plays, play, start, isRefused, allAccepted}
+use Rattle.theorem.specs.Play.{recorded, commitsIn, Played, plays, play, start, isRefused, noneRefused, answersOf, allAccepted}
 use Rattle.theorem.specs.computed.Linked.{Linked}
 use Rattle.theorem.proofs.Core.{Core, Kept, seenBy}
 use Rattle.theorem.proofs.Keeping.{kept-fresh, kept-step, none-after, issue-left, oldest-known, commit-clean}
@@ -134,7 +134,7 @@ module _ (program memory : List ℕ) where
       → x .state .entries ≡ e ∷ es
       → waits (e .fate) ≡ false
       → Next x (commit ∷ [])
-  unfolding allAccepted play respond
+  unfolding noneRefused answersOf play respond
   commit-next x h n e es q w =
       let clean = commit-clean program memory (h .linked .fits) _ e es (h .kept) n q w in
       accepted-then x [] (refusal (commitChecks program (x .state) (x .memory))) _
@@ -158,7 +158,7 @@ module _ (program memory : List ℕ) where
       → x .state .entries ≡ e ∷ es
       → waits (e .fate) ≡ true
       → Next x (execute 0 ∷ commit ∷ [])
-  unfolding allAccepted play respond
+  unfolding noneRefused answersOf play respond
   execute-next x h n e es q w =
       let X = x .state in
       let f = known (evaluated X (x .memory) 0) in
@@ -171,7 +171,7 @@ module _ (program memory : List ℕ) where
 
   issue-next : (x : Played) → Held program memory x → ends program (run program memory x) ≡ false → x .state .entries ≡ []
       → Next x (issue ∷ execute 0 ∷ commit ∷ [])
-  unfolding allAccepted play respond
+  unfolding noneRefused answersOf play respond
   issue-next x h n q =
       let X = x .state in
       let left = issue-left program memory _ (h .kept) n q in

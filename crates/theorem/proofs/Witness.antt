@@ -1,12 +1,15 @@
 -- The record theorem is about something: one program and one list of calls, refused ones and a finish among them, whose history
--- has a violation, a stage wrap and an eviction, on a buffer of one bank with one row and three stages. Everything is computed:
--- what each call answers, where the window stood after the wrap, and the record, which the sequential run gives too.
+-- has a violation, a stage wrap and an eviction, on a buffer of one bank with one row and three stages. Computed are what each
+-- call answers, where the window stood after the wrap, and the record, which the sequential run gives too. What the theorem
+-- says is used in the middle, where the run goes on, and at its end.
 -- Assumes nothing.
 use mathlib.Core.Path.{_≡_, refl}
+use mathlib.Core.Bool.{true, false}
 use mathlib.Core.List.{List, [], _∷_}
 use mathlib.Core.Option.{none, some}
-use Prim.Native.Nat.{ℕ}
-use lib.ListN.{length, take, replicate}
+use Prim.Native.Nat.{ℕ, _≤_}
+use native.Mathlib.Omega.{arith}
+use lib.ListN.{length, take, drop, replicate}
 use Rattle.marks.specs.Circle.{stage}
 use Rattle.marks.specs.Counting.{count, last, every}
 use Rattle.table.specs.Bank.{home, bank}
@@ -17,11 +20,12 @@ use Rattle.lookup.specs.Rows.{touched}
 use Rattle.engine.specs.Contract.{refused, named, executed, committed, finished}
 use Rattle.machine_model.specs.Program.{programFits}
 use Rattle.machine_model.specs.Window.{registerSeen}
-use Rattle.machine_model.specs.Calls.{Call, issue, execute, commit, finish, Answer, finishes, respond, opened}
-use Rattle.theorem.specs.Sequential.{runAfter}
-use Rattle.theorem.specs.Play.{Played, plays, play, start}
-use Rattle.theorem.specs.Truth.{Truth}
+use Rattle.machine_model.specs.Calls.{Call, issue, execute, commit, finish, finishes, respond, opened}
+use Rattle.theorem.specs.Sequential.{runAfter, ends}
+use Rattle.theorem.specs.Play.{Played, play, start, noneRefused, answersOf, allAccepted}
+use Rattle.theorem.specs.Truth.{next, Truth}
 use Rattle.theorem.proofs.Record.{record-theorem}
+use Rattle.theorem.proofs.Finished.{finish-theorem}
 
 -- r1 becomes 9; it is stored at 3; r2 loads 3; r3 loads 4
 abbrev program : List ℕ
@@ -42,15 +46,10 @@ calls =
 abbrev x : Played
 x = play program opening calls
 
--- what the calls answer, one after the other
-unfoldable pub answers : Played → List Call → List Answer
-answers x [] = []
-answers x (c ∷ cs) = respond program c (x .state) (x .memory) .answer ∷ answers (plays program x c) cs
-
 -- Nothing is live at first. The load takes 5, too early: the older store to 3 executes later and squashes from position 2, a
 -- violation. After two commits the window stands at stages 2 and 0. The load of 4 takes the one row; the older load of 3
 -- evicts it and squashes from position 1. The finish commits that load, and then the other, issued and executed once more.
-pub answered : answers opening calls
+pub answered : answersOf program opening calls
     ≡ refused 11 ∷ named 0 ∷ named 1 ∷ named 2 ∷ executed 5 none ∷ executed 0 none ∷ executed 0 (some 2)
     ∷ committed 0 1 1 9
     ∷ committed 1 4 3 9
@@ -60,7 +59,7 @@ pub answered : answers opening calls
     ∷ executed 9 (some 1)
     ∷ finished 2
     ∷ []
-unfolding answers play respond finishes every programFits seen keptYounger touched count last home bank registerSeen
+unfolding answersOf play respond finishes every programFits seen keptYounger touched count last home bank registerSeen
 answered = refl
 
 abbrev wrap : Played
@@ -79,7 +78,34 @@ pub recorded : (x .record′ ≡ numbers) × (x .commits ≡ 4) × (runAfter pro
 unfolding play respond finishes every programFits seen keptYounger touched count last home bank registerSeen runAfter
 recorded = (refl, refl, refl)
 
+-- one of the calls is refused, the first; without it none is
+pub told-apart : (allAccepted program opening calls ≡ false) × (allAccepted program opening (drop 1 calls) ≡ true)
+unfolding noneRefused answersOf play respond finishes every programFits seen keptYounger touched count last home bank registerSeen
+told-apart = (refl, refl)
+
 -- and the theorem is about it: the opening passes its checks
-pub true-of-it : Truth program memory x
+pub true-of-it : (cs : List Call) → Truth program memory (play program opening cs)
 unfolding programFits sizesFit every
-true-of-it = record-theorem 1 1 3 8 program memory refl calls
+true-of-it cs = record-theorem 1 1 3 8 program memory refl cs
+
+-- After the wrap the run has two instructions left. Two calls are needed to commit the next one, the load of 3: both are
+-- accepted, and the record then has its four numbers too.
+pub goes-on-there : (next wrap ≡ execute 0 ∷ commit ∷ []) × (allAccepted program wrap (next wrap) ≡ true)
+    × (length (next wrap) ≤ 3)
+    × (play program wrap (next wrap) .commits ≡ 3)
+    × (play program wrap (next wrap) .record′ ≡ take 12 numbers)
+unfolding play respond every programFits seen keptYounger touched count last home bank registerSeen runAfter
+goes-on-there =
+    let g = true-of-it (take 11 calls) .goes-on refl in
+    (refl, g .0, g .1, g .2, g .3)
+
+-- at the end no further calls commit anything
+pub stops-there : (more : List Call) → play program x more .commits ≡ 4
+unfolding play respond finishes every programFits seen keptYounger touched count last home bank registerSeen runAfter
+stops-there more = true-of-it calls .stops refl more
+
+-- a finish with limit 5 and room for four commits says 2: the run has ended
+pub finish-there : ends program (runAfter program memory 4) ≡ true
+unfolding play respond finishes every programFits sizesFit seen keptYounger touched count last home bank registerSeen
+finish-there =
+    finish-theorem 1 1 3 8 program memory refl (take 13 calls) 5 (replicate 16 0) .ended 2 refl (omega arith) (omega arith)

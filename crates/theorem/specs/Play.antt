@@ -70,8 +70,15 @@ isRefused done = false
 isRefused (committed i c r v) = false
 isRefused (finished n) = false
 
+unfoldable pub noneRefused : List Answer → Bool
+noneRefused [] = true
+noneRefused (a ∷ answers) = not (isRefused a) && noneRefused answers
+
+-- what the calls answer, one after the other
+unfoldable pub answersOf : List ℕ → Played → List Call → List Answer
+answersOf program x [] = []
+answersOf program x (c ∷ cs) = respond program c (x .state) (x .memory) .answer ∷ answersOf program (plays program x c) cs
+
 -- none of these calls, one after the other, is refused
-unfoldable pub allAccepted : List ℕ → Played → List Call → Bool
-allAccepted program x [] = true
-allAccepted program x (c ∷ cs) =
-    not (isRefused (respond program c (x .state) (x .memory) .answer)) && allAccepted program (plays program x c) cs
+abbrev pub allAccepted : List ℕ → Played → List Call → Bool
+allAccepted program x calls = noneRefused (answersOf program x calls)

@@ -2,15 +2,15 @@
 -- (CallsTruth), the same through their contracts alone. The theorem is proved in proofs/Record.antt and proofs/Closing.antt.
 -- Assumes nothing.
 use mathlib.Core.Path.{_≡_}
-use mathlib.Core.Bool.{Bool, true, false, not, _&&_}
-use mathlib.Core.List.{List, [], _∷_, _++_}
+use mathlib.Core.Bool.{true, false}
+use mathlib.Core.List.{List, _++_}
 use Prim.Native.Nat.{ℕ, suc, _*_, _≤_}
 use lib.ListN.{length}
 use Rattle.machine_model.specs.declared.Machine.{Machine}
 use Rattle.machine_model.specs.Calls.{Call, Answer}
 use Rattle.machine_model.specs.Contract.{plain}
 use Rattle.theorem.specs.Sequential.{Run, runAfter, ends, step}
-use Rattle.theorem.specs.Play.{Played, play, needed, isRefused, allAccepted}
+use Rattle.theorem.specs.Play.{Played, play, needed, noneRefused, allAccepted}
 use Rattle.theorem.specs.Life.{Life}
 
 -- the sequential run of the program from the memory as lent at opening, after as many steps as x has commits
@@ -33,10 +33,6 @@ pub record Truth (program memory : List ℕ) (x : Played) : Type 0 where
       → (allAccepted program x (next x) ≡ true) × (length (next x) ≤ 3) × (play program x (next x) .commits ≡ suc (x .commits))
       × (play program x (next x) .record′ ≡ step program (run program memory x) .record′)
   pub stops : ends program (run program memory x) ≡ true → (more : List Call) → play program x more .commits ≡ x .commits
-
-unfoldable pub noneRefused : List Answer → Bool
-noneRefused [] = true
-noneRefused (a ∷ answers) = not (isRefused a) && noneRefused answers
 
 -- The same of the calls. Any calls from an opening with memory w, refused ones among them, each as its contract says, led to
 -- machine u and memory v, with a record and k commits read off the answers. These are k steps of the run. As long as it has

@@ -1,0 +1,22 @@
+-- Every row of the tables of examples comes out: what each comes to is computed, for all rows at once.
+-- Assumes nothing.
+use mathlib.Core.Path.{refl}
+use Rattle.marks.specs.Counting.{count, last, every}
+use Rattle.table.specs.Bank.{home, bank}
+use Rattle.lookup.specs.Forwarding.{seen}
+use Rattle.lookup.specs.Violation.{keptYounger}
+use Rattle.lookup.specs.Rows.{touched}
+use Rattle.machine_model.specs.Program.{programFits}
+use Rattle.machine_model.specs.Window.{registerSeen}
+use Rattle.machine_model.specs.Calls.{finishes, respond}
+use Rattle.theorem.specs.Sequential.{runAfter}
+use Rattle.theorem.specs.Play.{play, noneRefused, answersOf}
+use Rattle.theorem.specs.Examples.{AllRun, runs, AllPlayed, plays}
+
+pub runs-shown : AllRun runs
+unfolding runs runAfter
+runs-shown = refl
+
+pub plays-shown : AllPlayed plays
+unfolding plays play noneRefused answersOf respond finishes every programFits seen keptYounger touched count last home bank registerSeen
+plays-shown = refl

@@ -1,0 +1,184 @@
+-- Examples of the sequential run and of lists of calls, as two tables; proofs/Shown.antt shows that every row comes out. They
+-- say of each definition what it comes to, so that none of them is held by the machine's alone.
+-- Assumes nothing.
+use mathlib.Core.Path.{_≡_}
+use mathlib.Core.Bool.{Bool, true, false}
+use mathlib.Core.List.{List, [], _∷_, _++_, map}
+use mathlib.Core.Option.{none, some}
+use Prim.Native.Nat.{ℕ}
+use lib.ListN.{length, replicate}
+use Rattle.engine.specs.Contract.{refused, named, executed, done, committed, finished}
+use Rattle.machine_model.specs.Calls.{Call, issue, execute, squash, commit, finish, Answer, opened}
+use Rattle.theorem.specs.Sequential.{Run, runAfter, ends}
+use Rattle.theorem.specs.Play.{play, start, answersOf, allAccepted}
+use Rattle.theorem.specs.Truth.{next}
+
+-- four numbers: of an instruction, or of a commit in a record
+abbrev pub four : ℕ → ℕ → ℕ → ℕ → List ℕ
+four a b c d = a ∷ b ∷ c ∷ d ∷ []
+
+-- the instructions by their letters
+abbrev pub A : ℕ → ℕ → ℕ → List ℕ
+A = four 1
+
+abbrev pub P : ℕ → ℕ → ℕ → List ℕ
+P = four 2
+
+abbrev pub L : ℕ → ℕ → ℕ → List ℕ
+L = four 3
+
+abbrev pub S : ℕ → ℕ → ℕ → List ℕ
+S = four 4
+
+-- ---- the sequential run
+
+-- where a run stands, and whether it has ended
+pub record RunOutcome : Type 0 where
+  pub run : Run
+  pub ended : Bool
+
+pub record RunExample : Type 0 where
+  pub program : List ℕ
+  pub memory : List ℕ
+  pub steps : ℕ
+  pub outcome : RunOutcome
+
+-- what a row's run comes to
+abbrev pub ranTo : RunExample → RunOutcome
+ranTo e =
+    let r = runAfter (e .program) (e .memory) (e .steps) in
+    record { run = r; ended = ends (e .program) r }
+
+-- every row comes out as it says
+abbrev pub AllRun : List RunExample → Type 0
+AllRun rows = map ranTo rows ≡ map (λ e. e .outcome) rows
+
+-- program, memory lent and steps; then registers, memory, index, record and whether the run has ended
+abbrev pub ran : List ℕ → List ℕ → ℕ → List ℕ → List ℕ → ℕ → List ℕ → Bool → RunExample
+ran program lent steps registers memory index numbers ended =
+    record {
+      program = program;
+      memory = lent;
+      steps = steps;
+      outcome = record {
+        run = record { registers = registers; memory = memory; index = index; record′ = numbers };
+        ended = ended;
+      };
+    }
+
+abbrev pub words : List ℕ
+words = 4 ∷ 5 ∷ 6 ∷ []
+
+unfoldable pub runs : List RunExample
+runs =
+    -- Eight registers at 0, the memory as lent, index 0 and an empty record; an instruction is left.
+    ran (A 1 0 5) words 0 (0 ∷ 0 ∷ 0 ∷ 0 ∷ 0 ∷ 0 ∷ 0 ∷ 0 ∷ []) words 0 [] false
+    -- An empty program has ended at once, and no step moves it.
+    ∷ ran [] words 2 (0 ∷ 0 ∷ 0 ∷ 0 ∷ 0 ∷ 0 ∷ 0 ∷ 0 ∷ []) words 0 [] true
+    -- A: register d becomes register s plus imm. After one step of two the run has not ended; the third is none.
+    ∷ ran (A 1 0 5 ++ A 2 1 6) words 1 (0 ∷ 5 ∷ 0 ∷ 0 ∷ 0 ∷ 0 ∷ 0 ∷ 0 ∷ []) words 1 (four 0 1 1 5) false
+    ∷ ran (A 1 0 5 ++ A 2 1 6) words 3 (0 ∷ 5 ∷ 11 ∷ 0 ∷ 0 ∷ 0 ∷ 0 ∷ 0 ∷ []) words 2 (four 0 1 1 5 ++ four 1 1 2 11) true
+    -- Registers 0 and 7 are ordinary ones.
+    ∷ ran (A 0 0 3 ++ A 7 0 4) words 2 (3 ∷ 0 ∷ 0 ∷ 0 ∷ 0 ∷ 0 ∷ 0 ∷ 7 ∷ []) words 2 (four 0 1 0 3 ++ four 1 1 7 7) true
+    -- P: register d becomes register s plus register imm.
+    ∷ ran (A 1 0 5 ++ A 2 0 7 ++ P 3 1 2) words 3 (0 ∷ 5 ∷ 7 ∷ 12 ∷ 0 ∷ 0 ∷ 0 ∷ 0 ∷ []) words 3
+    (four 0 1 1 5 ++ four 1 1 2 7 ++ four 2 2 3 12) true
+    -- Sums are modulo 2^32, of A and of P.
+    ∷ ran (A 1 0 4294967295 ++ A 2 1 1 ++ P 3 1 1) words 3 (0 ∷ 4294967295 ∷ 0 ∷ 4294967294 ∷ 0 ∷ 0 ∷ 0 ∷ 0 ∷ []) words 3
+    (four 0 1 1 4294967295 ++ four 1 1 2 0 ++ four 2 2 3 4294967294) true
+    -- L: register d becomes the word at register s plus imm; here the last one, at W - 1.
+    ∷ ran (A 1 0 1 ++ L 2 1 1) words 2 (0 ∷ 1 ∷ 6 ∷ 0 ∷ 0 ∷ 0 ∷ 0 ∷ 0 ∷ []) words 2 (four 0 1 1 1 ++ four 1 3 2 6) true
+    -- L at W is a fault: it has no effect, and the run ends before it.
+    ∷ ran (A 1 0 1 ++ L 2 1 2 ++ A 3 0 9) words 1 (0 ∷ 1 ∷ 0 ∷ 0 ∷ 0 ∷ 0 ∷ 0 ∷ 0 ∷ []) words 1 (four 0 1 1 1) true
+    ∷ ran (A 1 0 1 ++ L 2 1 2 ++ A 3 0 9) words 3 (0 ∷ 1 ∷ 0 ∷ 0 ∷ 0 ∷ 0 ∷ 0 ∷ 0 ∷ []) words 1 (four 0 1 1 1) true
+    -- S: the word at register s plus imm becomes register d, also at W - 1; the record has the address.
+    ∷ ran (A 1 0 1 ++ A 3 0 9 ++ S 3 1 1) words 3 (0 ∷ 1 ∷ 0 ∷ 9 ∷ 0 ∷ 0 ∷ 0 ∷ 0 ∷ []) (4 ∷ 5 ∷ 9 ∷ []) 3
+    (four 0 1 1 1 ++ four 1 1 3 9 ++ four 2 4 2 9) true
+    -- S at W is a fault.
+    ∷ ran (A 1 0 1 ++ S 1 1 2) words 2 (0 ∷ 1 ∷ 0 ∷ 0 ∷ 0 ∷ 0 ∷ 0 ∷ 0 ∷ []) words 1 (four 0 1 1 1) true
+    -- A load takes the word that was stored.
+    ∷ ran (A 1 0 9 ++ S 1 0 1 ++ L 2 0 1) words 3 (0 ∷ 9 ∷ 9 ∷ 0 ∷ 0 ∷ 0 ∷ 0 ∷ 0 ∷ []) (4 ∷ 9 ∷ 6 ∷ []) 3
+    (four 0 1 1 9 ++ four 1 4 1 9 ++ four 2 3 2 9) true
+    -- Addresses are sums modulo 2^32, too.
+    ∷ ran (A 1 0 4294967295 ++ L 2 1 2 ++ S 2 1 1) words 3 (0 ∷ 4294967295 ∷ 5 ∷ 0 ∷ 0 ∷ 0 ∷ 0 ∷ 0 ∷ []) (5 ∷ 5 ∷ 6 ∷ []) 3
+    (four 0 1 1 4294967295 ++ four 1 3 2 5 ++ four 2 4 0 5) true
+    ∷ []
+
+-- ---- lists of calls
+
+-- what calls come to: their answers, whether none was refused, the record, the number of commits and the calls needed next
+pub record PlayOutcome : Type 0 where
+  pub answers : List Answer
+  pub accepted : Bool
+  pub record′ : List ℕ
+  pub commits : ℕ
+  pub needs : List Call
+
+pub record PlayExample : Type 0 where
+  pub program : List ℕ
+  pub memory : List ℕ
+  pub calls : List Call
+  pub outcome : PlayOutcome
+
+-- what a row's calls come to after an opening with one bank, four rows, four stages and as many words as the memory has
+abbrev pub playedTo : PlayExample → PlayOutcome
+playedTo e =
+    let x = start (opened 1 4 4 (length (e .memory)) (e .program)) (e .memory) in
+    let y = play (e .program) x (e .calls) in
+    record {
+      answers = answersOf (e .program) x (e .calls);
+      accepted = allAccepted (e .program) x (e .calls);
+      record′ = y .record′;
+      commits = y .commits;
+      needs = next y;
+    }
+
+abbrev pub AllPlayed : List PlayExample → Type 0
+AllPlayed rows = map playedTo rows ≡ map (λ e. e .outcome) rows
+
+-- program, memory and calls; then what they come to
+abbrev pub called : List ℕ → List ℕ → List Call → List Answer → Bool → List ℕ → ℕ → List Call → PlayExample
+called program memory calls answers accepted numbers commits needs =
+    record {
+      program = program;
+      memory = memory;
+      calls = calls;
+      outcome = record { answers = answers; accepted = accepted; record′ = numbers; commits = commits; needs = needs };
+    }
+
+-- of the program of 01's script: r1 becomes 5, it is stored at 3, and r2 loads 3, from eight words of 0
+abbrev pub played : List Call → List Answer → Bool → List ℕ → ℕ → List Call → PlayExample
+played = called (A 1 0 5 ++ S 1 0 3 ++ L 2 0 3) (replicate 8 0)
+
+unfoldable pub plays : List PlayExample
+plays =
+    -- The empty list. With nothing live the next instruction is issued, executed and committed.
+    played [] [] true [] 0 (issue ∷ execute 0 ∷ commit ∷ [])
+    -- An oldest that waits is executed and committed; one that has executed is committed.
+    ∷ played (issue ∷ []) (named 0 ∷ []) true [] 0 (execute 0 ∷ commit ∷ [])
+    ∷ played (issue ∷ execute 0 ∷ []) (named 0 ∷ executed 0 none ∷ []) true [] 0 (commit ∷ [])
+    ∷ played (issue ∷ issue ∷ execute 0 ∷ commit ∷ []) (named 0 ∷ named 1 ∷ executed 0 none ∷ committed 0 1 1 5 ∷ []) true
+    (four 0 1 1 5) 1 (execute 0 ∷ commit ∷ [])
+    -- Refused calls add nothing, and one among others is seen wherever it stands.
+    ∷ played (commit ∷ []) (refused 11 ∷ []) false [] 0 (issue ∷ execute 0 ∷ commit ∷ [])
+    ∷ played (issue ∷ commit ∷ execute 0 ∷ []) (named 0 ∷ refused 12 ∷ executed 0 none ∷ []) false [] 0 (commit ∷ [])
+    -- 01's steps. The load goes before the store, is squashed by it, and goes again.
+    ∷ played
+    (issue ∷ issue ∷ issue ∷ execute 2 ∷ execute 0 ∷ execute 1 ∷ commit ∷ commit ∷ issue ∷ execute 0 ∷ commit ∷ [])
+    (named 0 ∷ named 1 ∷ named 2 ∷ executed 0 none ∷ executed 0 none ∷ executed 0 (some 2) ∷ committed 0 1 1 5
+    ∷ committed 1 4 3 5 ∷ named 0 ∷ executed 5 none ∷ committed 2 3 2 5 ∷ [])
+    true (four 0 1 1 5 ++ four 1 4 3 5 ++ four 2 3 2 5) 3 (issue ∷ execute 0 ∷ commit ∷ [])
+    -- A finish counts for what it answers. Of its list, here nine places with 7 in each, only that many commits are recorded.
+    ∷ played (finish 0 (replicate 9 7) ∷ []) (finished 0 ∷ []) true [] 0 (issue ∷ execute 0 ∷ commit ∷ [])
+    ∷ played (finish 1 (replicate 9 7) ∷ []) (finished 1 ∷ []) true (four 0 1 1 5) 1 (issue ∷ execute 0 ∷ commit ∷ [])
+    ∷ played (finish 5 (replicate 9 7) ∷ []) (finished 2 ∷ []) true (four 0 1 1 5 ++ four 1 4 3 5) 2
+    (issue ∷ execute 0 ∷ commit ∷ [])
+    -- Commits and finishes in one list, a squash and a refusal among them.
+    ∷ played
+    (issue ∷ execute 0 ∷ commit ∷ issue ∷ issue ∷ squash 0 ∷ finish 1 (replicate 4 7) ∷ commit ∷ finish 9 (replicate 99 7) ∷ [])
+    (named 0 ∷ executed 0 none ∷ committed 0 1 1 5 ∷ named 0 ∷ named 1 ∷ done ∷ finished 1 ∷ refused 11 ∷ finished 1 ∷ [])
+    false (four 0 1 1 5 ++ four 1 4 3 5 ++ four 2 3 2 5) 3 (issue ∷ execute 0 ∷ commit ∷ [])
+    -- A fault stops a finish, and leaves the oldest executed; its commit is refused.
+    ∷ called (A 1 0 2 ++ L 2 1 0) (4 ∷ 5 ∷ []) (finish 5 (replicate 99 7) ∷ commit ∷ []) (finished 1 ∷ refused 13 ∷ []) false
+    (four 0 1 1 2) 1 (commit ∷ [])
+    ∷ []
