@@ -84,9 +84,12 @@ module _ (program : List ℕ) where
           same : executed-first X ≡ ready program X w
           same = ap (λ t. executed-first (cond t (issueResult program X w .state) X)) (sym live)
 
-          oldest : (t : Bool) → waits (entryAt (X .entries) 0 .fate) ≡ t → play program x (next x) ≡ committing (ready program X w)
+          oldest : (t : Bool) → waits (entryAt (X .entries) 0 .fate) ≡ t
+              → play program x (next x) ≡ committing (ready program X w)
           oldest t v =
-              ap₂ (λ a b. play program x (cond a (issue ∷ execute 0 ∷ commit ∷ []) (cond b (execute 0 ∷ commit ∷ []) (commit ∷ []))))
+              ap₂
+              (λ a b.
+              play program x (cond a (issue ∷ execute 0 ∷ commit ∷ []) (cond b (execute 0 ∷ commit ∷ []) (commit ∷ []))))
               live v
               ∙ readied t
               ∙ ap (λ b. committing (cond b (executions program X w 0 .state) X)) (sym v)
@@ -228,7 +231,9 @@ module _ (program memory : List ℕ) where
               let after : z .commits ≡ suc (x .commits) = omega (arith, played, goes) in
               goes-one (r .answer) (drainStopped Y (x .memory)) _ (commit-answers program Y (x .memory))
               (omega (arith, played, goes))
-              ∙ ap suc (later z held ∙ ap (λ (n : ℕ). stepsLeft program (runAfter program memory n) (min k ((places - 4) / 4))) after)
+              ∙ ap suc
+              (later z held
+              ∙ ap (λ (n : ℕ). stepsLeft program (runAfter program memory n) (min k ((places - 4) / 4))) after)
               ∙ sym (one-left program now (min k ((places - 4) / 4)) e)
               ∙ ap (stepsLeft program now) room
 

@@ -29,7 +29,8 @@ use Rattle.machine_model.specs.Calls.{Plain, Call, issue, execute, commit, Resu
 use Rattle.machine_model.specs.Calls.{executing, respond, openChecks, opened, issueChecks, executeChecks, commitChecks}
 use Rattle.theorem.specs.Sequential.{runAfter, ends}
 use Rattle.theorem.specs.Truth.{run, next, Truth}
-use Rattle.theorem.specs.Play.{recorded, commitsIn, Played, plays, play, start, isRefused, noneRefused, answersOf, allAccepted}
+use Rattle.theorem.specs.Play.{recorded, commitsIn, Played, plays, play, start}
+use Rattle.theorem.specs.Play.{isRefused, noneRefused, answersOf, allAccepted}
 use Rattle.theorem.specs.computed.Linked.{Linked}
 use Rattle.theorem.proofs.Core.{Core, Kept, seenBy}
 use Rattle.theorem.proofs.Keeping.{kept-fresh, kept-step, none-after, issue-left, oldest-known, commit-clean}

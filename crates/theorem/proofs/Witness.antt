@@ -11,19 +11,13 @@ use Prim.Native.Nat.{ℕ, _≤_}
 use native.Mathlib.Omega.{arith}
 use lib.ListN.{length, take, drop, replicate}
 use Rattle.marks.specs.Circle.{stage}
-use Rattle.marks.specs.Counting.{count, last, every}
-use Rattle.table.specs.Bank.{home, bank}
 use Rattle.table.specs.Limits.{sizesFit}
-use Rattle.lookup.specs.Forwarding.{seen}
-use Rattle.lookup.specs.Violation.{keptYounger}
-use Rattle.lookup.specs.Rows.{touched}
 use Rattle.engine.specs.Contract.{refused, named, executed, committed, finished}
-use Rattle.machine_model.specs.Program.{programFits}
-use Rattle.machine_model.specs.Window.{registerSeen}
-use Rattle.machine_model.specs.Calls.{Call, issue, execute, commit, finish, finishes, respond, opened}
+use Rattle.machine_model.specs.Calls.{Call, issue, execute, commit, finish, opened}
 use Rattle.theorem.specs.Sequential.{runAfter, ends}
-use Rattle.theorem.specs.Play.{Played, play, start, noneRefused, answersOf, allAccepted}
+use Rattle.theorem.specs.Play.{Played, play, start, answersOf, allAccepted}
 use Rattle.theorem.specs.Truth.{next, Truth}
+use Rattle.theorem.proofs.Cases.{computing}
 use Rattle.theorem.proofs.Record.{record-theorem}
 use Rattle.theorem.proofs.Finished.{finish-theorem}
 
@@ -59,7 +53,7 @@ pub answered : answersOf program opening calls
     ∷ executed 9 (some 1)
     ∷ finished 2
     ∷ []
-unfolding answersOf play respond finishes every programFits seen keptYounger touched count last home bank registerSeen
+unfolding computing
 answered = refl
 
 abbrev wrap : Played
@@ -67,7 +61,7 @@ wrap = play program opening (take 11 calls)
 
 -- the two live entries stand at stages 2 and 0
 pub wrapped : (wrap .state .buffer .oldest ≡ 2) × (length (wrap .state .entries) ≡ 2) × (stage 2 3 1 ≡ 0)
-unfolding play respond every programFits seen keptYounger touched count last home bank registerSeen
+unfolding computing
 wrapped = (refl, refl, refl)
 
 abbrev numbers : List ℕ
@@ -75,17 +69,17 @@ numbers = 0 ∷ 1 ∷ 1 ∷ 9 ∷ 1 ∷ 4 ∷ 3 ∷ 9 ∷ 2 ∷ 3 ∷ 2 ∷ 9 �
 
 -- four commits, and what they recorded, as the sequential run does
 pub recorded : (x .record′ ≡ numbers) × (x .commits ≡ 4) × (runAfter program memory 4 .record′ ≡ numbers)
-unfolding play respond finishes every programFits seen keptYounger touched count last home bank registerSeen runAfter
+unfolding computing
 recorded = (refl, refl, refl)
 
 -- one of the calls is refused, the first; without it none is
 pub told-apart : (allAccepted program opening calls ≡ false) × (allAccepted program opening (drop 1 calls) ≡ true)
-unfolding noneRefused answersOf play respond finishes every programFits seen keptYounger touched count last home bank registerSeen
+unfolding computing
 told-apart = (refl, refl)
 
 -- and the theorem is about it: the opening passes its checks
 pub true-of-it : (cs : List Call) → Truth program memory (play program opening cs)
-unfolding programFits sizesFit every
+unfolding computing sizesFit
 true-of-it cs = record-theorem 1 1 3 8 program memory refl cs
 
 -- After the wrap the run has two instructions left. Two calls are needed to commit the next one, the load of 3: both are
@@ -94,18 +88,18 @@ pub goes-on-there : (next wrap ≡ execute 0 ∷ commit ∷ []) × (allAccepted 
     × (length (next wrap) ≤ 3)
     × (play program wrap (next wrap) .commits ≡ 3)
     × (play program wrap (next wrap) .record′ ≡ take 12 numbers)
-unfolding play respond every programFits seen keptYounger touched count last home bank registerSeen runAfter
+unfolding computing
 goes-on-there =
     let g = true-of-it (take 11 calls) .goes-on refl in
     (refl, g .0, g .1, g .2, g .3)
 
 -- at the end no further calls commit anything
 pub stops-there : (more : List Call) → play program x more .commits ≡ 4
-unfolding play respond finishes every programFits seen keptYounger touched count last home bank registerSeen runAfter
+unfolding computing
 stops-there more = true-of-it calls .stops refl more
 
 -- a finish with limit 5 and room for four commits says 2: the run has ended
 pub finish-there : ends program (runAfter program memory 4) ≡ true
-unfolding play respond finishes every programFits sizesFit seen keptYounger touched count last home bank registerSeen
+unfolding computing sizesFit
 finish-there =
     finish-theorem 1 1 3 8 program memory refl (take 13 calls) 5 (replicate 16 0) .ended 2 refl (omega arith) (omega arith)

@@ -1,9 +1,9 @@
--- Examples of the sequential run and of lists of calls, as two tables; proofs/Shown.antt shows that every row comes out. They
+-- Examples of the sequential run and of lists of calls, as two tables; proofs/Cases.antt shows that every row comes out. They
 -- say of each definition what it comes to, so that none of them is held by the machine's alone.
 -- Assumes nothing.
 use mathlib.Core.Path.{_≡_}
 use mathlib.Core.Bool.{Bool, true, false}
-use mathlib.Core.List.{List, [], _∷_, _++_, map}
+use mathlib.Core.List.{List, [], _∷_, _++_}
 use mathlib.Core.Option.{none, some}
 use Prim.Native.Nat.{ℕ}
 use lib.ListN.{length, replicate}
@@ -51,7 +51,8 @@ ranTo e =
 
 -- every row comes out as it says
 abbrev pub AllRun : List RunExample → Type 0
-AllRun rows = map ranTo rows ≡ map (λ e. e .outcome) rows
+AllRun [] = Unit {0}
+AllRun (e ∷ rows) = (ranTo e ≡ e .outcome) × AllRun rows
 
 -- program, memory lent and steps; then registers, memory, index, record and whether the run has ended
 abbrev pub ran : List ℕ → List ℕ → ℕ → List ℕ → List ℕ → ℕ → List ℕ → Bool → RunExample
@@ -134,7 +135,8 @@ playedTo e =
     }
 
 abbrev pub AllPlayed : List PlayExample → Type 0
-AllPlayed rows = map playedTo rows ≡ map (λ e. e .outcome) rows
+AllPlayed [] = Unit {0}
+AllPlayed (e ∷ rows) = (playedTo e ≡ e .outcome) × AllPlayed rows
 
 -- program, memory and calls; then what they come to
 abbrev pub called : List ℕ → List ℕ → List Call → List Answer → Bool → List ℕ → ℕ → List Call → PlayExample

@@ -1,0 +1,35 @@
+-- Every row of the tables of examples comes out: what each comes to is computed.
+-- Assumes nothing.
+use mathlib.Core.Path.{refl}
+use Rattle.marks.specs.Counting.{count, last, every}
+use Rattle.table.specs.Bank.{home, bank}
+use Rattle.lookup.specs.Forwarding.{seen}
+use Rattle.lookup.specs.Violation.{keptYounger}
+use Rattle.lookup.specs.Rows.{touched}
+use Rattle.machine_model.specs.Program.{programFits}
+use Rattle.machine_model.specs.Window.{registerSeen}
+use Rattle.machine_model.specs.Calls.{finishes, respond}
+use Rattle.theorem.specs.Sequential.{runAfter}
+use Rattle.theorem.specs.Play.{play, noneRefused, answersOf}
+use Rattle.theorem.specs.Examples.{AllRun, runs, AllPlayed, plays}
+
+-- all that calls and the run compute with: to unfold this is to unfold them
+unfoldable pub computing : Unit {0}
+unfolding runAfter play noneRefused answersOf respond finishes every programFits seen keptYounger touched count last home bank
+    registerSeen
+computing = tt
+
+-- a row and the rows after it
+infixr 60 _and_
+_and_ : {A B : Type 0} → A → B → A × B
+a and b = (a, b)
+
+pub runs-shown : AllRun runs
+unfolding runs computing
+runs-shown =
+    refl and refl and refl and refl and refl and refl and refl and refl and refl and refl and refl and refl and refl and refl
+    and tt
+
+pub plays-shown : AllPlayed plays
+unfolding plays computing
+plays-shown = refl and refl and refl and refl and refl and refl and refl and refl and refl and refl and refl and refl and tt
