@@ -19,17 +19,11 @@ unfolding runAfter play noneRefused answersOf respond finishes every programFits
     registerSeen
 computing = tt
 
--- a row and the rows after it
-infixr 60 _and_
-_and_ : {A B : Type 0} → A → B → A × B
-a and b = (a, b)
-
 pub runs-shown : AllRun runs
 unfolding runs computing
 runs-shown =
-    refl and refl and refl and refl and refl and refl and refl and refl and refl and refl and refl and refl and refl and refl
-    and tt
+    (refl, (refl, (refl, (refl, (refl, (refl, (refl, (refl, (refl, (refl, (refl, (refl, (refl, (refl, (refl, tt)))))))))))))))
 
 pub plays-shown : AllPlayed plays
 unfolding plays computing
-plays-shown = refl and refl and refl and refl and refl and refl and refl and refl and refl and refl and refl and refl and tt
+plays-shown = (refl, (refl, (refl, (refl, (refl, (refl, (refl, (refl, (refl, (refl, (refl, (refl, (refl, tt)))))))))))))

@@ -1,12 +1,17 @@
 -- What a refusal is, said of the answers themselves: `isRefused` holds of the refusals and of nothing else, a refused call adds
--- nothing to the record, and `noneRefused` says that no answer is a refusal. Assumes nothing.
+-- nothing to the record, and `noneRefused` says that no answer is a refusal. And what the number of commits is, said of the
+-- calls: the commit calls not refused and the numbers that finish answered. Assumes nothing.
 use mathlib.Core.Path.{_≡_, refl, sym, ap, ap₂, _∙_}
-use mathlib.Core.Bool.{Bool, true, false, not, _&&_, true≢false, and-eq-true-iff}
+use mathlib.Core.Bool.{Bool, true, false, cond, not, _&&_, true≢false, and-eq-true-iff}
 use mathlib.Core.List.{List, [], _∷_}
 use Prim.Native.Nat.{ℕ}
+use lib.Dec.{eqb}
 use Rattle.engine.specs.Contract.{refused, named, executed, done, committed, finished}
-use Rattle.machine_model.specs.Calls.{Answer}
+use Rattle.engine.specs.Conditions.{refusal}
+use Rattle.machine_model.specs.Calls.{Plain, Call, issue, execute, squash, commit, finish, Answer, Result, respond}
+use Rattle.machine_model.specs.Calls.{issueChecks, executeChecks, squashChecks, commitChecks, finishChecks}
 use Rattle.theorem.specs.Play.{recorded, commitsIn, isRefused, noneRefused}
+use Rattle.theorem.proofs.Finishing.{either}
 
 -- isRefused a exactly if a is a refusal
 pub refused-is : (a : Answer) → isRefused a ≡ true → (k : ℕ) × (a ≡ refused k)
@@ -44,3 +49,38 @@ unrefused-none (a ∷ answers) h = ap₂ _&&_ (go (isRefused a) refl) (unrefused
     go : (t : Bool) → isRefused a ≡ t → not t ≡ true
     go true e = absurd (let is = refused-is a e in h .0 (is .0) (is .1))
     go false e = refl
+
+-- "The number is the commit calls not refused plus the numbers that finish answered."
+abbrev pub answeredBy : Answer → ℕ
+answeredBy (refused k) = 0
+answeredBy (named p) = 0
+answeredBy (executed v s) = 0
+answeredBy done = 0
+answeredBy (committed i c r v) = 0
+answeredBy (finished n) = n
+
+abbrev pub counted : Call → Answer → ℕ
+counted issue a = 0
+counted (execute p) a = 0
+counted (squash p) a = 0
+counted commit a = cond (isRefused a) 0 1
+counted (finish k list) a = answeredBy a
+
+pub counts : (program : List ℕ) (c : Call) (X : Plain) (memory : List ℕ)
+    → commitsIn (respond program c X memory .answer) ≡ counted c (respond program c X memory .answer)
+unfolding respond
+counts program issue X memory =
+    either (λ (r : Result). commitsIn (r .answer) ≡ 0) (eqb (refusal (issueChecks program X)) 0) refl refl
+counts program (execute p) X memory =
+    either (λ (r : Result). commitsIn (r .answer) ≡ 0) (eqb (refusal (executeChecks program X memory p)) 0) refl refl
+counts program (squash p) X memory =
+    either (λ (r : Result). commitsIn (r .answer) ≡ 0) (eqb (refusal (squashChecks program X p)) 0) refl refl
+counts program commit X memory =
+    either (λ (r : Result). commitsIn (r .answer) ≡ cond (isRefused (r .answer)) 0 1)
+    (eqb (refusal (commitChecks program X memory)) 0)
+    refl
+    refl
+counts program (finish k list) X memory =
+    either (λ (r : Result). commitsIn (r .answer) ≡ answeredBy (r .answer)) (eqb (refusal (finishChecks program X memory)) 0)
+    refl
+    refl

@@ -90,13 +90,15 @@ runs =
     -- L: register d becomes the word at register s plus imm; here the last one, at W - 1.
     ∷ ran (A 1 0 1 ++ L 2 1 1) words 2 (0 ∷ 1 ∷ 6 ∷ 0 ∷ 0 ∷ 0 ∷ 0 ∷ 0 ∷ []) words 2 (four 0 1 1 1 ++ four 1 3 2 6) true
     -- L at W is a fault: it has no effect, and the run ends before it.
-    ∷ ran (A 1 0 1 ++ L 2 1 2 ++ A 3 0 9) words 1 (0 ∷ 1 ∷ 0 ∷ 0 ∷ 0 ∷ 0 ∷ 0 ∷ 0 ∷ []) words 1 (four 0 1 1 1) true
     ∷ ran (A 1 0 1 ++ L 2 1 2 ++ A 3 0 9) words 3 (0 ∷ 1 ∷ 0 ∷ 0 ∷ 0 ∷ 0 ∷ 0 ∷ 0 ∷ []) words 1 (four 0 1 1 1) true
+    -- So is one far past it.
+    ∷ ran (L 1 0 4294967295) words 1 (0 ∷ 0 ∷ 0 ∷ 0 ∷ 0 ∷ 0 ∷ 0 ∷ 0 ∷ []) words 0 [] true
     -- S: the word at register s plus imm becomes register d, also at W - 1; the record has the address.
     ∷ ran (A 1 0 1 ++ A 3 0 9 ++ S 3 1 1) words 3 (0 ∷ 1 ∷ 0 ∷ 9 ∷ 0 ∷ 0 ∷ 0 ∷ 0 ∷ []) (4 ∷ 5 ∷ 9 ∷ []) 3
     (four 0 1 1 1 ++ four 1 1 3 9 ++ four 2 4 2 9) true
-    -- S at W is a fault.
+    -- S at W or past it is a fault.
     ∷ ran (A 1 0 1 ++ S 1 1 2) words 2 (0 ∷ 1 ∷ 0 ∷ 0 ∷ 0 ∷ 0 ∷ 0 ∷ 0 ∷ []) words 1 (four 0 1 1 1) true
+    ∷ ran (S 0 0 4294967295) words 1 (0 ∷ 0 ∷ 0 ∷ 0 ∷ 0 ∷ 0 ∷ 0 ∷ 0 ∷ []) words 0 [] true
     -- A load takes the word that was stored.
     ∷ ran (A 1 0 9 ++ S 1 0 1 ++ L 2 0 1) words 3 (0 ∷ 9 ∷ 9 ∷ 0 ∷ 0 ∷ 0 ∷ 0 ∷ 0 ∷ []) (4 ∷ 9 ∷ 6 ∷ []) 3
     (four 0 1 1 9 ++ four 1 4 1 9 ++ four 2 3 2 9) true
@@ -161,6 +163,10 @@ plays =
     ∷ played (issue ∷ execute 0 ∷ []) (named 0 ∷ executed 0 none ∷ []) true [] 0 (commit ∷ [])
     ∷ played (issue ∷ issue ∷ execute 0 ∷ commit ∷ []) (named 0 ∷ named 1 ∷ executed 0 none ∷ committed 0 1 1 5 ∷ []) true
     (four 0 1 1 5) 1 (execute 0 ∷ commit ∷ [])
+    -- A squash commits nothing; after it the first squashed instruction is issued again.
+    ∷ played (issue ∷ squash 0 ∷ issue ∷ execute 0 ∷ commit ∷ [])
+    (named 0 ∷ done ∷ named 0 ∷ executed 0 none ∷ committed 0 1 1 5 ∷ []) true (four 0 1 1 5) 1
+    (issue ∷ execute 0 ∷ commit ∷ [])
     -- Refused calls add nothing, and one among others is seen wherever it stands.
     ∷ played (commit ∷ []) (refused 11 ∷ []) false [] 0 (issue ∷ execute 0 ∷ commit ∷ [])
     ∷ played (issue ∷ commit ∷ execute 0 ∷ []) (named 0 ∷ refused 12 ∷ executed 0 none ∷ []) false [] 0 (commit ∷ [])
