@@ -4,10 +4,10 @@
 -- is accepted; execution of an oldest entry that waits is accepted, as its operands are the committed registers and it never
 -- stalls; and so is the commit of an oldest entry that executed without a fault. Assumes nothing.
 use mathlib.Core.Bool.{Bool, true, false, cond, not, _&&_, true≢false, and-eq-true-iff}
-use mathlib.Core.List.{List, [], _∷_}
+use mathlib.Core.List.{List, [], _∷_, _++_}
 use mathlib.Core.Option.{Option, none, some}
 use mathlib.Core.Path.{_≡_, refl, sym, ap, ap₂, fun-ext, _∙_}
-use Prim.Native.Nat.{ℕ, _*_, _/_, _%_, _<_, zero-le}
+use Prim.Native.Nat.{ℕ, _*_, _/_, _%_, _≤_, _<_, zero-le}
 use native.Mathlib.Nat.{not-suc-le-zero}
 use native.Mathlib.Numerals.{add-one}
 use native.Mathlib.Omega.{arith}
@@ -83,16 +83,50 @@ same-refl i =
     (ap₂ _&&_ (ap₂ _&&_ (eq-eqb (codeOf i) (codeOf i) refl) (eq-eqb (dOf i) (dOf i) refl)) (eq-eqb (sOf i) (sOf i) refl))
     (eq-eqb (immOf i) (immOf i) refl)
 
--- an entry is the program's instruction at its index
-abbrev Alike : List ℕ → ℕ → Ref → Entry → Type 0
-Alike program count r e = matchesProgram program count e ≡ true
+-- a reference bears its entry's fate, and the entry is the program's instruction at its index
+abbrev Matched : List ℕ → ℕ → Ref → Entry → Type 0
+Matched program count r e = Fated r e × (matchesProgram program count e ≡ true)
 
 module _ (program : List ℕ) (X : Plain) (memory : List ℕ) (linked : Linked program X memory) where
   abbrev fated : Each Fated (X .buffer .refs) (X .entries)
   fated = (linked .paired, linked .fates)
 
-  abbrev all-alike : Each (Alike program (X .count)) (X .buffer .refs) (X .entries)
-  all-alike = (linked .paired, linked .alike)
+  abbrev matched : Each (Matched program (X .count)) (X .buffer .refs) (X .entries)
+  matched = (linked .paired, λ p h. (linked .fates p h, linked .alike p h))
+
+  -- where references and entries moved together and fit the window, the state is linked again
+  linked-moved : (rs : List Ref) (oldest number : ℕ) (es : List Entry) (registers : List ℕ) (next : ℕ) (v : List ℕ)
+      → Each (Matched program (X .count)) rs es
+      → length es ≤ X .buffer .stages
+      → length v ≡ length memory
+      → Linked program
+      (record {
+        buffer = record {
+          banks = X .buffer .banks;
+          rows = X .buffer .rows;
+          stages = X .buffer .stages;
+          words = X .buffer .words;
+          oldest = oldest;
+          next = number;
+          refs = rs;
+        };
+        entries = es;
+        registers = registers;
+        count = X .count;
+        next = next;
+      })
+      v
+  linked-moved rs oldest number es registers next v moved fits same =
+      record {
+        sized = linked .sized;
+        lent = same ∙ linked .lent;
+        fits = linked .fits;
+        counted = linked .counted;
+        paired = moved .0;
+        live-bounded = fits;
+        fates = λ p h. moved .1 p h .0;
+        alike = λ p h. moved .1 p h .1;
+      }
 
   pub issue-links : Links program X memory (issueResult program X memory)
   issue-links =
@@ -103,25 +137,18 @@ module _ (program : List ℕ) (X : Plain) (memory : List ℕ) (linked : Linked p
       let six = passes (leb (X .count) (X .next)) 5 0 (five .1) in
       let left : X .next < X .count = leb-false (X .count) (X .next) (six .0) in
       let e : Entry = record { instruction = instructionAt program (X .next); index = X .next; fate = Waiting } in
-      let moved = each-next Fated (X .buffer .refs) (X .entries) fated (ref (X .buffer .next) waiting) e refl in
       record {
-        linked = record {
-          sized = linked .sized;
-          lent = linked .lent;
-          fits = linked .fits;
-          counted = linked .counted;
-          paired = moved .0;
-          live-bounded = omega (
-            arith,
-            linked .live-bounded,
-            eqb-false (length (X .entries)) (X .buffer .stages) (five .0),
-            length-append (X .entries) (e ∷ []),
-          );
-          fates = moved .1;
-          alike =
-              each-next (Alike program (X .count)) (X .buffer .refs) (X .entries) all-alike (ref (X .buffer .next) waiting) e
-              (ap₂ _&&_ (lt-ltb (X .next) (X .count) left) (same-refl (instructionAt program (X .next)))) .1;
-        };
+        linked =
+            linked-moved _ _ _ (X .entries ++ (e ∷ [])) _ _ memory
+            (each-next (Matched program (X .count)) (X .buffer .refs) (X .entries) matched (ref (X .buffer .next) waiting) e
+            (refl, ap₂ _&&_ (lt-ltb (X .next) (X .count) left) (same-refl (instructionAt program (X .next)))))
+            (omega (
+              arith,
+              linked .live-bounded,
+              eqb-false (length (X .entries)) (X .buffer .stages) (five .0),
+              length-append (X .entries) (e ∷ []),
+            ))
+            refl;
         steps = λ numbers n. steps-quiet (goes stays (issuing (omega (arith, linked .counted))));
       })
 
@@ -149,21 +176,16 @@ module _ (program : List ℕ) (X : Plain) (memory : List ℕ) (linked : Linked p
       let e = entryWith (entryAt es p) f in
       let all = fated program X memory linked in
       let o = owed (X .buffer) es all p (omega (arith, linked .paired)) (referenceBy i f) runs in
-      let moves = take-set-lt left es p e (o .after) in
-      let moved = each-set Fated (take left refs) (take left es) (each-take Fated refs es all left) p r e refl in
-      let likes = Alike program (X .count) in
-      let liked = each-take likes refs es (all-alike program X memory linked) left in
+      let Match = Matched program (X .count) in
       record {
-        linked = record {
-          sized = linked .sized;
-          lent = linked .lent;
-          fits = linked .fits;
-          counted = linked .counted;
-          paired = rw moves (moved .0);
-          live-bounded = omega (arith, linked .live-bounded, length-take left (set es p e), length-set es p e);
-          fates = rw moves (moved .1);
-          alike = rw moves (each-set likes (take left refs) (take left es) liked p r e (linked .alike p live) .1);
-        };
+        linked =
+            linked-moved program X memory linked _ _ _ (take left (set es p e)) _ _ memory
+            (rw (take-set-lt left es p e (o .after))
+            (each-set Match (take left refs) (take left es)
+            (each-take Match refs es (matched program X memory linked) left)
+            p r e (refl, linked .alike p live)))
+            (omega (arith, linked .live-bounded, length-take left (set es p e), length-set es p e))
+            refl;
         steps = λ numbers n.
             steps-quiet
             (goes stays
@@ -192,19 +214,12 @@ module _ (program : List ℕ) (X : Plain) (memory : List ℕ) (linked : Linked p
   squash-links =
       judged-links program X memory (refusal (programCheck program X ∷ when (leb (length (X .entries)) p) 7 ∷ [])) _ linked
       (λ z.
-      let moved = each-take Fated (X .buffer .refs) (X .entries) (fated program X memory linked) p in
       record {
-        linked = record {
-          sized = linked .sized;
-          lent = linked .lent;
-          fits = linked .fits;
-          counted = linked .counted;
-          paired = moved .0;
-          live-bounded = omega (arith, linked .live-bounded, length-take p (X .entries));
-          fates = moved .1;
-          alike =
-              each-take (Alike program (X .count)) (X .buffer .refs) (X .entries) (all-alike program X memory linked) p .1;
-        };
+        linked =
+            linked-moved program X memory linked _ _ _ (take p (X .entries)) _ _ memory
+            (each-take (Matched program (X .count)) (X .buffer .refs) (X .entries) (matched program X memory linked) p)
+            (omega (arith, linked .live-bounded, length-take p (X .entries)))
+            refl;
         steps = λ numbers n. steps-quiet (goes stays (squashing p));
       })
 
@@ -232,19 +247,12 @@ module _ (program : List ℕ) (X : Plain) (memory : List ℕ) (linked : Linked p
       let thirteen = passes (faults (X .buffer .words) (reference e)) 12 0 (twelve .1) in
       let live = eqb-false (length (X .entries)) 0 (eleven .0) in
       let fate = linked .fates 0 (omega arith) in
-      let moved = each-drop Fated (X .buffer .refs) (X .entries) (fated program X memory linked) 1 in
       record {
-        linked = record {
-          sized = linked .sized;
-          lent = written-length memory (fateOf (at (X .buffer .refs) 0)) ∙ linked .lent;
-          fits = linked .fits;
-          counted = linked .counted;
-          paired = moved .0;
-          live-bounded = omega (arith, linked .live-bounded, length-drop 1 (X .entries));
-          fates = moved .1;
-          alike =
-              each-drop (Alike program (X .count)) (X .buffer .refs) (X .entries) (all-alike program X memory linked) 1 .1;
-        };
+        linked =
+            linked-moved program X memory linked _ _ _ (drop 1 (X .entries)) _ _ _
+            (each-drop (Matched program (X .count)) (X .buffer .refs) (X .entries) (matched program X memory linked) 1)
+            (omega (arith, linked .live-bounded, length-drop 1 (X .entries)))
+            (written-length memory (fateOf (at (X .buffer .refs) 0)));
         steps = λ numbers n.
             rw (fate, add-one n)
             (goes stays
