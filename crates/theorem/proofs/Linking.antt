@@ -196,18 +196,29 @@ module _ (program : List ℕ) (X : Plain) (memory : List ℕ) (linked : Linked p
             (o .spares)));
       }
 
-  pub execute-links : Links program X memory (executions program X memory p)
-  execute-links =
-      judged-links program X memory (refusal (executeChecks program X memory p)) _ linked
-      (λ z.
+  -- what the checks of an accepted execution say
+  pub execute-passed : refusal (executeChecks program X memory p) ≡ 0
+      → (p < length (X .entries)) × (waits (entryAt (X .entries) p .fate) ≡ true)
+      × (evaluated X memory p ≡ some (known (evaluated X memory p)))
+      × (survivorsOf X p (known (evaluated X memory p)) ≡ 0 → ⊥)
+  execute-passed z =
       let passed = sym (lent-passes program X memory linked (drop 2 (executeChecks program X memory p))) ∙ z in
       let seven = passes (leb (length (X .entries)) p) 6 _ passed in
       let eight = passes (not (waits (entryAt (X .entries) p .fate))) 7 _ (seven .1) in
       let nine = passes (unknown (evaluated X memory p)) 8 _ (eight .1) in
-      let ten = passes (eqb (survivorsOf X p (known (evaluated X memory p))) 0) 9 0 (nine .1) in
-      executing-links (known (evaluated X memory p)) (leb-false (length (X .entries)) p (seven .0))
-      (not-false (waits (entryAt (X .entries) p .fate)) (eight .0)) (is-known (evaluated X memory p) (nine .0))
-      (eqb-false (survivorsOf X p (known (evaluated X memory p))) 0 (ten .0)))
+      let ten = passes (eqb (survivorsOf X p (known (evaluated X memory p))) 0) 9 0 (nine .1) in (
+        leb-false (length (X .entries)) p (seven .0),
+        not-false (waits (entryAt (X .entries) p .fate)) (eight .0),
+        is-known (evaluated X memory p) (nine .0),
+        eqb-false (survivorsOf X p (known (evaluated X memory p))) 0 (ten .0),
+      )
+
+  pub execute-links : Links program X memory (executions program X memory p)
+  execute-links =
+      judged-links program X memory (refusal (executeChecks program X memory p)) _ linked
+      (λ z.
+      let h = execute-passed z in
+      executing-links (known (evaluated X memory p)) (h .0) (h .1) (h .2) (h .3))
 
   -- ---- squash
   pub squash-links : Links program X memory (squashes program X memory p)

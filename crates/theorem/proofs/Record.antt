@@ -13,9 +13,9 @@ use mathlib.Core.List.{List, [], _∷_, _++_}
 use Prim.Native.Nat.{ℕ, zero, suc, _+_, _≤_, _<_}
 use native.Mathlib.Nat.{add-zero}
 use native.Mathlib.Omega.{arith}
-use lib.Dec.{eqb, leb}
-use lib.ListN.{length, take, drop, set}
-use borrow.Author.Tests.{eqb-false, ne-eqb}
+use lib.Dec.{leb}
+use lib.ListN.{length, take, set}
+use borrow.Author.Tests.{ne-eqb}
 use Rattle.lookup.specs.Forwarding.{seen}
 use Rattle.engine.specs.Contract.{judged}
 use Rattle.engine.specs.Conditions.{refusal}
@@ -25,7 +25,7 @@ use Rattle.machine_model.specs.declared.Fate.the-variants.{Waiting}
 use Rattle.machine_model.specs.declared.Entry.{Entry}
 use Rattle.machine_model.specs.Program.{programFits, instructionAt}
 use Rattle.machine_model.specs.Window.{entryAt, entryWith, registerSeen}
-use Rattle.machine_model.specs.Calls.{Plain, Call, issue, execute, commit, Result, waits, evaluated, known, unknown, survivorsOf}
+use Rattle.machine_model.specs.Calls.{Plain, Call, issue, execute, commit, Result, waits, evaluated, known, survivorsOf}
 use Rattle.machine_model.specs.Calls.{executing, respond, openChecks, opened, issueChecks, executeChecks, commitChecks}
 use Rattle.theorem.specs.Sequential.{runAfter, ends}
 use Rattle.theorem.specs.Truth.{run, next, Truth}
@@ -34,8 +34,8 @@ use Rattle.theorem.specs.Play.{isRefused, noneRefused, answersOf, allAcc
 use Rattle.theorem.specs.computed.Linked.{Linked}
 use Rattle.theorem.proofs.Core.{Core, Kept, seenBy}
 use Rattle.theorem.proofs.Keeping.{kept-fresh, kept-step, none-after, issue-left, oldest-known, commit-clean}
-use Rattle.theorem.proofs.Links.{coreOf, Steps, stays, goes, passes, lent-passes}
-use Rattle.theorem.proofs.Linking.{linked-open, issue-accepted, execute-accepted, commit-accepted}
+use Rattle.theorem.proofs.Links.{coreOf, Steps, stays, goes}
+use Rattle.theorem.proofs.Linking.{linked-open, execute-passed, issue-accepted, execute-accepted, commit-accepted}
 use Rattle.theorem.proofs.Finishing.{respond-links}
 
 -- what every call keeps
@@ -66,12 +66,7 @@ oldest-stays : (program : List ℕ) (X : Plain) (memory : List ℕ) → Linked p
     → refusal (executeChecks program X memory 0) ≡ 0
     → 0 < survivorsOf X 0 (known (evaluated X memory 0))
 oldest-stays program X memory l z =
-    let passed = sym (lent-passes program X memory l (drop 2 (executeChecks program X memory 0))) ∙ z in
-    let seven = passes (leb (length (X .entries)) 0) 6 _ passed in
-    let eight = passes (not (waits (entryAt (X .entries) 0 .fate))) 7 _ (seven .1) in
-    let nine = passes (unknown (evaluated X memory 0)) 8 _ (eight .1) in
-    let ten = passes (eqb (survivorsOf X 0 (known (evaluated X memory 0))) 0) 9 0 (nine .1) in
-    omega (arith, eqb-false (survivorsOf X 0 (known (evaluated X memory 0))) 0 (ten .0))
+    omega (arith, execute-passed program X memory l 0 z .3)
 
 oldest-executed : (l : List Entry) (e : Entry) (es : List Entry) (f : Fate) (left : ℕ) → l ≡ e ∷ es → 0 < left
     → (rest : List Entry) × (take left (set l 0 (entryWith (entryAt l 0) f)) ≡ entryWith e f ∷ rest)
