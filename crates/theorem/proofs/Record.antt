@@ -13,7 +13,6 @@ use mathlib.Core.List.{List, [], _∷_, _++_}
 use Prim.Native.Nat.{ℕ, zero, suc, _+_, _≤_, _<_}
 use native.Mathlib.Nat.{add-zero}
 use native.Mathlib.Omega.{arith}
-use lib.Dec.{leb}
 use lib.ListN.{length, take, set}
 use borrow.Author.Tests.{ne-eqb}
 use Rattle.lookup.specs.Forwarding.{seen}

@@ -50,37 +50,24 @@ unrefused-none (a ∷ answers) h = ap₂ _&&_ (go (isRefused a) refl) (unrefused
     go true e = absurd (let is = refused-is a e in h .0 (is .0) (is .1))
     go false e = refl
 
--- "The number is the commit calls not refused plus the numbers that finish answered."
-abbrev pub answeredBy : Answer → ℕ
-answeredBy (refused k) = 0
-answeredBy (named p) = 0
-answeredBy (executed v s) = 0
-answeredBy done = 0
-answeredBy (committed i c r v) = 0
-answeredBy (finished n) = n
+-- The number of commits "is the commit calls not refused plus the numbers that finish answered": what a call's answer counts.
+abbrev pub Counts : Call → Answer → Type 0
+Counts issue a = commitsIn a ≡ 0
+Counts (execute p) a = commitsIn a ≡ 0
+Counts (squash p) a = commitsIn a ≡ 0
+Counts commit a = commitsIn a ≡ cond (isRefused a) 0 1
+Counts (finish k list) a = isRefused a ≡ false → a ≡ finished (commitsIn a)
 
-abbrev pub counted : Call → Answer → ℕ
-counted issue a = 0
-counted (execute p) a = 0
-counted (squash p) a = 0
-counted commit a = cond (isRefused a) 0 1
-counted (finish k list) a = answeredBy a
-
-pub counts : (program : List ℕ) (c : Call) (X : Plain) (memory : List ℕ)
-    → commitsIn (respond program c X memory .answer) ≡ counted c (respond program c X memory .answer)
+pub counts : (program : List ℕ) (c : Call) (X : Plain) (memory : List ℕ) → Counts c (respond program c X memory .answer)
 unfolding respond
 counts program issue X memory =
-    either (λ (r : Result). commitsIn (r .answer) ≡ 0) (eqb (refusal (issueChecks program X)) 0) refl refl
+    either (λ (r : Result). Counts issue (r .answer)) (eqb (refusal (issueChecks program X)) 0) refl refl
 counts program (execute p) X memory =
-    either (λ (r : Result). commitsIn (r .answer) ≡ 0) (eqb (refusal (executeChecks program X memory p)) 0) refl refl
+    either (λ (r : Result). Counts (execute p) (r .answer)) (eqb (refusal (executeChecks program X memory p)) 0) refl refl
 counts program (squash p) X memory =
-    either (λ (r : Result). commitsIn (r .answer) ≡ 0) (eqb (refusal (squashChecks program X p)) 0) refl refl
+    either (λ (r : Result). Counts (squash p) (r .answer)) (eqb (refusal (squashChecks program X p)) 0) refl refl
 counts program commit X memory =
-    either (λ (r : Result). commitsIn (r .answer) ≡ cond (isRefused (r .answer)) 0 1)
-    (eqb (refusal (commitChecks program X memory)) 0)
-    refl
-    refl
+    either (λ (r : Result). Counts commit (r .answer)) (eqb (refusal (commitChecks program X memory)) 0) refl refl
 counts program (finish k list) X memory =
-    either (λ (r : Result). commitsIn (r .answer) ≡ answeredBy (r .answer)) (eqb (refusal (finishChecks program X memory)) 0)
-    refl
-    refl
+    either (λ (r : Result). Counts (finish k list) (r .answer)) (eqb (refusal (finishChecks program X memory)) 0) (λ e. refl)
+    (λ e. absurd (true≢false e))
