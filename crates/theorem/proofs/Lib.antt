@@ -2,7 +2,7 @@
 -- Knowing, Keeping: each step keeps it. Paired: the buffer's references beside the window's entries. Links: the plain state
 -- over the window alone. Linking: each call is steps of the window. Finishing: so is a finish. Record: the record theorem.
 -- Closing: the record theorem of the calls, from their contracts. Finished: how much a finish commits, of the play and of the
--- calls. Witness: a history that they speak of, computed.
+-- calls. Witness: a history that they speak of, computed. Lived: a life of calls on machines that they speak of.
 pub mod Cases
 pub mod Sentences
 pub mod Core
@@ -16,3 +16,4 @@ pub mod Record
 pub mod Closing
 pub mod Finished
 pub mod Witness
+pub mod Lived

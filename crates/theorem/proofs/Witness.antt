@@ -22,10 +22,10 @@ use Rattle.theorem.proofs.Record.{record-theorem}
 use Rattle.theorem.proofs.Finished.{finish-theorem}
 
 -- r1 becomes 9; it is stored at 3; r2 loads 3; r3 loads 4
-abbrev program : List ℕ
+abbrev pub program : List ℕ
 program = 1 ∷ 1 ∷ 0 ∷ 9 ∷ 4 ∷ 1 ∷ 0 ∷ 3 ∷ 3 ∷ 2 ∷ 0 ∷ 3 ∷ 3 ∷ 3 ∷ 0 ∷ 4 ∷ []
 
-abbrev memory : List ℕ
+abbrev pub memory : List ℕ
 memory = 0 ∷ 0 ∷ 0 ∷ 5 ∷ 6 ∷ 0 ∷ 0 ∷ 0 ∷ []
 
 abbrev opening : Played
@@ -64,7 +64,7 @@ pub wrapped : (wrap .state .buffer .oldest ≡ 2) × (length (wrap .state .entri
 unfolding computing
 wrapped = (refl, refl, refl)
 
-abbrev numbers : List ℕ
+abbrev pub numbers : List ℕ
 numbers = 0 ∷ 1 ∷ 1 ∷ 9 ∷ 1 ∷ 4 ∷ 3 ∷ 9 ∷ 2 ∷ 3 ∷ 2 ∷ 9 ∷ 3 ∷ 3 ∷ 3 ∷ 6 ∷ []
 
 -- four commits, and what they recorded, as the sequential run does

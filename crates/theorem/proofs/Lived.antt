@@ -1,0 +1,169 @@
+-- The record theorem of the calls is about something: a life on machines, each call as its contract says. The first commit is
+-- refused; the three calls that the opened machine needs commit an instruction; a finish commits the other three. What each
+-- call comes to is computed, and so is that the machines are sound. The theorem is used where the run goes on and at its end.
+-- Assumes nothing.
+use mathlib.Core.Path.{_≡_, refl}
+use mathlib.Core.Bool.{true}
+use mathlib.Core.List.{List, [], _∷_, _++_}
+use mathlib.Core.Option.{none}
+use Prim.Native.Nat.{ℕ, _≤_}
+use native.Mathlib.Omega.{arith}
+use lib.ListN.{length, replicate, set, take, drop}
+use Rattle.marks.specs.Circle.{firsts}
+use Rattle.table.specs.Limits.{sizesFit}
+use Rattle.table.specs.View.{markFate, tabulate}
+use Rattle.table.specs.computed.Check.{marksBelow, rowFits, lawfulBy}
+use Rattle.engine.specs.Contract.{refused, done, named, executed, committed, finished}
+use Rattle.engine.proofs.Meeting.{Accepts}
+use Rattle.machine_model.specs.declared.Instruction.the-variants.{Add}
+use Rattle.machine_model.specs.declared.Fate.{Fate}
+use Rattle.machine_model.specs.declared.Fate.the-variants.{Waiting, Executed}
+use Rattle.machine_model.specs.declared.Machine.{Machine}
+use Rattle.machine_model.specs.Window.{blankEntry}
+use Rattle.machine_model.specs.Calls.{Call, issue, execute, commit, finish, Answer, respond}
+use Rattle.machine_model.specs.Contract.{freshMachine, plain, Sound, Meets, Opens}
+use Rattle.machine_model.proofs.Opened.{fresh-sound, opens-done}
+use Rattle.machine_model.proofs.Answering.{refused-meets, accepted-meets, validate-passes}
+use Rattle.theorem.specs.Sequential.{runAfter, ends}
+use Rattle.theorem.specs.Play.{needed}
+use Rattle.theorem.specs.Life.{Life, born, lived}
+use Rattle.theorem.specs.Truth.{CallsTruth}
+use Rattle.theorem.specs.Finish.{FinishTruth}
+use Rattle.theorem.proofs.Cases.{computing}
+use Rattle.theorem.proofs.Sentences.{Unrefused}
+use Rattle.theorem.proofs.Closing.{life-join, calls-theorem, calls-next}
+use Rattle.theorem.proofs.Finished.{calls-finish}
+use Rattle.theorem.proofs.Witness.{program, memory, numbers}
+
+-- a machine whose table has no marks, with this fate at stage 0 of the program's first instruction
+abbrev machine : ℕ → ℕ → ℕ → ℕ → Fate → List ℕ → ℕ → Machine
+machine oldest live number ran fate registers next =
+    record {
+      table = record {
+        banks = 1;
+        rows = 1;
+        stages = 3;
+        words = 8;
+        oldest = oldest;
+        live = live;
+        next = number;
+        executed = ran;
+        numbers = replicate 16 0;
+        addresses = replicate 64 0;
+        loads = replicate 64 0;
+        stores = replicate 64 0;
+        values = replicate 16 0;
+      };
+      window = set (replicate 16 blankEntry) 0 (record { instruction = Add 1 0 9; index = 0; fate = fate });
+      registers = registers;
+      count = 4;
+      next = next;
+    }
+
+-- opened; its first instruction issued, executed and committed; the program finished
+abbrev m₀ : Machine
+m₀ = freshMachine 1 1 3 8 4
+
+abbrev m₁ : Machine
+m₁ = machine 0 1 1 0 Waiting (replicate 8 0) 1
+
+abbrev m₂ : Machine
+m₂ = machine 0 1 1 1 (Executed 9 0) (replicate 8 0) 1
+
+abbrev m₃ : Machine
+m₃ = machine 1 0 1 1 (Executed 9 0) (0 ∷ 9 ∷ 0 ∷ 0 ∷ 0 ∷ 0 ∷ 0 ∷ 0 ∷ []) 1
+
+abbrev m₄ : Machine
+m₄ = machine 1 0 4 0 Waiting (0 ∷ 9 ∷ 9 ∷ 6 ∷ 0 ∷ 0 ∷ 0 ∷ 0 ∷ []) 4
+
+abbrev final : List ℕ
+final = 0 ∷ 0 ∷ 0 ∷ 9 ∷ 6 ∷ 0 ∷ 0 ∷ 0 ∷ []
+
+opens : Opens 1 1 3 8 program memory done m₀
+unfolding computing sizesFit
+opens = opens-done 1 1 3 8 program memory refl refl
+
+sound₀ : Sound m₀
+unfolding sizesFit
+sound₀ = fresh-sound 1 1 3 8 4 refl
+
+sound : Sound m₁ × Sound m₂ × Sound m₃ × Sound m₄
+unfolding computing sizesFit firsts markFate tabulate marksBelow rowFits lawfulBy
+sound = (
+  validate-passes m₁ program 8 refl .sound,
+  validate-passes m₂ program 8 refl .sound,
+  validate-passes m₃ program 8 refl .sound,
+  validate-passes m₄ program 8 refl .sound,
+)
+
+refuses : Meets program m₀ commit memory (refused 11) m₀ memory []
+unfolding computing tabulate
+refuses = refused-meets program m₀ commit memory 11 sound₀ refl
+
+-- an accepted call between sound machines meets its contract where the second has the state that the definition gives
+accepted : (m u : Machine) (c : Call) (w v kept : List ℕ) → Sound m → Sound u
+    → let r = respond program c (plain m) w in
+    Accepts (r .answer) → plain u ≡ r .state → v ≡ r .memory → kept ≡ r .list → Meets program m c w (r .answer) u v kept
+accepted m u c w v kept before after taken state words list =
+    let r = respond program c (plain m) w in
+    accepted-meets program m c w u v kept (r .answer) r before refl taken refl state words list after
+
+issues : Meets program m₀ issue memory (named 0) m₁ memory []
+unfolding computing tabulate markFate
+issues = accepted m₀ m₁ issue memory memory [] sound₀ (sound .0) tt refl refl refl
+
+executes : Meets program m₁ (execute 0) memory (executed 0 none) m₂ memory []
+unfolding computing tabulate markFate
+executes = accepted m₁ m₂ (execute 0) memory memory [] (sound .0) (sound .1) tt refl refl refl
+
+commits : Meets program m₂ commit memory (committed 0 1 1 9) m₃ memory []
+unfolding computing tabulate markFate
+commits = accepted m₂ m₃ commit memory memory [] (sound .1) (sound .2) tt refl refl refl
+
+-- a list with five places more than the three commits take
+abbrev lent : List ℕ
+lent = replicate 17 7
+
+abbrev left : List ℕ
+left = drop 4 numbers ++ replicate 5 7
+
+finishes-all : Meets program m₃ (finish 5 lent) memory (finished 3) m₄ final left
+unfolding computing tabulate markFate
+finishes-all = accepted m₃ m₄ (finish 5 lent) memory final left (sound .2) (sound .3) tt refl refl refl
+
+-- ---- the life, and what the theorem says of it
+
+begins : Life program m₀ memory (commit ∷ []) (refused 11 ∷ []) m₀ memory [] 0
+begins = lived commit born refuses
+
+needs : Life program m₀ memory (needed (plain m₀)) (named 0 ∷ executed 0 none ∷ committed 0 1 1 9 ∷ []) m₃ memory
+    (take 4 numbers) 1
+unfolding computing tabulate
+needs = lived commit (lived (execute 0) (lived issue born issues) executes) commits
+
+whole : Life program m₀ memory (commit ∷ issue ∷ execute 0 ∷ commit ∷ finish 5 lent ∷ [])
+    (refused 11 ∷ named 0 ∷ executed 0 none ∷ committed 0 1 1 9 ∷ finished 3 ∷ []) m₄ final numbers 4
+unfolding computing tabulate
+whole = lived (finish 5 lent) (life-join begins needs) finishes-all
+
+pub true-of-it : CallsTruth program memory m₄ final numbers 4
+true-of-it = calls-theorem opens whole
+
+-- the calls that the opened machine needs commit the run's first instruction
+pub goes-on-there : (length (needed (plain m₀)) ≤ 3) × Unrefused (named 0 ∷ executed 0 none ∷ committed 0 1 1 9 ∷ [])
+    × CallsTruth program memory m₃ memory (take 4 numbers) 1
+unfolding computing
+goes-on-there = calls-next opens begins refl needs
+
+-- the finish said 3 of 5 with four places left, so the run has ended
+pub finish-there : ends program (runAfter program memory 4) ≡ true
+unfolding computing tabulate
+finish-there =
+    let f : FinishTruth program memory 1 5 lent (finished 3) = calls-finish opens (life-join begins needs) finishes-all in
+    f .ended 3 refl (omega arith) (omega arith)
+
+-- and no further calls tell of a commit
+pub stops-there : {cs : List Call} {answers : List Answer} {x : Machine} {y more : List ℕ} {j : ℕ}
+    → Life program m₄ final cs answers x y more j
+    → j ≡ 0
+stops-there more = true-of-it .stops finish-there more
