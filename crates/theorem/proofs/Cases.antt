@@ -11,7 +11,7 @@ use Rattle.machine_model.specs.Window.{registerSeen}
 use Rattle.machine_model.specs.Calls.{finishes, respond}
 use Rattle.theorem.specs.Sequential.{runAfter}
 use Rattle.theorem.specs.Play.{play, noneRefused, answersOf}
-use Rattle.theorem.specs.Examples.{AllRun, runs, AllPlayed, plays}
+use Rattle.theorem.specs.Examples.{AllRun, runTable, AllPlayed, callTable}
 
 -- all that calls and the run compute with: to unfold this is to unfold them
 unfoldable pub computing : Unit {0}
@@ -19,11 +19,11 @@ unfolding runAfter play noneRefused answersOf respond finishes every programFits
     registerSeen
 computing = tt
 
-pub runs-shown : AllRun runs
-unfolding runs computing
+pub runs-shown : AllRun runTable
+unfolding runTable computing
 runs-shown =
     (refl, (refl, (refl, (refl, (refl, (refl, (refl, (refl, (refl, (refl, (refl, (refl, (refl, (refl, (refl, tt)))))))))))))))
 
-pub plays-shown : AllPlayed plays
-unfolding plays computing
-plays-shown = (refl, (refl, (refl, (refl, (refl, (refl, (refl, (refl, (refl, (refl, (refl, (refl, (refl, tt)))))))))))))
+pub calls-shown : AllPlayed callTable
+unfolding callTable computing
+calls-shown = (refl, (refl, (refl, (refl, (refl, (refl, (refl, (refl, (refl, (refl, (refl, (refl, (refl, tt)))))))))))))

@@ -1,5 +1,5 @@
--- Examples of the sequential run and of lists of calls, as two tables; proofs/Cases.antt shows that every row comes out. They
--- say of each definition what it comes to, so that none of them is held by the machine's alone.
+-- Examples of the sequential run and of lists of calls, as two tables; proofs/Cases.antt shows that every row comes out. The
+-- theorem compares the run with the machine: a mistake made in both alike shows here.
 -- Assumes nothing.
 use mathlib.Core.Path.{_≡_}
 use mathlib.Core.Bool.{Bool, true, false}
@@ -70,8 +70,8 @@ ran program lent steps registers memory index numbers ended =
 abbrev pub words : List ℕ
 words = 4 ∷ 5 ∷ 6 ∷ []
 
-unfoldable pub runs : List RunExample
-runs =
+unfoldable pub runTable : List RunExample
+runTable =
     -- Eight registers at 0, the memory as lent, index 0 and an empty record; an instruction is left.
     ran (A 1 0 5) words 0 (0 ∷ 0 ∷ 0 ∷ 0 ∷ 0 ∷ 0 ∷ 0 ∷ 0 ∷ []) words 0 [] false
     -- An empty program has ended at once, and no step moves it.
@@ -154,8 +154,8 @@ called program memory calls answers accepted numbers commits needs =
 abbrev pub played : List Call → List Answer → Bool → List ℕ → ℕ → List Call → PlayExample
 played = called (A 1 0 5 ++ S 1 0 3 ++ L 2 0 3) (replicate 8 0)
 
-unfoldable pub plays : List PlayExample
-plays =
+unfoldable pub callTable : List PlayExample
+callTable =
     -- The empty list. With nothing live the next instruction is issued, executed and committed.
     played [] [] true [] 0 (issue ∷ execute 0 ∷ commit ∷ [])
     -- An oldest that waits is executed and committed; one that has executed is committed.
