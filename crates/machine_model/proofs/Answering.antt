@@ -21,9 +21,9 @@ use Rattle.engine.proofs.Meeting.{turned, Accepts}
 use Rattle.machine_model.specs.declared.Machine.{Machine}
 use Rattle.machine_model.specs.Program.{programFits}
 use Rattle.machine_model.specs.Window.{entryAt}
-use Rattle.machine_model.specs.Calls.{Plain, Call, issue, execute, squash, commit, finish, Answer, Result, matchesProgram}
-use Rattle.machine_model.specs.Calls.{programCheck, respond}
-use Rattle.machine_model.specs.Contract.{entryOf, plain, Sound, lentTo, Meets}
+use Rattle.machine_model.specs.Calls.{Plain, Call, issue, execute, squash, commit, finish, lentTo, Answer, Result}
+use Rattle.machine_model.specs.Calls.{matchesProgram, programCheck, respond}
+use Rattle.machine_model.specs.Contract.{entryOf, plain, Sound, Meets}
 use Rattle.machine_model.proofs.Sounding.{agreeing, validateOf, every-same, length-entries, entry-at, tests-sound}
 use Rattle.machine_model.proofs.Sounding.{broken-tests}
 

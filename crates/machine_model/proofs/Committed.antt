@@ -36,7 +36,7 @@ use Rattle.machine_model.specs.declared.Entry.{Entry}
 use Rattle.machine_model.specs.declared.Machine.{Machine}
 use Rattle.machine_model.specs.Program.{kind, codeOf}
 use Rattle.machine_model.specs.Window.{blankEntry, entryAt, accessBy, referenceBy, reference}
-use Rattle.machine_model.specs.Calls.{Plain, Answer, commit, Result, waits, valueBy, addressBy, registersAfter, target}
+use Rattle.machine_model.specs.Calls.{commit, waits, valueBy, addressBy, registersAfter, target, committedSays, committing}
 use Rattle.machine_model.specs.Calls.{respond}
 use Rattle.machine_model.specs.Contract.{plain, kindOf, placeOf, agree, Meets}
 use Rattle.machine_model.specs.computed.Parts.{entriesOf, markBy}
@@ -92,28 +92,6 @@ agree-both f g e =
     (eqb-true (kindOf f) (kindOf g) (both .0), eqb-true (placeOf f) (placeOf g) (both .1))
 
 -- ---- what the call comes to
-
--- the answer of a commit of this entry
-abbrev pub committedSays : Entry → Answer
-committedSays e =
-    committed (e .index) (codeOf (e .instruction)) (target (e .instruction) (addressBy (e .fate))) (valueBy (e .fate))
-
--- what an accepted commit comes to
-abbrev committing : Plain → List ℕ → Result
-committing X w =
-    let e = entryAt (X .entries) 0 in
-    record {
-      answer = committedSays e;
-      state = record {
-        buffer = retire (X .buffer);
-        entries = drop 1 (X .entries);
-        registers = registersAfter (X .registers) (e .instruction) (valueBy (e .fate));
-        count = X .count;
-        next = X .next;
-      };
-      memory = written w (fateOf (at (X .buffer .refs) 0));
-      list = [];
-    }
 
 -- the machine after the commit of the oldest: the window starts at stage o, with these marks and registers
 abbrev pub retiredBy : Machine → ℕ → List ℕ → List ℕ → List ℕ → Machine

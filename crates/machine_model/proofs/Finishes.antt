@@ -14,21 +14,10 @@ use lib.ListN.{length, take, drop, length-append, take-append-drop}
 use lib.Seq.{sets, sets-eq, length-sets, length-take-le, take-at, drop-at, drop-drop}
 use borrow.Author.Tests.{lt-ltb, le-ltb}
 use Rattle.engine.specs.Contract.{refused, committed, finished}
-use Rattle.engine.specs.Conditions.{refusal, wrongLength}
+use Rattle.engine.specs.Conditions.{refusal}
 use Rattle.machine_model.specs.declared.Machine.{Machine}
-use Rattle.machine_model.specs.Calls.{
-  Plain,
-  commit,
-  finish,
-  Answer,
-  Result,
-  programCheck,
-  commits,
-  ready,
-  programDone,
-  Drain,
-}
-use Rattle.machine_model.specs.Calls.{afterCommit, continueOn, drainStopped, finishes, respond}
+use Rattle.machine_model.specs.Calls.{Plain, commit, finish, Answer, Result, finishChecks, commits, ready, programDone}
+use Rattle.machine_model.specs.Calls.{Drain, afterCommit, continueOn, drainStopped, finishes, ended, respond}
 use Rattle.machine_model.specs.Contract.{plain, Sound, Meets}
 use Rattle.machine_model.proofs.Sounding.{length-entries}
 use Rattle.engine.proofs.Meeting.{judged-accepted}
@@ -202,11 +191,10 @@ remains-meets program k m s u w list v z into n passed remains e sound =
     accepted-meets program m (finish k list) w u z into (finished n)
     (record { answer = finished n; state = plain u; memory = z; list = into })
     (passed .sound)
-    (judged-accepted (refusal (wrongLength (plain m .buffer .words) w ∷ programCheck program (plain m) ∷ [])) (plain m) w
-    list
-    (end (finishes program k (length list) (plain m) w))
+    (judged-accepted (refusal (finishChecks program (plain m) w)) (plain m) w list
+    (ended list (finishes program k (length list) (plain m) w))
     (passed-lent m program w passed [])
-    ∙ ap end (remains .way ∙ ap (following (take (n * 4) into) n) e)
+    ∙ ap (ended list) (remains .way ∙ ap (following (take (n * 4) into) n) e)
     ∙ ap₂
     (λ (q : ℕ) (l : List ℕ). let r : Result = record { answer = finished q; state = plain u; memory = z; list = l } in r)
     (let q : n + 0 ≡ n = omega arith in q)
@@ -217,12 +205,3 @@ remains-meets program k m s u w list v z into n passed remains e sound =
     refl
     refl
     sound
-  where
-    end : Drain → Result
-    end W =
-        record {
-          answer = finished (W .commits);
-          state = W .state;
-          memory = W .memory;
-          list = W .numbers ++ drop (length (W .numbers)) list;
-        }

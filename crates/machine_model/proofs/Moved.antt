@@ -30,7 +30,7 @@ use Rattle.machine_model.specs.declared.Fate.the-variants.{Waiting}
 use Rattle.machine_model.specs.declared.Machine.{Machine}
 use Rattle.machine_model.specs.Program.{instructionAt}
 use Rattle.machine_model.specs.Window.{entryAt}
-use Rattle.machine_model.specs.Calls.{Plain, issue, squash, Result, programCheck, refetchIndex, respond}
+use Rattle.machine_model.specs.Calls.{issue, squash, newEntry, issueChecks, issuing, squashing, refetchIndex, respond}
 use Rattle.machine_model.specs.Contract.{entryOf, plain, Meets}
 use Rattle.machine_model.specs.computed.Parts.{entriesOf}
 use Rattle.machine_model.proofs.Sounding.{length-entries, entry-at}
@@ -38,26 +38,6 @@ use Rattle.machine_model.proofs.Answering.{Passed, refused-meets, accep
 use Rattle.machine_model.proofs.PlainOfView.{plain-by, entries-grow, sound-agreed, reached, agreed-grow, agreed-take}
 
 -- ---- issue
-
--- the entry that an issue adds
-abbrev newEntry : List ℕ → ℕ → Entry
-newEntry program next = record { instruction = instructionAt program next; index = next; fate = Waiting }
-
--- what an accepted issue comes to
-abbrev issuing : List ℕ → Plain → List ℕ → Result
-issuing program X w =
-    record {
-      answer = named (length (X .entries));
-      state = record {
-        buffer = issued (X .buffer);
-        entries = X .entries ++ (newEntry program (X .next) ∷ []);
-        registers = X .registers;
-        count = X .count;
-        next = suc (X .next);
-      };
-      memory = w;
-      list = [];
-    }
 
 -- the machine after an issue
 abbrev pub issuedOver : List ℕ → Machine → Machine
@@ -70,22 +50,16 @@ issuedOver program m =
       next = m .next + 1;
     }
 
--- the number of an issue's refusal, past the validation
-abbrev issueNumber : List ℕ → Plain → ℕ
-issueNumber program X =
-    refusal
-    (programCheck program X ∷ when (eqb (length (X .entries)) (X .buffer .stages)) 5 ∷ when (leb (X .count) (X .next)) 6 ∷ [])
-
 module _ (program : List ℕ) (m : Machine) (passed : Passed m program (m .table .words)) (w : List ℕ) where
   issue-number : (a b : Bool) → eqb (m .table .live) (m .table .stages) ≡ a → leb (m .count) (m .next) ≡ b
-      → issueNumber program (plain m) ≡ cond a 5 (cond b 6 0)
+      → refusal (issueChecks program (plain m)) ≡ cond a 5 (cond b 6 0)
   issue-number a b e f =
       passed .checks
       (when (eqb (length (plain m .entries)) (m .table .stages)) 5 ∷ when (leb (m .count) (m .next)) 6 ∷ [])
       ∙ ap₂ (λ (x y : Bool). cond x 5 (cond y 6 0)) (ap (λ (k : ℕ). eqb k (m .table .stages)) (length-entries m) ∙ e) f
 
   -- what the definition says, by that number
-  issue-responds : (k : ℕ) → issueNumber program (plain m) ≡ k
+  issue-responds : (k : ℕ) → refusal (issueChecks program (plain m)) ≡ k
       → respond program issue (plain m) w ≡ judged k (plain m) w [] (issuing program (plain m) w)
   unfolding respond
   issue-responds k e = ap (λ (j : ℕ). judged j (plain m) w [] (issuing program (plain m) w)) e
@@ -136,22 +110,6 @@ module _ (program : List ℕ) (m : Machine) (passed : Passed m program (m .table
       (length-entries m ∙ sym (length-refs (m .table))) refl))
 
 -- ---- squash
-
--- what an accepted squash at position p comes to
-abbrev squashing : Plain → List ℕ → ℕ → Result
-squashing X w p =
-    record {
-      answer = done;
-      state = record {
-        buffer = squashTo (X .buffer) p;
-        entries = take p (X .entries);
-        registers = X .registers;
-        count = X .count;
-        next = refetchIndex X p;
-      };
-      memory = w;
-      list = [];
-    }
 
 -- the machine after a squash at position p
 abbrev pub squashedOver : Machine → ℕ → Machine

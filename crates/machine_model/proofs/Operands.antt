@@ -1,6 +1,6 @@
 -- Operands: what a register holds for an entry, and what its instruction asks with them.
--- The nearest older writer of a register decides what it holds, and is what the search by position finds (held-found): by
--- induction on the positions, since one entry more at the young end is one more turn of the search (held-next). An
+-- The nearest older writer of a register decides what it holds, and is what the search by position finds (register-found): by
+-- induction on the positions, since one entry more at the young end is one more turn of the search (register-next). An
 -- instruction's outcome is the fate after what it asks, with a load's word (outcome-wanted): by the instruction and its
 -- operands. What it then is to the buffer, and the value answered, go by the instruction too.
 -- Assumes nothing.
@@ -44,11 +44,11 @@ fateAfter (Compute x) v = Executed x 0
 fateAfter (LoadAt a) v = Executed v a
 fateAfter (StoreAt a x) v = Executed x a
 
-pub held-snoc : (es : List Entry) (e : Entry) (k : ℕ) (w : Option ℕ)
+pub register-snoc : (es : List Entry) (e : Entry) (k : ℕ) (w : Option ℕ)
     → registerSeen (es ++ (e ∷ [])) k w ≡ cond (writesTo (e .instruction) k) (valueOf (e .fate)) (registerSeen es k w)
 unfolding registerSeen
-held-snoc [] e k w = refl
-held-snoc (d ∷ es) e k w = held-snoc es e k (cond (writesTo (d .instruction) k) (valueOf (d .fate)) w)
+register-snoc [] e k w = refl
+register-snoc (d ∷ es) e k w = register-snoc es e k (cond (writesTo (d .instruction) k) (valueOf (d .fate)) w)
 
 -- 8, which stands for no register, is no register's number
 writes-number : (o : Option ℕ) (k : ℕ) → k < 8 → isRegister o k ≡ eqb (registerNumber o) k
@@ -75,48 +75,48 @@ abbrev Packed : List Entry → ℕ → ℕ → List ℕ → ℕ → Type 0
 Packed window oldest stages into p = (q : ℕ) → q < p → getD into q 0 ≡ destinationAt window oldest stages q
 
 module _ (window : List Entry) (oldest stages : ℕ) (into : List ℕ) (k : ℕ) (small : k < 8) (base : Option ℕ) where
-  held-next : (p : ℕ) → Packed window oldest stages into (suc p)
+  register-next : (p : ℕ) → Packed window oldest stages into (suc p)
       → registerSeen (entriesOf window oldest stages (suc p)) k base
       ≡ cond (eqb (getD into p 0) k) (valueOf (entryBy window oldest stages p .fate))
       (registerSeen (entriesOf window oldest stages p) k base)
   unfolding tabulate
-  held-next p packed =
+  register-next p packed =
       let e = entryBy window oldest stages p in
-      held-snoc (entriesOf window oldest stages p) e k base
+      register-snoc (entriesOf window oldest stages p) e k base
       ∙ ap (λ (t : Bool). cond t (valueOf (e .fate)) (registerSeen (entriesOf window oldest stages p) k base))
       (writes-number (destination (e .instruction)) k small
       ∙ ap (λ (d : ℕ). eqb d k) (sym (packed p (omega arith))))
 
-  held-none : (p : ℕ) → Packed window oldest stages into p → writer into k p ≡ 0
+  register-none : (p : ℕ) → Packed window oldest stages into p → writer into k p ≡ 0
       → registerSeen (entriesOf window oldest stages p) k base ≡ base
   unfolding find tabulate registerSeen
-  held-none zero packed e = refl
-  held-none (suc p) packed e =
-      held-next p packed
+  register-none zero packed e = refl
+  register-none (suc p) packed e =
+      register-next p packed
       ∙ turn-none (eqb (getD into p 0) k) p (writer into k p)
       (valueOf (entryBy window oldest stages p .fate)) (registerSeen (entriesOf window oldest stages p) k base) base e
-      (held-none p (λ q h. packed q (omega arith)))
+      (register-none p (λ q h. packed q (omega arith)))
 
-  held-at : (p q : ℕ) → Packed window oldest stages into p → writer into k p ≡ suc q
+  register-at : (p q : ℕ) → Packed window oldest stages into p → writer into k p ≡ suc q
       → registerSeen (entriesOf window oldest stages p) k base ≡ valueOf (getD window (stage oldest stages q) blankEntry .fate)
   unfolding find
-  held-at zero q packed e = absurd (omega arith)
-  held-at (suc p) q packed e =
-      held-next p packed
+  register-at zero q packed e = absurd (omega arith)
+  register-at (suc p) q packed e =
+      register-next p packed
       ∙ turn-at (eqb (getD into p 0) k) p (writer into k p) q
       (λ (r : ℕ). valueOf (entryBy window oldest stages r .fate)) (registerSeen (entriesOf window oldest stages p) k base) e
-      (held-at p q (λ r h. packed r (omega arith)))
+      (register-at p q (λ r h. packed r (omega arith)))
 
   -- what the search came to decides what the register holds
-  pub held-found : (p w : ℕ) → Packed window oldest stages into p → w ≡ writer into k p
+  pub register-found : (p w : ℕ) → Packed window oldest stages into p → w ≡ writer into k p
       → (w ≡ 0 → registerSeen (entriesOf window oldest stages p) k base ≡ base)
       × ((w ≡ 0 → ⊥) → (s : ℕ) → s ≡ stage oldest stages (w - 1)
       → registerSeen (entriesOf window oldest stages p) k base ≡ valueOf (getD window s blankEntry .fate))
-  held-found p w packed found = (
-    λ e. held-none p packed (sym found ∙ e),
+  register-found p w packed found = (
+    λ e. register-none p packed (sym found ∙ e),
     λ some-writer s at.
         let e : w ≡ suc (w - 1) = omega arith in
-        held-at p (w - 1) packed (sym found ∙ e)
+        register-at p (w - 1) packed (sym found ∙ e)
         ∙ ap (λ (q : ℕ). valueOf (getD window q blankEntry .fate)) (sym at),
   )
 

@@ -1,58 +1,172 @@
--- 01's sentence of an operand, shown of the definition `held` in specs/Window: "nearest", "older" by positions of the list.
--- Induction on the reader's position: one more older entry decides if it writes the register (held-next), else the entries
--- before it do. Assumes nothing.
+-- 01's sentences of an operand and of refusal 9, shown of the definitions `registerSeen` in specs/Window and `evaluated` in
+-- specs/Calls: "nearest", "older" by positions of the list. Induction on the reader's position: one more older entry decides if
+-- it writes the register (register-next), else the entries before it do. Assumes nothing.
 use mathlib.Core.Bool.{Bool, true, false, cond}
 use mathlib.Core.List.{List}
-use mathlib.Core.Logic.{⊎-elim}
-use mathlib.Core.Option.{Option}
+use mathlib.Core.Logic.{_⊎_, inl, inr, ⊎-elim}
+use mathlib.Core.Option.{Option, none, some}
 use mathlib.Core.Path.{_≡_, refl, sym, ap, _∙_}
 use Prim.Native.Nat.{ℕ, zero, suc, _≤_, _<_}
 use native.Mathlib.Nat.{eq-or-lt-of-le, le-of-suc-le-suc, not-suc-le-zero, le-refl, le-step}
 use native.Mathlib.Omega.{arith}
-use lib.ListN.{length, take}
+use lib.ListN.{length, getD, take}
 use lib.Seq.{take-suc}
+use Rattle.machine_model.specs.declared.Instruction.{Instruction}
+use Rattle.machine_model.specs.declared.Instruction.the-variants.{Add, Sum, Load, Store}
+use Rattle.machine_model.specs.declared.Fate.{Fate}
+use Rattle.machine_model.specs.declared.Fate.the-variants.{Waiting, Executed}
 use Rattle.machine_model.specs.declared.Entry.{Entry}
-use Rattle.machine_model.specs.Window.{blankEntry, entryAt, writesTo, valueOf, registerSeen}
-use Rattle.machine_model.proofs.Operands.{held-snoc}
+use Rattle.machine_model.specs.Window.{blankEntry, entryAt, writesTo, valueOf, registerSeen, with₂, evaluate}
+use Rattle.machine_model.specs.Calls.{Plain, waits, evaluated, unknown}
+use Rattle.machine_model.proofs.Operands.{register-snoc}
 
 -- one more older entry
-held-next : (es : List Entry) (p k : ℕ) (w : Option ℕ) → p < length es
+register-next : (es : List Entry) (p k : ℕ) (w : Option ℕ) → p < length es
     → registerSeen (take (suc p) es) k w
     ≡ cond (writesTo (entryAt es p .instruction) k) (valueOf (entryAt es p .fate)) (registerSeen (take p es) k w)
-held-next es p k w h =
+register-next es p k w h =
     ap (λ (older : List Entry). registerSeen older k w) (take-suc es p blankEntry h)
-    ∙ held-snoc (take p es) (entryAt es p) k w
+    ∙ register-snoc (take p es) (entryAt es p) k w
 
 -- one that does not write the register leaves what it held
-held-pass : (es : List Entry) (p k : ℕ) (w : Option ℕ) → p < length es
+register-pass : (es : List Entry) (p k : ℕ) (w : Option ℕ) → p < length es
     → writesTo (entryAt es p .instruction) k ≡ false → registerSeen (take (suc p) es) k w ≡ registerSeen (take p es) k w
-held-pass es p k w h e =
-    held-next es p k w h ∙ ap (λ (t : Bool). cond t (valueOf (entryAt es p .fate)) (registerSeen (take p es) k w)) e
+register-pass es p k w h e =
+    register-next es p k w h ∙ ap (λ (t : Bool). cond t (valueOf (entryAt es p .fate)) (registerSeen (take p es) k w)) e
 
 -- "An operand comes from the nearest older live instruction that writes that register": the entry at q
-pub held-nearest : (es : List Entry) (p q k : ℕ) (w : Option ℕ) → q < p → p ≤ length es
+pub register-nearest : (es : List Entry) (p q k : ℕ) (w : Option ℕ) → q < p → p ≤ length es
     → writesTo (entryAt es q .instruction) k ≡ true
     → ((j : ℕ) → q < j → j < p → writesTo (entryAt es j .instruction) k ≡ false)
     → registerSeen (take p es) k w ≡ valueOf (entryAt es q .fate)
-held-nearest es zero q k w l h e none = absurd (not-suc-le-zero l)
-held-nearest es (suc p) q k w l h e none =
+register-nearest es zero q k w l h e others = absurd (not-suc-le-zero l)
+register-nearest es (suc p) q k w l h e others =
     ⊎-elim
     (λ (i : q ≡ p).
-    held-next es p k w h
+    register-next es p k w h
     ∙ ap
     (λ (j : ℕ). cond (writesTo (entryAt es j .instruction) k) (valueOf (entryAt es j .fate)) (registerSeen (take p es) k w))
     (sym i)
     ∙ ap (λ (t : Bool). cond t (valueOf (entryAt es q .fate)) (registerSeen (take p es) k w)) e)
     (λ (i : q < p).
-    held-pass es p k w h (none p i (le-refl (suc p)))
-    ∙ held-nearest es p q k w i (omega arith) e (λ j m o. none j m (le-step o)))
+    register-pass es p k w h (others p i (le-refl (suc p)))
+    ∙ register-nearest es p q k w i (omega arith) e (λ j m o. others j m (le-step o)))
     (eq-or-lt-of-le (le-of-suc-le-suc l))
 
 -- "else from the committed registers": no older live instruction writes it
-pub held-committed : (es : List Entry) (p k : ℕ) (w : Option ℕ) → p ≤ length es
+pub register-committed : (es : List Entry) (p k : ℕ) (w : Option ℕ) → p ≤ length es
     → ((j : ℕ) → j < p → writesTo (entryAt es j .instruction) k ≡ false) → registerSeen (take p es) k w ≡ w
 unfolding registerSeen
-held-committed es zero k w h none = refl
-held-committed es (suc p) k w h none =
-    held-pass es p k w h (none p (le-refl (suc p)))
-    ∙ held-committed es p k w (omega arith) (λ j l. none j (le-step l))
+register-committed es zero k w h others = refl
+register-committed es (suc p) k w h others =
+    register-pass es p k w h (others p (le-refl (suc p)))
+    ∙ register-committed es p k w (omega arith) (λ j l. others j (le-step l))
+
+-- ---- refusal 9: "an operand's writer has not executed"
+
+-- the registers that an instruction needs: s; P's imm too; S's d too
+abbrev pub Needs : Instruction → ℕ → Type 0
+Needs (Add d s imm) k = k ≡ s
+Needs (Sum d s r) k = (k ≡ s) ⊎ (k ≡ r)
+Needs (Load d s imm) k = k ≡ s
+Needs (Store d s imm) k = (k ≡ s) ⊎ (k ≡ d)
+
+-- register k has a writer older than position p, and the nearest one waits
+pub record WriterWaits (es : List Entry) (p k : ℕ) : Type 0 where
+  pub writer : ℕ
+  pub older : writer < p
+  pub writes : writesTo (entryAt es writer .instruction) k ≡ true
+  pub nearest : (j : ℕ) → writer < j → j < p → writesTo (entryAt es j .instruction) k ≡ false
+  pub idle : waits (entryAt es writer .fate) ≡ true
+
+valueless : (f : Fate) → valueOf f ≡ none → waits f ≡ true
+valueless Waiting e = refl
+valueless (Executed v a) e = absurd (let z : _≡_ {A = ℕ} 0 1 = cc in omega arith)
+
+waits-valueless : (f : Fate) → waits f ≡ true → valueOf f ≡ none
+waits-valueless Waiting e = refl
+waits-valueless (Executed v a) e = absurd (let z : _≡_ {A = ℕ} 0 1 = cc in omega arith)
+
+-- what is not known of a register waits for its nearest writer, since committed registers are known
+unknown-waits : (es : List Entry) (p k v : ℕ) → p ≤ length es → registerSeen (take p es) k (some v) ≡ none → WriterWaits es p k
+unfolding registerSeen
+unknown-waits es zero k v h e = absurd (let z : _≡_ {A = ℕ} 0 1 = cc in omega arith)
+unknown-waits es (suc p) k v h e =
+    go (writesTo (entryAt es p .instruction) k) refl (sym (register-next es p k (some v) h) ∙ e)
+    (unknown-waits es p k v (omega arith))
+  where
+    go : (t : Bool) → writesTo (entryAt es p .instruction) k ≡ t
+        → cond t (valueOf (entryAt es p .fate)) (registerSeen (take p es) k (some v)) ≡ none
+        → (registerSeen (take p es) k (some v) ≡ none → WriterWaits es p k) → WriterWaits es (suc p) k
+    go true w f earlier =
+        record {
+          writer = p;
+          older = le-refl (suc p);
+          writes = w;
+          nearest = λ j l m. absurd (omega arith);
+          idle = valueless (entryAt es p .fate) f;
+        }
+    go false w f earlier =
+        let before = earlier f in
+        record {
+          writer = before .writer;
+          older = le-step (before .older);
+          writes = before .writes;
+          nearest = λ j l m.
+              ⊎-elim
+              (λ (i : j ≡ p). ap (λ (q : ℕ). writesTo (entryAt es q .instruction) k) i ∙ w)
+              (λ (i : j < p). before .nearest j l i)
+              (eq-or-lt-of-le (le-of-suc-le-suc m));
+          idle = before .idle;
+        }
+
+waits-unknown : (es : List Entry) (p k v : ℕ) → p ≤ length es → WriterWaits es p k → registerSeen (take p es) k (some v) ≡ none
+waits-unknown es p k v h w =
+    register-nearest es p (w .writer) k (some v) (w .older) h (w .writes) (w .nearest)
+    ∙ waits-valueless (entryAt es (w .writer) .fate) (w .idle)
+
+-- two operands are not known where one of them is not
+one-unknown : (x y : Option ℕ) (f : ℕ → ℕ → Fate) → unknown (with₂ x y f) ≡ true → (x ≡ none) ⊎ (y ≡ none)
+one-unknown none y f e = inl refl
+one-unknown (some a) none f e = inr refl
+one-unknown (some a) (some b) f e = absurd (let z : _≡_ {A = ℕ} 0 1 = cc in omega arith)
+
+first-unknown : (x y : Option ℕ) (f : ℕ → ℕ → Fate) → x ≡ none → unknown (with₂ x y f) ≡ true
+first-unknown none y f e = refl
+first-unknown (some a) y f e = absurd (let z : _≡_ {A = ℕ} 0 1 = cc in omega arith)
+
+second-unknown : (x y : Option ℕ) (f : ℕ → ℕ → Fate) → y ≡ none → unknown (with₂ x y f) ≡ true
+second-unknown none y f e = refl
+second-unknown (some a) none f e = refl
+second-unknown (some a) (some b) f e = absurd (let z : _≡_ {A = ℕ} 0 1 = cc in omega arith)
+
+known-number : {A : Type 0} (v : ℕ) → _≡_ {A = Option ℕ} (some v) none → A
+known-number v e = absurd (let z : _≡_ {A = ℕ} 0 1 = cc in omega arith)
+
+-- an instruction comes to nothing yet exactly where a register that it needs is not known
+module _ (ρ : ℕ → Option ℕ) (μ : ℕ → ℕ) where
+  needed : (i : Instruction) → unknown (evaluate i ρ μ) ≡ true → (k : ℕ) × Needs i k × (ρ k ≡ none)
+  needed (Add d s imm) e = ⊎-elim (λ h. (s, refl, h)) (known-number imm) (one-unknown (ρ s) (some imm) _ e)
+  needed (Sum d s r) e = ⊎-elim (λ h. (s, inl refl, h)) (λ h. (r, inr refl, h)) (one-unknown (ρ s) (ρ r) _ e)
+  needed (Load d s imm) e = ⊎-elim (λ h. (s, refl, h)) (known-number imm) (one-unknown (ρ s) (some imm) _ e)
+  needed (Store d s imm) e = ⊎-elim (λ h. (s, inl refl, h)) (λ h. (d, inr refl, h)) (one-unknown (ρ s) (ρ d) _ e)
+
+  lacking : (i : Instruction) (k : ℕ) → Needs i k → ρ k ≡ none → unknown (evaluate i ρ μ) ≡ true
+  lacking (Add d s imm) k n e = first-unknown (ρ s) (some imm) _ (ap ρ (sym n) ∙ e)
+  lacking (Sum d s r) k n e =
+      ⊎-elim (λ h. first-unknown (ρ s) (ρ r) _ (ap ρ (sym h) ∙ e)) (λ h. second-unknown (ρ s) (ρ r) _ (ap ρ (sym h) ∙ e)) n
+  lacking (Load d s imm) k n e = first-unknown (ρ s) (some imm) _ (ap ρ (sym n) ∙ e)
+  lacking (Store d s imm) k n e =
+      ⊎-elim (λ h. first-unknown (ρ s) (ρ d) _ (ap ρ (sym h) ∙ e)) (λ h. second-unknown (ρ s) (ρ d) _ (ap ρ (sym h) ∙ e)) n
+
+-- 9 holds exactly if, for a register that the instruction needs, the nearest older live entry that writes it exists and waits
+module _ (X : Plain) (memory : List ℕ) (p : ℕ) (inside : p ≤ length (X .entries)) where
+  abbrev own : Instruction
+  own = entryAt (X .entries) p .instruction
+
+  pub nine-waits : unknown (evaluated X memory p) ≡ true → (k : ℕ) × Needs own k × WriterWaits (X .entries) p k
+  nine-waits e =
+      let (k, n, h) = needed _ _ own e in (k, n, unknown-waits (X .entries) p k (getD (X .registers) k 0) inside h)
+
+  pub waits-nine : (k : ℕ) → Needs own k → WriterWaits (X .entries) p k → unknown (evaluated X memory p) ≡ true
+  waits-nine k n w = lacking _ _ own k n (waits-unknown (X .entries) p k (getD (X .registers) k 0) inside w)

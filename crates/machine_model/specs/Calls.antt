@@ -1,5 +1,6 @@
 -- What each call of the machine comes to, over the plain state and the memory. Forwarding, violation, eviction and stall are
--- the buffer's (`seen`, `leaves`, `executes`).
+-- the buffer's (`seen`, `survivors`, `executes`). First the conditions under which a call is turned down, then what it comes
+-- to where none holds.
 -- Assumes nothing.
 use mathlib.Core.Bool.{Bool, true, false, cond, not, _&&_, _||_}
 use mathlib.Core.List.{List, [], _∷_, _++_}
@@ -44,6 +45,14 @@ pub data Call : Type 0 where
   commit : Call
   finish : ℕ → List ℕ → Call
 
+-- the list lent to a call
+abbrev pub lentTo : Call → List ℕ
+lentTo issue = []
+lentTo (execute p) = []
+lentTo (squash p) = []
+lentTo commit = []
+lentTo (finish k list) = list
+
 -- the machine names references by their positions
 abbrev pub Answer : Type 0
 Answer = Contract.Answer ℕ
@@ -68,32 +77,11 @@ programCheck program X =
     && every (λ (p : ℕ). matchesProgram program (X .count) (entryAt (X .entries) p)) (length (X .entries))))
     4
 
--- ---- issue
+-- ---- where each call is turned down, past 2
+
 abbrev pub issueChecks : List ℕ → Plain → List Check
 issueChecks program X =
     programCheck program X ∷ when (eqb (length (X .entries)) (X .buffer .stages)) 5 ∷ when (leb (X .count) (X .next)) 6 ∷ []
-
-abbrev pub issueResult : List ℕ → Plain → List ℕ → Result
-issueResult program X memory =
-    judged (refusal (issueChecks program X))
-    X
-    memory
-    []
-    (record {
-      answer = named (length (X .entries));
-      state = record {
-        buffer = issued (X .buffer);
-        entries = X .entries
-            ++ (record { instruction = instructionAt program (X .next); index = X .next; fate = Waiting } ∷ []);
-        registers = X .registers;
-        count = X .count;
-        next = suc (X .next);
-      };
-      memory = memory;
-      list = [];
-    })
-
--- ---- execute
 
 -- what the entry at position p comes to over the registers and the memory that it sees
 abbrev pub evaluated : Plain → List ℕ → ℕ → Option Fate
@@ -109,6 +97,71 @@ known (some f) = f
 abbrev pub unknown : Option Fate → Bool
 unknown none = true
 unknown (some f) = false
+
+-- how many entries stay
+abbrev pub survivorsOf : Plain → ℕ → Fate → ℕ
+survivorsOf X p f = survivors (X .buffer) p (referenceBy (entryAt (X .entries) p .instruction) f)
+
+abbrev pub executeChecks : List ℕ → Plain → List ℕ → ℕ → List Check
+executeChecks program X memory p =
+    wrongLength (X .buffer .words) memory ∷ programCheck program X ∷ when (leb (length (X .entries)) p) 7
+    ∷ when (not (waits (entryAt (X .entries) p .fate))) 8
+    ∷ when (unknown (evaluated X memory p)) 9
+    ∷ when (eqb (survivorsOf X p (known (evaluated X memory p))) 0) 10
+    ∷ []
+
+abbrev pub squashChecks : List ℕ → Plain → ℕ → List Check
+squashChecks program X p =
+    programCheck program X ∷ when (leb (length (X .entries)) p) 7 ∷ []
+
+abbrev pub commitChecks : List ℕ → Plain → List ℕ → List Check
+commitChecks program X memory =
+    wrongLength (X .buffer .words) memory ∷ programCheck program X ∷ when (eqb (length (X .entries)) 0) 11
+    ∷ when (waits (entryAt (X .entries) 0 .fate)) 12
+    ∷ when (faults (X .buffer .words) (reference (entryAt (X .entries) 0))) 13
+    ∷ []
+
+abbrev pub finishChecks : List ℕ → Plain → List ℕ → List Check
+finishChecks program X memory =
+    wrongLength (X .buffer .words) memory ∷ programCheck program X ∷ []
+
+-- Every call's conditions, smallest number first (proofs/Ordered.antt).
+abbrev pub checksOf : List ℕ → Call → Plain → List ℕ → List Check
+checksOf program issue X memory = issueChecks program X
+checksOf program (execute p) X memory = executeChecks program X memory p
+checksOf program (squash p) X memory = squashChecks program X p
+checksOf program commit X memory = commitChecks program X memory
+checksOf program (finish k list) X memory = finishChecks program X memory
+
+-- A refused call leaves everything; a call that is not refused comes to r.
+abbrev pub unlessRefused : List ℕ → Call → Plain → List ℕ → Result → Result
+unlessRefused program c X memory r = judged (refusal (checksOf program c X memory)) X memory (lentTo c) r
+
+-- ---- issue
+
+-- the entry that it adds
+abbrev pub newEntry : List ℕ → ℕ → Entry
+newEntry program next = record { instruction = instructionAt program next; index = next; fate = Waiting }
+
+abbrev pub issuing : List ℕ → Plain → List ℕ → Result
+issuing program X memory =
+    record {
+      answer = named (length (X .entries));
+      state = record {
+        buffer = issued (X .buffer);
+        entries = X .entries ++ (newEntry program (X .next) ∷ []);
+        registers = X .registers;
+        count = X .count;
+        next = suc (X .next);
+      };
+      memory = memory;
+      list = [];
+    }
+
+abbrev pub issueResult : List ℕ → Plain → List ℕ → Result
+issueResult program X memory = unlessRefused program issue X memory (issuing program X memory)
+
+-- ---- execute
 
 -- the value of an executed entry
 abbrev pub valueBy : Fate → ℕ
@@ -148,35 +201,15 @@ executing X memory p f left =
       list = [];
     }
 
--- how many entries stay
-abbrev pub survivorsOf : Plain → ℕ → Fate → ℕ
-survivorsOf X p f = survivors (X .buffer) p (referenceBy (entryAt (X .entries) p .instruction) f)
-
-abbrev pub executeChecks : List ℕ → Plain → List ℕ → ℕ → List Check
-executeChecks program X memory p =
-    wrongLength (X .buffer .words) memory ∷ programCheck program X ∷ when (leb (length (X .entries)) p) 7
-    ∷ when (not (waits (entryAt (X .entries) p .fate))) 8
-    ∷ when (unknown (evaluated X memory p)) 9
-    ∷ when (eqb (survivorsOf X p (known (evaluated X memory p))) 0) 10
-    ∷ []
-
 abbrev pub executions : List ℕ → Plain → List ℕ → ℕ → Result
 executions program X memory p =
-    judged (refusal (executeChecks program X memory p))
-    X
-    memory
-    []
+    unlessRefused program (execute p) X memory
     (executing X memory p (known (evaluated X memory p)) (survivorsOf X p (known (evaluated X memory p))))
 
 -- ---- squash
-abbrev pub squashChecks : List ℕ → Plain → ℕ → List Check
-squashChecks program X p =
-    programCheck program X ∷ when (leb (length (X .entries)) p) 7 ∷ []
-
-abbrev pub squashes : List ℕ → Plain → List ℕ → ℕ → Result
-squashes program X memory p =
-    judged (refusal (squashChecks program X p)) X memory []
-    (record {
+abbrev pub squashing : Plain → List ℕ → ℕ → Result
+squashing X memory p =
+    record {
       answer = done;
       state = record {
         buffer = squashTo (X .buffer) p;
@@ -187,7 +220,10 @@ squashes program X memory p =
       };
       memory = memory;
       list = [];
-    })
+    }
+
+abbrev pub squashes : List ℕ → Plain → List ℕ → ℕ → Result
+squashes program X memory p = unlessRefused program (squash p) X memory (squashing X memory p)
 
 -- ---- commit
 
@@ -213,22 +249,16 @@ orAddress (some d) a = d
 abbrev pub target : Instruction → ℕ → ℕ
 target i a = orAddress (destination i) a
 
-abbrev pub commitChecks : List ℕ → Plain → List ℕ → List Check
-commitChecks program X memory =
-    wrongLength (X .buffer .words) memory ∷ programCheck program X ∷ when (eqb (length (X .entries)) 0) 11
-    ∷ when (waits (entryAt (X .entries) 0 .fate)) 12
-    ∷ when (faults (X .buffer .words) (reference (entryAt (X .entries) 0))) 13
-    ∷ []
+-- what a commit of this entry answers: index, code, register (for S the address) and value
+abbrev pub committedSays : Entry → Answer
+committedSays e =
+    committed (e .index) (codeOf (e .instruction)) (target (e .instruction) (addressBy (e .fate))) (valueBy (e .fate))
 
-abbrev pub commits : List ℕ → Plain → List ℕ → Result
-commits program X memory =
-    judged (refusal (commitChecks program X memory))
-    X
-    memory
-    []
-    (let e = entryAt (X .entries) 0 in
+abbrev pub committing : Plain → List ℕ → Result
+committing X memory =
+    let e = entryAt (X .entries) 0 in
     record {
-      answer = committed (e .index) (codeOf (e .instruction)) (target (e .instruction) (addressBy (e .fate))) (valueBy (e .fate));
+      answer = committedSays e;
       state = record {
         buffer = retire (X .buffer);
         entries = drop 1 (X .entries);
@@ -238,7 +268,10 @@ commits program X memory =
       };
       memory = written memory (fateOf (at (X .buffer .refs) 0));
       list = [];
-    })
+    }
+
+abbrev pub commits : List ℕ → Plain → List ℕ → Result
+commits program X memory = unlessRefused program commit X memory (committing X memory)
 
 -- ---- finish
 
@@ -289,20 +322,19 @@ finishes program (suc k) places X memory =
     let r = commits program Y memory in
     continueOn (r .answer) (drainStopped Y memory) (finishes program k (places - 4) (r .state) (r .memory)))
 
-abbrev pub finishChecks : List ℕ → Plain → List ℕ → List Check
-finishChecks program X memory =
-    wrongLength (X .buffer .words) memory ∷ programCheck program X ∷ []
-
-abbrev pub finishing : List ℕ → Plain → List ℕ → ℕ → List ℕ → Result
-finishing program X memory k list =
-    judged (refusal (finishChecks program X memory)) X memory list
-    (let w = finishes program k (length list) X memory in
+-- what a finish comes to that ended so: the numbers stand at the list's start, and the rest of the list is left
+abbrev pub ended : List ℕ → Drain → Result
+ended list w =
     record {
       answer = finished (w .commits);
       state = w .state;
       memory = w .memory;
       list = w .numbers ++ drop (length (w .numbers)) list;
-    })
+    }
+
+abbrev pub finishing : List ℕ → Plain → List ℕ → ℕ → List ℕ → Result
+finishing program X memory k list =
+    unlessRefused program (finish k list) X memory (ended list (finishes program k (length list) X memory))
 
 -- ---- every call
 unfoldable pub respond : List ℕ → Call → Plain → List ℕ → Result

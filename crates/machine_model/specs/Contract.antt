@@ -31,8 +31,7 @@ use Rattle.machine_model.specs.declared.CommitAnswer.the-variants as com
 use Rattle.machine_model.specs.declared.FinishAnswer.{FinishAnswer}
 use Rattle.machine_model.specs.declared.FinishAnswer.the-variants as finish-answer
 use Rattle.machine_model.specs.Window.{blankEntry, reference}
-use Rattle.machine_model.specs.Calls.{Plain, Call, issue, execute, squash, commit, finish, Answer, respond, openChecks}
-use Rattle.machine_model.specs.Calls.{opened}
+use Rattle.machine_model.specs.Calls.{Plain, Call, lentTo, Answer, respond, openChecks, opened}
 
 -- 01's numbers and values for each case of the code's answers
 
@@ -96,14 +95,6 @@ agree f g = eqb (kindOf f) (kindOf g) && eqb (placeOf f) (placeOf g)
 pub record Sound (m : Machine) : Type 0 where
   pub rules : Rules (m .table)
   pub agrees : (p : ℕ) → p < m .table .live → agree (reference (entryOf m p)) (fateOf (at (view (m .table) .refs) p)) ≡ true
-
--- the list lent to a call
-abbrev pub lentTo : Call → List ℕ
-lentTo issue = []
-lentTo (execute p) = []
-lentTo (squash p) = []
-lentTo commit = []
-lentTo (finish k list) = list
 
 -- The call c with this program on machine m and memory w said `said` and handed back machine u, memory v and the list as
 -- `kept`. As in the buffer, of an accepted call u may be any machine with this plain state that is sound: free are a row's

@@ -2,7 +2,7 @@
 -- it passed, and past the last all have passed. A table of the parts keeps the rules where the first test passes,
 -- which gives the bounds that the pass over the window requires. What the pass says of the program is what the definition
 -- asks once the program is found well formed and of the right length (fitting-law). Assumes nothing.
-use mathlib.Core.Bool.{true}
+use mathlib.Core.Bool.{Bool, true, false, cond, not}
 use mathlib.Core.List.{[]}
 use mathlib.Core.Path.{_≡_, sym, _∙_}
 use Prim.Native.Nat.{ℕ, _*_}
@@ -19,7 +19,7 @@ use Rattle.table.proofs.Sizes.{sizes}
 use Rattle.machine_model.specs.Program.{programFits}
 use Rattle.machine_model.specs.Window.{blankEntry}
 use Rattle.machine_model.specs.Calls.{matchesProgram}
-use Rattle.machine_model.specs.computed.Parts.{agreeingBy}
+use Rattle.machine_model.specs.computed.Parts.{agreeingBy, validateBy}
 use Rattle.machine_model.proofs.Agreeing.{fitting-law}
 use Rattle.machine_window.proofs.validate.Statement.{statement}
 use Rattle.machine_window.proofs.validate.Tie as tie
@@ -90,6 +90,23 @@ alike-at c =
     ∙ fitting-law (args .program .now) (args .count) (fits-at (c .before)) (counted-at c) (args .oldest) (args .stages)
     (args .window) (args .live)
 
+-- past the fifth test what the pass said of the program decides
+last-at : (c : tie.Else5) (b : Bool) → agreed (c .before) .before .before .pass-over .result .fits ≡ b
+    → let args = entered (ruled (agreed (c .before))) .args in
+    validateBy (args .banks) (args .rows) (args .stages) (args .words) (args .oldest) (args .live) (args .executed)
+    (args .addresses .now) (args .loads .now) (args .stores .now) (args .window) (args .count) (args .program .now) (args .lent)
+    ≡ cond (not b) 4 0
+last-at c b e =
+    let passed = agreed (c .before) in
+    rw (
+      lawful-at (ruled passed),
+      agreeing-at passed,
+      eq-eqb _ _ (c .before .before .before .if3 .left),
+      fits-at (c .before),
+      eq-eqb _ _ (counted-at c),
+      sym (alike-at c) ∙ e,
+    )
+
 keeps-rules-requires : tie.Need-keeps-rules-requires
 keeps-rules-requires c κs = search needs
 
@@ -138,30 +155,10 @@ returns-5 c =
     )
 
 returns-6 : tie.Need-returns-6
-returns-6 c =
-    let counted = c .before .before in
-    let passed = agreed (counted .before) in
-    rw (
-      lawful-at (ruled passed),
-      agreeing-at passed,
-      eq-eqb _ _ (counted .before .before .before .if3 .left),
-      fits-at (counted .before),
-      eq-eqb _ _ (counted-at counted),
-      sym (alike-at counted) ∙ not-true _ (c .if6 .taken),
-    )
+returns-6 c = sym (last-at (c .before .before) false (not-true _ (c .if6 .taken)))
 
 returns-7 : tie.Need-returns-7
-returns-7 c =
-    let counted = c .before .before in
-    let passed = agreed (counted .before) in
-    rw (
-      lawful-at (ruled passed),
-      agreeing-at passed,
-      eq-eqb _ _ (counted .before .before .before .if3 .left),
-      fits-at (counted .before),
-      eq-eqb _ _ (counted-at counted),
-      sym (alike-at counted) ∙ not-false _ (c .if6 .left),
-    )
+returns-7 c = sym (last-at (c .before .before) true (not-false _ (c .if6 .left)))
 
 pub validate-spec : {M : Type 1} → statement M
 validate-spec =

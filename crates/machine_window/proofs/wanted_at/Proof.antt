@@ -16,7 +16,7 @@ use Rattle.machine_model.specs.declared.Operand.{Operand}
 use Rattle.machine_model.specs.Program.{sOf}
 use Rattle.machine_model.specs.Window.{blankEntry, valueOf, registerSeen, with₂}
 use Rattle.machine_model.specs.computed.Parts.{writer, asNumber, actionOf, entriesOf, second}
-use Rattle.machine_model.proofs.Operands.{held-found}
+use Rattle.machine_model.proofs.Operands.{register-found}
 use Rattle.machine_window.proofs.wanted_at.Statement.{statement}
 use Rattle.machine_window.proofs.wanted_at.Tie as tie
 
@@ -52,7 +52,7 @@ module _ (c : tie.After-destinations) (k w : ℕ) (small : k < 8)
       → holds (c .before) k ≡ valueOf (getD (c .before .args .t1) s blankEntry .fate))
   searched =
       let args = c .before .args in
-      held-found (args .t1) (args .oldest) (args .stages) (c .destinations .result) k small (some (getD (args .t2) k 0))
+      register-found (args .t1) (args .oldest) (args .stages) (c .destinations .result) k small (some (getD (args .t2) k 0))
       (args .p) w (c .destinations .ensures) found
 
 first-told : (c : tie.Joined1)

@@ -1,0 +1,397 @@
+-- Examples of the machine as a table: the sizes, program and memory lent to an opening, what it answers, and the steps after
+-- it, each beside what is seen of it. A row whose opening is refused has no steps. With these rows each refusal of each call
+-- occurs (2, of a broken machine, in specs/Broken.antt), two conditions at once wherever two can hold, and each limit at its
+-- edge and one past it. proofs/Shown.antt shows that every row comes out.
+-- Assumes nothing.
+use mathlib.Core.Path.{_≡_}
+use mathlib.Core.Bool.{cond}
+use mathlib.Core.List.{List, [], _∷_, _++_}
+use mathlib.Core.Option.{none, some}
+use Prim.Native.Nat.{ℕ}
+use lib.Dec.{eqb}
+use lib.ListN.{replicate, set}
+use Rattle.table.specs.Reference.{ref, numberOf, at}
+use Rattle.engine.specs.Conditions.{refusal}
+use Rattle.engine.specs.Contract.{refused, done, named, executed, committed, finished}
+use Rattle.machine_model.specs.declared.Instruction.{Instruction}
+use Rattle.machine_model.specs.declared.Instruction.the-variants.{Add, Sum, Load, Store}
+use Rattle.machine_model.specs.declared.Fate.{Fate}
+use Rattle.machine_model.specs.declared.Fate.the-variants.{Waiting, Executed}
+use Rattle.machine_model.specs.declared.Entry.{Entry}
+use Rattle.machine_model.specs.Window.{reference}
+use Rattle.machine_model.specs.Calls.{Plain, Call, issue, execute, squash, commit, finish, lentTo, Answer, respond}
+use Rattle.machine_model.specs.Calls.{openChecks, opened}
+
+-- A call and its answer, a list lent to it coming back as it was; a finish with its limit and list, its answer, and the list
+-- as it left it; the committed registers and the memory. And what a user can get wrong: another program and memory are lent
+-- from here on; the entry at a position is another one, and its reference with it (damage that 2 does not see).
+pub data Step : Type 0 where
+  asks : Call → Answer → Step
+  drains : ℕ → List ℕ → Answer → List ℕ → Step
+  looks : List ℕ → List ℕ → Step
+  lend : List ℕ → List ℕ → Step
+  spoil : ℕ → Entry → Step
+
+pub record Example : Type 0 where
+  pub banks : ℕ
+  pub rows : ℕ
+  pub stages : ℕ
+  pub words : ℕ
+  pub program : List ℕ
+  pub memory : List ℕ
+  pub answer : Answer
+  pub steps : List Step
+
+-- what is seen of a step: of a call its answer and the list as it left it, of a look registers and memory
+pub data Sight : Type 0 where
+  says : Answer → List ℕ → Sight
+  shows : List ℕ → List ℕ → Sight
+
+-- what the steps say is seen
+unfoldable pub told : List Step → List Sight
+told [] = []
+told (asks c a ∷ steps) = says a (lentTo c) ∷ told steps
+told (drains k list a left ∷ steps) = says a left ∷ told steps
+told (looks registers memory ∷ steps) = shows registers memory ∷ told steps
+told (lend program memory ∷ steps) = told steps
+told (spoil p e ∷ steps) = told steps
+
+abbrev pub spoiled : Plain → ℕ → Entry → Plain
+spoiled X p e =
+    let Y = X .buffer in
+    record {
+      buffer = record {
+        banks = Y .banks;
+        rows = Y .rows;
+        stages = Y .stages;
+        words = Y .words;
+        oldest = Y .oldest;
+        next = Y .next;
+        refs = set (Y .refs) p (ref (numberOf (at (Y .refs) p)) (reference e));
+      };
+      entries = set (X .entries) p e;
+      registers = X .registers;
+      count = X .count;
+      next = X .next;
+    }
+
+-- what is seen of them, each on the state and the memory that the one before left
+unfoldable pub played : List ℕ → Plain → List ℕ → List Step → List Sight
+played program X memory [] = []
+played program X memory (asks c a ∷ steps) =
+    let r = respond program c X memory in
+    says (r .answer) (r .list) ∷ played program (r .state) (r .memory) steps
+played program X memory (drains k list a left ∷ steps) =
+    let r = respond program (finish k list) X memory in
+    says (r .answer) (r .list) ∷ played program (r .state) (r .memory) steps
+played program X memory (looks registers words ∷ steps) = shows (X .registers) memory ∷ played program X memory steps
+played program X memory (lend other words ∷ steps) = played other X words steps
+played program X memory (spoil p e ∷ steps) = played program (spoiled X p e) memory steps
+
+-- what a row says is seen, and what is, the opening first
+abbrev pub toldBy : Example → List Sight
+toldBy e = says (e .answer) [] ∷ told (e .steps)
+
+abbrev pub seenOf : Example → List Sight
+seenOf e =
+    let k = refusal (openChecks (e .banks) (e .rows) (e .stages) (e .words) (e .program) (e .memory)) in
+    cond (eqb k 0)
+    (says done [] ∷ played (e .program) (opened (e .banks) (e .rows) (e .stages) (e .words) (e .program)) (e .memory) (e .steps))
+    (says (refused k) [] ∷ [])
+
+-- each row of a table comes out
+abbrev pub AllShown : List Example → Type 0
+AllShown [] = Unit {0}
+AllShown (e ∷ rows) = (seenOf e ≡ toldBy e) × AllShown rows
+
+-- ---- how the rows are written
+
+-- the four numbers of an instruction
+abbrev pub A : ℕ → ℕ → ℕ → List ℕ
+A d s imm = 1 ∷ d ∷ s ∷ imm ∷ []
+
+abbrev pub P : ℕ → ℕ → ℕ → List ℕ
+P d s imm = 2 ∷ d ∷ s ∷ imm ∷ []
+
+abbrev pub L : ℕ → ℕ → ℕ → List ℕ
+L d s imm = 3 ∷ d ∷ s ∷ imm ∷ []
+
+abbrev pub S : ℕ → ℕ → ℕ → List ℕ
+S d s imm = 4 ∷ d ∷ s ∷ imm ∷ []
+
+abbrev pub row : ℕ → ℕ → ℕ → ℕ → List ℕ → List ℕ → Answer → List Step → Example
+row B R n W program memory answer steps =
+    record {
+      banks = B;
+      rows = R;
+      stages = n;
+      words = W;
+      program = program;
+      memory = memory;
+      answer = answer;
+      steps = steps;
+    }
+
+-- an opening alone; one with these sizes and no program; one of the smallest sizes with this program
+abbrev pub opens : ℕ → ℕ → ℕ → ℕ → List ℕ → List ℕ → Answer → Example
+opens B R n W program memory answer = row B R n W program memory answer []
+
+abbrev pub sized : ℕ → ℕ → ℕ → ℕ → Answer → Example
+sized B R n W answer = opens B R n W [] (replicate W 0) answer
+
+abbrev pub reads : List ℕ → Answer → Example
+reads program answer = opens 1 1 1 1 program (0 ∷ []) answer
+
+-- unless said, B is 1, R and n are 4, W is 8, and these are the words
+abbrev pub eight : List ℕ
+eight = 10 ∷ 11 ∷ 12 ∷ 13 ∷ 14 ∷ 15 ∷ 16 ∷ 17 ∷ []
+
+abbrev pub usual : List ℕ → List Step → Example
+usual program steps = row 1 4 4 8 program eight done steps
+
+-- R 1
+abbrev pub tight : List ℕ → List Step → Example
+tight program steps = row 1 1 4 8 program eight done steps
+
+-- 01's script
+abbrev pub script : List ℕ
+script = A 1 0 5 ++ S 1 0 3 ++ L 2 0 3
+
+-- issues of positions 0 to 1, 2 and 3
+abbrev pub two : List Step → List Step
+two steps = asks issue (named 0) ∷ asks issue (named 1) ∷ steps
+
+abbrev pub three : List Step → List Step
+three steps = two (asks issue (named 2) ∷ steps)
+
+abbrev pub four : List Step → List Step
+four steps = three (asks issue (named 3) ∷ steps)
+
+-- the calls lent memory are refused with k, the others with j
+abbrev pub refuse : ℕ → ℕ → List Step → List Step
+refuse k j steps =
+    asks issue (refused j) ∷ asks (execute 0) (refused k) ∷ asks (squash 0) (refused j) ∷ asks commit (refused k)
+    ∷ asks (finish 1 (replicate 4 7)) (refused k)
+    ∷ steps
+
+-- ---- openings
+unfoldable pub openings : List Example
+openings =
+    -- sizes at their edges and one past them
+    sized 1 1 1 1 done ∷ sized 2 1 1 1 done ∷ sized 4 1 1 1 done ∷ sized 8 8 16 4096 done
+    ∷ sized 0 1 1 1 (refused 1) ∷ sized 3 1 1 1 (refused 1) ∷ sized 5 1 1 1 (refused 1) ∷ sized 6 1 1 1 (refused 1)
+    ∷ sized 7 1 1 1 (refused 1) ∷ sized 9 1 1 1 (refused 1) ∷ sized 16 1 1 1 (refused 1)
+    ∷ sized 1 0 1 1 (refused 1) ∷ sized 1 9 1 1 (refused 1)
+    ∷ sized 1 1 0 1 (refused 1) ∷ sized 1 1 17 1 (refused 1)
+    ∷ sized 1 1 1 0 (refused 1) ∷ sized 1 1 1 4097 (refused 1)
+    -- 1,024 numbers pass; 1,025, 1,026 and 1,028 are refusal 1, also where they are no multiple of 4
+    ∷ reads (replicate 1024 1) done
+    ∷ reads (replicate 1025 1) (refused 1) ∷ reads (replicate 1026 1) (refused 1) ∷ reads (replicate 1028 1) (refused 1)
+    -- memory length is not W
+    ∷ opens 1 4 4 8 script (replicate 7 0) (refused 3) ∷ opens 1 4 4 8 script (replicate 9 0) (refused 3)
+    -- codes 1 to 4; registers to 7, P's imm too; any other imm
+    ∷ reads (A 7 7 4294967295) done ∷ reads (P 7 7 7) done ∷ reads (L 7 7 4294967295) done ∷ reads (S 7 7 4294967295) done
+    ∷ reads (0 ∷ 0 ∷ 0 ∷ 0 ∷ []) (refused 4) ∷ reads (5 ∷ 0 ∷ 0 ∷ 0 ∷ []) (refused 4)
+    ∷ reads (A 8 0 0) (refused 4) ∷ reads (P 8 0 0) (refused 4) ∷ reads (L 8 0 0) (refused 4) ∷ reads (S 8 0 0) (refused 4)
+    ∷ reads (A 0 8 0) (refused 4) ∷ reads (P 0 8 0) (refused 4) ∷ reads (L 0 8 0) (refused 4) ∷ reads (S 0 8 0) (refused 4)
+    ∷ reads (P 0 0 8) (refused 4)
+    -- the last instruction counts too; a length that is no multiple of 4
+    ∷ reads (script ++ A 0 0 8 ++ P 0 0 8) (refused 4)
+    ∷ reads (1 ∷ []) (refused 4) ∷ reads (script ++ (1 ∷ 1 ∷ 1 ∷ [])) (refused 4)
+    -- 1 with 3, 1 with 4, 3 with 4
+    ∷ opens 1 1 17 1 script [] (refused 1)
+    ∷ opens 1 1 17 1 (A 8 0 0) (0 ∷ []) (refused 1)
+    ∷ opens 1 1 1 1 (replicate 1028 0) (0 ∷ []) (refused 1)
+    ∷ opens 1 1 1 1 (A 8 0 0) [] (refused 3)
+    ∷ []
+
+-- ---- refusals of the later calls
+unfoldable pub refusals : List Example
+refusals =
+    -- 5 with instructions left; 5 with 6; 6 with stages left, and of an empty program
+    row 1 1 2 8 script eight done (two (asks issue (refused 5) ∷ []))
+    ∷ row 1 1 1 8 (A 1 0 5) eight done (asks issue (named 0) ∷ asks issue (refused 5) ∷ [])
+    ∷ usual (A 1 0 5) (asks issue (named 0) ∷ asks issue (refused 6) ∷ [])
+    ∷ usual [] (asks issue (refused 6) ∷ [])
+    -- 3: a memory one word short or long. Issue and squash are lent none.
+    ∷ usual script
+    (asks issue (named 0) ∷ lend script (replicate 7 0)
+    ∷ asks (execute 0) (refused 3) ∷ asks commit (refused 3) ∷ asks (finish 1 (replicate 4 7)) (refused 3)
+    ∷ lend script (replicate 9 0)
+    ∷ asks (execute 0) (refused 3) ∷ asks commit (refused 3) ∷ asks (finish 1 (replicate 4 7)) (refused 3)
+    ∷ asks (squash 0) done ∷ asks issue (named 0) ∷ [])
+    -- 4: the program is one instruction short or long, no multiple of 4, or has a code, a register or P's imm out of range
+    ∷ usual script (asks issue (named 0) ∷ lend (A 1 0 5 ++ S 1 0 3) eight ∷ refuse 4 4 [])
+    ∷ usual script (asks issue (named 0) ∷ lend (script ++ A 0 0 0) eight ∷ refuse 4 4 [])
+    ∷ usual script (asks issue (named 0) ∷ lend (script ++ (1 ∷ [])) eight ∷ refuse 4 4 [])
+    ∷ usual script (asks issue (named 0) ∷ lend (A 1 0 5 ++ S 1 0 3 ++ (5 ∷ 2 ∷ 0 ∷ 3 ∷ [])) eight ∷ refuse 4 4 [])
+    ∷ usual script (asks issue (named 0) ∷ lend (A 1 0 5 ++ S 1 0 3 ++ L 8 0 3) eight ∷ refuse 4 4 [])
+    ∷ usual script (asks issue (named 0) ∷ lend (A 1 0 5 ++ S 1 0 3 ++ P 2 0 8) eight ∷ refuse 4 4 [])
+    -- 4: it is another where an entry is live. Where none is it may differ: the entry issued is the new one.
+    ∷ usual script (asks issue (named 0) ∷ lend (A 1 0 6 ++ S 1 0 3 ++ L 2 0 3) eight ∷ refuse 4 4 [])
+    ∷ usual script
+    (asks issue (named 0) ∷ lend (A 1 0 5 ++ L 4 0 6 ++ L 2 0 3) eight ∷ asks issue (named 1)
+    ∷ asks (execute 1) (executed 16 none) ∷ [])
+    -- 3 with 4; 3 and 4 with 7, 10, 11 and 12 (nothing is live); 4 with 5, 6, 8 and 13
+    ∷ usual script (asks issue (named 0) ∷ lend (A 1 0 6) (replicate 7 0) ∷ refuse 3 4 [])
+    ∷ usual script
+    (lend (A 1 0 6) (replicate 7 0)
+    ∷ refuse 3 4 (lend script [] ∷ asks (execute 0) (refused 3) ∷ asks commit (refused 3) ∷ []))
+    ∷ usual script (lend (A 1 0 6) eight ∷ refuse 4 4 [])
+    ∷ row 1 1 1 8 (L 1 0 8) eight done
+    (asks issue (named 0) ∷ asks (execute 0) (executed 0 none) ∷ lend (L 1 0 9) eight ∷ refuse 4 4 [])
+    -- 7: no such position; with 10, nothing is live; with 9, a live entry that waits writes register 0
+    ∷ usual script
+    (asks (execute 0) (refused 7) ∷ asks (squash 0) (refused 7) ∷ asks issue (named 0)
+    ∷ asks (execute 1) (refused 7) ∷ asks (squash 1) (refused 7)
+    ∷ asks (execute 4294967295) (refused 7) ∷ asks (squash 4294967295) (refused 7) ∷ [])
+    ∷ usual (A 0 0 5) (asks issue (named 0) ∷ asks (execute 1) (refused 7) ∷ [])
+    -- 8; with 9 and with 10, of entries that only a damaged machine has
+    ∷ usual script (asks issue (named 0) ∷ asks (execute 0) (executed 0 none) ∷ asks (execute 0) (refused 8) ∷ [])
+    ∷ usual (A 1 0 5 ++ A 2 1 0)
+    (two (spoil 1 (record { instruction = Add 2 1 0; index = 1; fate = Executed 0 0 }) ∷ asks (execute 1) (refused 8) ∷ []))
+    ∷ tight (L 1 0 5 ++ L 2 0 6)
+    (two (asks (execute 0) (executed 15 none)
+    ∷ spoil 1 (record { instruction = Load 2 0 6; index = 1; fate = Executed 0 5 }) ∷ asks (execute 1) (refused 8) ∷ []))
+    -- 9: the writer of s, of P's imm and of S's d waits
+    ∷ usual (A 1 0 5 ++ A 2 1 0) (two (asks (execute 1) (refused 9) ∷ asks (execute 0) (executed 0 none)
+    ∷ asks (execute 1) (executed 0 none) ∷ []))
+    ∷ usual (A 1 0 5 ++ P 2 1 0) (two (asks (execute 1) (refused 9) ∷ []))
+    ∷ usual (A 1 0 5 ++ P 2 0 1) (two (asks (execute 1) (refused 9) ∷ []))
+    ∷ usual (A 1 0 5 ++ L 2 1 0) (two (asks (execute 1) (refused 9) ∷ []))
+    ∷ usual (A 1 0 5 ++ S 0 1 0) (two (asks (execute 1) (refused 9) ∷ []))
+    ∷ usual (A 1 0 5 ++ S 1 0 0) (two (asks (execute 1) (refused 9) ∷ []))
+    -- imm is a register of P only, d of S only; S is nobody's writer, and so is a younger entry
+    ∷ usual (A 1 0 5 ++ A 2 0 1) (two (asks (execute 1) (executed 0 none) ∷ []))
+    ∷ usual (A 1 0 5 ++ L 1 0 1) (two (asks (execute 1) (executed 11 none) ∷ []))
+    ∷ usual (A 1 0 5 ++ S 2 0 1) (two (asks (execute 1) (executed 0 none) ∷ []))
+    ∷ usual (S 1 0 3 ++ A 2 1 0) (two (asks (execute 1) (executed 0 none) ∷ []))
+    ∷ usual (A 2 1 0 ++ A 1 0 5) (two (asks (execute 0) (executed 0 none) ∷ []))
+    -- the nearest writer decides: it waits though an older one has executed, and the other way round
+    ∷ usual (A 1 0 5 ++ A 1 0 6 ++ A 2 1 0)
+    (three (asks (execute 0) (executed 0 none) ∷ asks (execute 2) (refused 9) ∷ asks (execute 1) (executed 0 none)
+    ∷ asks (execute 2) (executed 0 none) ∷ asks commit (committed 0 1 1 5) ∷ asks commit (committed 1 1 1 6)
+    ∷ asks commit (committed 2 1 2 6) ∷ []))
+    ∷ usual (A 1 0 5 ++ A 1 0 6 ++ A 2 1 0)
+    (three (asks (execute 1) (executed 0 none) ∷ asks (execute 2) (executed 0 none) ∷ []))
+    -- 10, and none where the address has a row or the other bank a free one
+    ∷ tight (L 1 0 5 ++ L 2 0 6) (two (asks (execute 0) (executed 15 none) ∷ asks (execute 1) (refused 10) ∷ []))
+    ∷ tight (L 1 0 5 ++ L 2 0 5) (two (asks (execute 0) (executed 15 none) ∷ asks (execute 1) (executed 15 none) ∷ []))
+    ∷ row 2 1 4 8 (L 1 0 5 ++ L 2 0 6) eight done
+    (two (asks (execute 0) (executed 15 none) ∷ asks (execute 1) (executed 16 none) ∷ []))
+    -- 11 (with 12: where nothing is live nothing has executed); 12
+    ∷ usual script (asks commit (refused 11) ∷ asks issue (named 0) ∷ asks commit (refused 12) ∷ [])
+    -- 13 at W, of a load (which takes 0) and of a store; the last word commits
+    ∷ usual (L 1 0 8) (asks issue (named 0) ∷ asks (execute 0) (executed 0 none) ∷ asks commit (refused 13) ∷ [])
+    ∷ usual (S 1 0 8) (asks issue (named 0) ∷ asks (execute 0) (executed 0 none) ∷ asks commit (refused 13) ∷ [])
+    ∷ usual (L 1 0 7) (asks issue (named 0) ∷ asks (execute 0) (executed 17 none) ∷ asks commit (committed 0 3 1 17) ∷ [])
+    ∷ usual (S 1 0 7) (asks issue (named 0) ∷ asks (execute 0) (executed 0 none) ∷ asks commit (committed 0 4 7 0) ∷ [])
+    -- 3 with 13
+    ∷ usual (L 1 0 8)
+    (asks issue (named 0) ∷ asks (execute 0) (executed 0 none) ∷ lend (L 1 0 8) (replicate 9 0) ∷ asks commit (refused 3) ∷ [])
+    ∷ []
+
+-- ---- 4: a live entry unlike the program's instruction at its index
+
+-- one instruction of each code, and the entry at p spoiled
+abbrev pub unlike : ℕ → Instruction → ℕ → Example
+unlike p i index =
+    usual (A 1 2 3 ++ P 1 2 3 ++ L 1 2 3 ++ S 1 2 3)
+    (four (spoil p (record { instruction = i; index = index; fate = Waiting }) ∷ refuse 4 4 []))
+
+unfoldable pub unlikes : List Example
+unlikes =
+    -- another imm of each code, another d, s and code
+    unlike 0 (Add 1 2 4) 0 ∷ unlike 1 (Sum 1 2 4) 1 ∷ unlike 2 (Load 1 2 4) 2 ∷ unlike 3 (Store 1 2 4) 3
+    ∷ unlike 0 (Add 2 2 3) 0 ∷ unlike 1 (Sum 2 2 3) 1 ∷ unlike 2 (Load 2 2 3) 2 ∷ unlike 3 (Store 2 2 3) 3
+    ∷ unlike 0 (Add 1 1 3) 0 ∷ unlike 1 (Sum 1 1 3) 1 ∷ unlike 2 (Load 1 1 3) 2 ∷ unlike 3 (Store 1 1 3) 3
+    ∷ unlike 0 (Sum 1 2 3) 0 ∷ unlike 1 (Load 1 2 3) 1 ∷ unlike 2 (Store 1 2 3) 2 ∷ unlike 3 (Add 1 2 3) 3
+    -- the index of another instruction, the opened count, and one past it
+    ∷ unlike 0 (Add 1 2 3) 1 ∷ unlike 3 (Store 1 2 3) 4 ∷ unlike 3 (Store 0 0 0) 4 ∷ unlike 3 (Store 0 0 0) 5
+    -- an equal instruction at another index is like it
+    ∷ usual (A 1 2 3 ++ A 1 2 3)
+    (asks issue (named 0) ∷ spoil 0 (record { instruction = Add 1 2 3; index = 1; fate = Waiting }) ∷ asks issue (named 1) ∷ [])
+    ∷ []
+
+-- ---- what accepted calls come to
+unfoldable pub runs : List Example
+runs =
+    -- a commit's four numbers of each code, and what it leaves
+    usual (A 1 0 5 ++ P 2 1 1 ++ S 2 0 3 ++ L 4 1 0)
+    (four (asks (execute 0) (executed 0 none) ∷ asks (execute 1) (executed 0 none) ∷ asks (execute 2) (executed 0 none)
+    ∷ asks (execute 3) (executed 15 none)
+    ∷ looks (replicate 8 0) eight
+    ∷ asks commit (committed 0 1 1 5) ∷ asks commit (committed 1 2 2 10)
+    ∷ looks (0 ∷ 5 ∷ 10 ∷ 0 ∷ 0 ∷ 0 ∷ 0 ∷ 0 ∷ []) eight
+    ∷ asks commit (committed 2 4 3 10) ∷ asks commit (committed 3 3 4 15)
+    ∷ looks (0 ∷ 5 ∷ 10 ∷ 0 ∷ 15 ∷ 0 ∷ 0 ∷ 0 ∷ []) (10 ∷ 11 ∷ 12 ∷ 10 ∷ 14 ∷ 15 ∷ 16 ∷ 17 ∷ []) ∷ []))
+    -- register 0 is an ordinary one; a register is its own operand
+    ∷ usual (A 0 0 5 ++ P 0 0 0) (drains 2 (replicate 8 7) (finished 2) (0 ∷ 1 ∷ 0 ∷ 5 ∷ 1 ∷ 2 ∷ 0 ∷ 10 ∷ []) ∷ [])
+    -- sums are modulo 2 ^ 32, of values and of addresses
+    ∷ usual (A 1 0 4294967295 ++ A 2 1 1 ++ A 2 1 2 ++ P 3 1 1 ++ L 4 1 4 ++ S 3 1 5)
+    (drains 6 (replicate 24 7) (finished 6)
+    (0 ∷ 1 ∷ 1 ∷ 4294967295 ∷ 1 ∷ 1 ∷ 2 ∷ 0 ∷ 2 ∷ 1 ∷ 2 ∷ 1 ∷ 3 ∷ 2 ∷ 3 ∷ 4294967294
+    ∷ 4 ∷ 3 ∷ 4 ∷ 13 ∷ 5 ∷ 4 ∷ 4 ∷ 4294967294 ∷ [])
+    ∷ looks (0 ∷ 4294967295 ∷ 1 ∷ 4294967294 ∷ 13 ∷ 0 ∷ 0 ∷ 0 ∷ [])
+    (10 ∷ 11 ∷ 12 ∷ 13 ∷ 4294967294 ∷ 15 ∷ 16 ∷ 17 ∷ []) ∷ [])
+    -- a load takes the word of the nearest older store, which is not in memory yet
+    ∷ usual (A 1 0 5 ++ S 1 0 3 ++ L 2 0 3)
+    (three (asks (execute 0) (executed 0 none) ∷ asks (execute 1) (executed 0 none) ∷ asks (execute 2) (executed 5 none)
+    ∷ looks (replicate 8 0) eight ∷ []))
+    -- The load went before the store: squashed from position 2. The next issue is that instruction, and then the one after it.
+    ∷ usual (A 1 0 5 ++ S 1 0 3 ++ L 2 0 3 ++ A 3 2 1)
+    (four (asks (execute 2) (executed 13 none) ∷ asks (execute 3) (executed 0 none) ∷ asks (execute 0) (executed 0 none)
+    ∷ asks (execute 1) (executed 0 (some 2)) ∷ asks (execute 2) (refused 7) ∷ asks issue (named 2) ∷ asks issue (named 3)
+    ∷ asks issue (refused 5)
+    ∷ asks (execute 3) (refused 9) ∷ asks (execute 2) (executed 5 none) ∷ asks (execute 3) (executed 0 none)
+    ∷ asks commit (committed 0 1 1 5) ∷ asks commit (committed 1 4 3 5) ∷ asks commit (committed 2 3 2 5)
+    ∷ asks commit (committed 3 1 3 6) ∷ asks issue (refused 6) ∷ asks commit (refused 11) ∷ []))
+    -- R 1: the row whose marks are all younger is evicted, and squashed from position 1
+    ∷ tight (L 1 0 5 ++ L 2 0 6 ++ L 3 0 6)
+    (three (asks (execute 2) (executed 16 none) ∷ asks (execute 1) (executed 16 none) ∷ asks (execute 0) (executed 15 (some 1))
+    ∷ asks commit (committed 0 3 1 15) ∷ asks issue (named 0) ∷ asks (execute 0) (executed 16 none)
+    ∷ asks commit (committed 1 3 2 16) ∷ []))
+    -- a squash, and the issues after it; the first entry stays as it was
+    ∷ usual (A 1 0 5 ++ A 2 0 6 ++ A 3 0 7 ++ A 4 0 8)
+    (four (asks (execute 0) (executed 0 none) ∷ asks (execute 1) (executed 0 none) ∷ asks (squash 1) done
+    ∷ asks (execute 0) (refused 8) ∷ asks (execute 1) (refused 7) ∷ asks issue (named 1) ∷ asks (execute 1) (executed 0 none)
+    ∷ asks commit (committed 0 1 1 5) ∷ asks commit (committed 1 1 2 6) ∷ asks issue (named 0) ∷ asks (squash 0) done
+    ∷ asks issue (named 0) ∷ asks (execute 0) (executed 0 none) ∷ asks commit (committed 2 1 3 7) ∷ []))
+    -- finish stops at its limit; with fewer than four places left; at the program's end. The rest of the list is left.
+    ∷ usual script
+    (drains 0 (replicate 4 7) (finished 0) (replicate 4 7) ∷ asks commit (refused 11)
+    ∷ drains 2 (replicate 14 7) (finished 2) (0 ∷ 1 ∷ 1 ∷ 5 ∷ 1 ∷ 4 ∷ 3 ∷ 5 ∷ 7 ∷ 7 ∷ 7 ∷ 7 ∷ 7 ∷ 7 ∷ [])
+    ∷ asks commit (refused 11) ∷ asks issue (named 0)
+    ∷ looks (0 ∷ 5 ∷ 0 ∷ 0 ∷ 0 ∷ 0 ∷ 0 ∷ 0 ∷ []) (10 ∷ 11 ∷ 12 ∷ 5 ∷ 14 ∷ 15 ∷ 16 ∷ 17 ∷ []) ∷ [])
+    ∷ usual script
+    (drains 9 (7 ∷ 7 ∷ 7 ∷ []) (finished 0) (7 ∷ 7 ∷ 7 ∷ []) ∷ asks commit (refused 11)
+    ∷ drains 9 (replicate 4 7) (finished 1) (0 ∷ 1 ∷ 1 ∷ 5 ∷ []) ∷ asks commit (refused 11)
+    ∷ drains 9 (replicate 7 7) (finished 1) (1 ∷ 4 ∷ 3 ∷ 5 ∷ 7 ∷ 7 ∷ 7 ∷ []) ∷ asks commit (refused 11) ∷ [])
+    ∷ usual script
+    (drains 9 (replicate 14 7) (finished 3) (0 ∷ 1 ∷ 1 ∷ 5 ∷ 1 ∷ 4 ∷ 3 ∷ 5 ∷ 2 ∷ 3 ∷ 2 ∷ 5 ∷ 7 ∷ 7 ∷ [])
+    ∷ drains 1 (replicate 5 7) (finished 0) (replicate 5 7) ∷ asks issue (refused 6) ∷ asks commit (refused 11) ∷ [])
+    ∷ usual [] (drains 1 (replicate 5 7) (finished 0) (replicate 5 7) ∷ [])
+    -- the first three stops do nothing for the oldest, which waits on
+    ∷ usual script
+    (asks issue (named 0) ∷ drains 0 (replicate 4 7) (finished 0) (replicate 4 7)
+    ∷ drains 1 (7 ∷ 7 ∷ 7 ∷ []) (finished 0) (7 ∷ 7 ∷ 7 ∷ []) ∷ asks commit (refused 12) ∷ [])
+    -- a fault, of a store and of a load: the oldest stays, executed
+    ∷ usual (A 1 0 5 ++ S 1 0 8 ++ A 2 0 1)
+    (drains 9 (replicate 9 7) (finished 1) (0 ∷ 1 ∷ 1 ∷ 5 ∷ 7 ∷ 7 ∷ 7 ∷ 7 ∷ 7 ∷ [])
+    ∷ asks (execute 0) (refused 8) ∷ asks commit (refused 13) ∷ looks (0 ∷ 5 ∷ 0 ∷ 0 ∷ 0 ∷ 0 ∷ 0 ∷ 0 ∷ []) eight
+    ∷ drains 9 (replicate 5 7) (finished 0) (replicate 5 7) ∷ asks issue (named 1) ∷ [])
+    ∷ usual (L 1 0 8)
+    (drains 9 (replicate 5 7) (finished 0) (replicate 5 7) ∷ asks (execute 0) (refused 8) ∷ asks commit (refused 13) ∷ [])
+    -- Younger entries are live: one that went too early is squashed and issued again. Those that stay keep what they are.
+    ∷ usual script
+    (three (asks (execute 2) (executed 13 none)
+    ∷ drains 9 (replicate 14 7) (finished 3) (0 ∷ 1 ∷ 1 ∷ 5 ∷ 1 ∷ 4 ∷ 3 ∷ 5 ∷ 2 ∷ 3 ∷ 2 ∷ 5 ∷ 7 ∷ 7 ∷ []) ∷ []))
+    ∷ usual (A 1 0 5 ++ A 2 0 6 ++ A 3 0 7)
+    (three (asks (execute 1) (executed 0 none) ∷ drains 1 (replicate 6 7) (finished 1) (0 ∷ 1 ∷ 1 ∷ 5 ∷ 7 ∷ 7 ∷ [])
+    ∷ asks (execute 0) (refused 8) ∷ asks (execute 2) (refused 7) ∷ asks commit (committed 1 1 2 6) ∷ asks commit (refused 12)
+    ∷ []))
+    ∷ []
+
+-- the whole table
+abbrev pub examples : List Example
+examples = openings ++ refusals ++ unlikes ++ runs
