@@ -45,7 +45,7 @@ use Rattle.machine_model.specs.Program.{decoded, instructionAt, codeOf, 
 use Rattle.machine_model.specs.Program.{programFits}
 use Rattle.machine_model.specs.Window.{blankEntry, reference}
 use Rattle.machine_model.specs.Calls.{matchesProgram}
-use Rattle.machine_model.proofs.Sounding.{agreeing, validateOf, every-same}
+use Rattle.machine_model.proofs.Sounding.{agreeing, fitting, validateOf, every-same}
 use Rattle.machine_model.specs.computed.Parts.{union, marksAt, agreesBy, agreeingBy, likeBy, fittingBy, validateBy}
 
 module _ (test : ℕ → Bool) (f : ℕ → ℕ) where
@@ -300,10 +300,6 @@ validate-law m program lent =
     (λ (b : Bool).
     refusal
     (when (not b) 2 ∷ when (not (eqb lent (t .words))) 3
-    ∷ when
-    (not
-    (programFits program && eqb (length program) (4 * m .count)
-    && every (λ (p : ℕ). matchesProgram program (m .count) (entryOf m p)) (t .live)))
-    4
+    ∷ when (not (fitting program m)) 4
     ∷ []))
     (where-true (lawful t) _ (agreeing m (t .live)) (λ h. agreeing-law m (lawful-rules t h) (t .live)))

@@ -21,11 +21,11 @@ use Rattle.engine.proofs.Meeting.{turned, Accepts}
 use Rattle.machine_model.specs.declared.Machine.{Machine}
 use Rattle.machine_model.specs.Program.{programFits}
 use Rattle.machine_model.specs.Window.{entryAt}
-use Rattle.machine_model.specs.Calls.{Plain, Call, issue, execute, squash, commit, finish, lentTo, Answer, Result}
-use Rattle.machine_model.specs.Calls.{matchesProgram, programCheck, respond}
+use Rattle.machine_model.specs.Calls.{Call, issue, execute, squash, commit, finish, lentTo, Answer, Result}
+use Rattle.machine_model.specs.Calls.{matchesProgram, fitsProgram, programCheck, respond}
 use Rattle.machine_model.specs.Contract.{entryOf, plain, Sound, Meets}
-use Rattle.machine_model.proofs.Sounding.{agreeing, validateOf, every-same, length-entries, entry-at, tests-sound}
-use Rattle.machine_model.proofs.Sounding.{broken-tests}
+use Rattle.machine_model.proofs.Sounding.{agreeing, fitting, validateOf, every-same, length-entries, entry-at}
+use Rattle.machine_model.proofs.Sounding.{tests-sound, broken-tests}
 
 -- ---- meeting the contract
 
@@ -44,18 +44,7 @@ module _ (program : List ℕ) (m : Machine) (c : Call) (w : List ℕ) where
 
 -- ---- the validation's tests are the definition's
 
--- the program is the opened one, and the live entries are its instructions: of a machine, and of a plain state
-abbrev fitting : List ℕ → Machine → Bool
-fitting program m =
-    programFits program && eqb (length program) (4 * m .count)
-    && every (λ (p : ℕ). matchesProgram program (m .count) (entryOf m p)) (m .table .live)
-
-abbrev fittingPlain : List ℕ → Plain → Bool
-fittingPlain program X =
-    programFits program && eqb (length program) (4 * X .count)
-    && every (λ (p : ℕ). matchesProgram program (X .count) (entryAt (X .entries) p)) (length (X .entries))
-
-fits-same : (program : List ℕ) (m : Machine) → fittingPlain program (plain m) ≡ fitting program m
+fits-same : (program : List ℕ) (m : Machine) → fitsProgram program (plain m) ≡ fitting program m
 fits-same program m =
     let likeAt : ℕ → Bool = λ p. matchesProgram program (m .count) (entryAt (plain m .entries) p) in
     ap (λ (b : Bool). programFits program && eqb (length program) (4 * m .count) && b)
@@ -128,7 +117,7 @@ length-turned m program (finish k list) w e = rw e
 
 -- it has the right length, and the check of the program fails
 program-turned : (m : Machine) (program : List ℕ) (c : Call) (w : List ℕ) → eqb (lengthFor m c w) (m .table .words) ≡ true
-    → fittingPlain program (plain m) ≡ false → respond program c (plain m) w ≡ turned 4 (plain m) w (lentTo c)
+    → fitsProgram program (plain m) ≡ false → respond program c (plain m) w ≡ turned 4 (plain m) w (lentTo c)
 unfolding respond
 program-turned m program issue w e f = rw f
 program-turned m program (execute p) w e f = rw (e, f)

@@ -5,7 +5,6 @@
 use mathlib.Core.Path.{_≡_, refl}
 use mathlib.Core.Bool.{Bool, true, false, _&&_}
 use mathlib.Core.List.{List, [], _∷_, map}
-use lib.Bits.{bitAnd, bitOr}
 use Rattle.marks.specs.Circle.{firsts}
 use Rattle.marks.specs.Counting.{every}
 use Rattle.table.specs.Bank.{home, bank}

@@ -11,14 +11,12 @@ use lib.Dec.{eqb, leb, ltb}
 use lib.ListN.{length, take, drop, set, length-append, length-take, length-drop, length-set, List·getD-append}
 use lib.Seq.{getD-at, getD-take, getD-drop, getD-set-same, getD-set-other}
 use borrow.Author.Tests.{ltb-true, ltb-false, lt-ltb, leb-false, eq-eqb, eqb-true, eqb-false}
-use Rattle.marks.specs.Counting.{every}
 use Rattle.marks.proofs.Counts.{every-from}
 use Rattle.table.specs.computed.Check.{lawful}
 use Rattle.machine_model.specs.Program.{dOf, sOf, immOf, same, programFits, instructionAt, codeOf}
 use Rattle.engine.specs.Contract.{refused, judged}
 use Rattle.engine.specs.Conditions.{when, refusal}
 use Rattle.machine_model.specs.declared.Instruction.{Instruction}
-use Rattle.machine_model.specs.declared.Fate.the-variants.{Waiting}
 use Rattle.machine_model.specs.declared.Entry.{Entry}
 use Rattle.machine_model.specs.declared.Machine.{Machine}
 use Rattle.machine_model.specs.Window.{blankEntry, entryAt, entryWith}
@@ -32,7 +30,9 @@ use Rattle.machine_model.specs.Calls.{
   Result,
   respond,
   matchesProgram,
+  fitsProgram,
   issueChecks,
+  newEntry,
 }
 use Rattle.machine_model.specs.Calls.{
   issueResult,
@@ -149,22 +149,20 @@ module _ (program : List ℕ) (lent : ℕ) (X : Plain) (w : List ℕ) (fit : Fit
 
   issue-fits : Fitting program lent (issueResult program X w .state)
   issue-fits =
-      let likeAt : ℕ → Bool = λ p. matchesProgram program (X .count) (entryAt (X .entries) p) in
       judged-fits (refusal (issueChecks program X)) _
       (λ z.
       let left : X .next < X .count =
       leb-false (X .count) (X .next)
       (last-passes
-      (not (programFits program && eqb (length program) (4 * X .count) && every likeAt (length (X .entries))))
+      (not (fitsProgram program X))
       (eqb (length (X .entries)) (X .buffer .stages))
       (leb (X .count) (X .next))
       z) in
-      let e : Entry = record { instruction = instructionAt program (X .next); index = X .next; fate = Waiting } in
       record {
         words = fit .words;
         counted = fit .counted;
         alike =
-            all-grow (matchesProgram program (X .count)) (X .entries) (fit .alike) e
+            all-grow (matchesProgram program (X .count)) (X .entries) (fit .alike) (newEntry program (X .next))
             (ap₂ _&&_ (lt-ltb (X .next) (X .count) left) (same-self (instructionAt program (X .next))));
       })
 

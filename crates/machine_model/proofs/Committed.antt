@@ -1,7 +1,7 @@
 -- Commit, past the validation. Its conditions 11, 12 and 13 are read off the oldest entry, which stands at the oldest's stage
 -- (oldest-entry). Where none holds, the oldest entry leaves the window as its reference does, by the engine's law. What it
 -- writes is told by its entry, which agrees with the table, and by the table's own word (mark-told). Assumes nothing.
-use mathlib.Core.Bool.{Bool, true, false, cond, not, _&&_, _||_, and-eq-true-iff}
+use mathlib.Core.Bool.{Bool, true, false, cond, not, and-eq-true-iff}
 use mathlib.Core.List.{List, [], _∷_}
 use mathlib.Core.Path.{_≡_, refl, sym, ap, ap₂, _∙_}
 use Prim.Native.Nat.{ℕ, _-_, _<_}
@@ -9,8 +9,7 @@ use native.Mathlib.Omega.{arith}
 use lib.Dec.{eqb}
 use lib.ListN.{length, getD, drop, length-drop}
 use borrow.Author.Tests.{ne-eqb, eqb-true, not-false}
-use Rattle.marks.specs.Stages.{has}
-use Rattle.marks.specs.Circle.{stage, firsts}
+use Rattle.marks.specs.Circle.{firsts}
 use Rattle.marks.proofs.Turns.{stage-zero}
 use Rattle.table.specs.Limits.{rowsIn}
 use Rattle.table.specs.Reference

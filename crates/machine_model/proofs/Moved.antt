@@ -26,9 +26,7 @@ use Rattle.engine.proofs.Growing.{grown-rules, grown-view}
 use Rattle.engine.specs.Contract.{refused, named, done, judged}
 use Rattle.engine.specs.Conditions.{when, refusal}
 use Rattle.machine_model.specs.declared.Entry.{Entry}
-use Rattle.machine_model.specs.declared.Fate.the-variants.{Waiting}
 use Rattle.machine_model.specs.declared.Machine.{Machine}
-use Rattle.machine_model.specs.Program.{instructionAt}
 use Rattle.machine_model.specs.Window.{entryAt}
 use Rattle.machine_model.specs.Calls.{issue, squash, newEntry, issueChecks, issuing, squashing, refetchIndex, respond}
 use Rattle.machine_model.specs.Contract.{entryOf, plain, Meets}

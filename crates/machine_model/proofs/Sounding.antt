@@ -28,16 +28,18 @@ use Rattle.machine_model.specs.Contract.{entryOf, plain, agree, Sound}
 abbrev pub agreeing : Machine → ℕ → Bool
 agreeing m k = every (λ (p : ℕ). agree (reference (entryOf m p)) (fateAt (m .table) (stageOf (m .table) p))) k
 
+-- the program is the opened one, and the live entries are its instructions
+abbrev pub fitting : List ℕ → Machine → Bool
+fitting program m =
+    programFits program && eqb (length program) (4 * m .count)
+    && every (λ (p : ℕ). matchesProgram program (m .count) (entryOf m p)) (m .table .live)
+
 -- the conditions 2, 3 and 4, in that order, of a call lent a memory of this length
 abbrev pub validateOf : Machine → List ℕ → ℕ → ℕ
 validateOf m program lent =
     refusal
     (when (not (lawful (m .table) && agreeing m (m .table .live))) 2 ∷ when (not (eqb lent (m .table .words))) 3
-    ∷ when
-    (not
-    (programFits program && eqb (length program) (4 * m .count)
-    && every (λ (p : ℕ). matchesProgram program (m .count) (entryOf m p)) (m .table .live)))
-    4
+    ∷ when (not (fitting program m)) 4
     ∷ [])
 
 -- two tests that agree below n

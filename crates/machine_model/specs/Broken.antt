@@ -3,11 +3,9 @@
 -- and that every call on a broken one is refused with 2.
 -- Assumes nothing.
 use mathlib.Core.Path.{_≡_}
-use mathlib.Core.Bool.{Bool, true, false}
 use mathlib.Core.List.{List, [], _∷_, _++_}
 use Prim.Native.Nat.{ℕ}
 use lib.ListN.{take, replicate}
-use Rattle.table.specs.declared.Table.{Table}
 use Rattle.table.specs.Limits.{stagesMost, slots}
 use Rattle.engine.specs.Contract.{refused}
 use Rattle.machine_model.specs.declared.Instruction.{Instruction}

@@ -68,14 +68,15 @@ waits (Executed v a) = false
 abbrev pub matchesProgram : List ℕ → ℕ → Entry → Bool
 matchesProgram program count e = ltb (e .index) count && same (instructionAt program (e .index)) (e .instruction)
 
--- 4: the program is not one of the opened number of well-formed instructions, or a live entry is unlike it
+-- the program is one of the opened number of well-formed instructions, and the live entries are its instructions
+abbrev pub fitsProgram : List ℕ → Plain → Bool
+fitsProgram program X =
+    programFits program && eqb (length program) (4 * X .count)
+    && every (λ (p : ℕ). matchesProgram program (X .count) (entryAt (X .entries) p)) (length (X .entries))
+
+-- 4: it is not so
 abbrev pub programCheck : List ℕ → Plain → Check
-programCheck program X =
-    when
-    (not
-    (programFits program && eqb (length program) (4 * X .count)
-    && every (λ (p : ℕ). matchesProgram program (X .count) (entryAt (X .entries) p)) (length (X .entries))))
-    4
+programCheck program X = when (not (fitsProgram program X)) 4
 
 -- ---- where each call is turned down, past 2
 

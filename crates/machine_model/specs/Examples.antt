@@ -15,7 +15,6 @@ use Rattle.engine.specs.Conditions.{refusal}
 use Rattle.engine.specs.Contract.{refused, done, named, executed, committed, finished}
 use Rattle.machine_model.specs.declared.Instruction.{Instruction}
 use Rattle.machine_model.specs.declared.Instruction.the-variants.{Add, Sum, Load, Store}
-use Rattle.machine_model.specs.declared.Fate.{Fate}
 use Rattle.machine_model.specs.declared.Fate.the-variants.{Waiting, Executed}
 use Rattle.machine_model.specs.declared.Entry.{Entry}
 use Rattle.machine_model.specs.Window.{reference}
@@ -274,7 +273,7 @@ refusals =
     ∷ asks commit (committed 2 1 2 6) ∷ []))
     ∷ usual (A 1 0 5 ++ A 1 0 6 ++ A 2 1 0)
     (three (asks (execute 1) (executed 0 none) ∷ asks (execute 2) (executed 0 none) ∷ []))
-    -- 10, and none where the address has a row or the other bank a free one
+    -- 10, and none where the address has a row or the other bank a free one (where 9 holds no row is asked for yet)
     ∷ tight (L 1 0 5 ++ L 2 0 6) (two (asks (execute 0) (executed 15 none) ∷ asks (execute 1) (refused 10) ∷ []))
     ∷ tight (L 1 0 5 ++ L 2 0 5) (two (asks (execute 0) (executed 15 none) ∷ asks (execute 1) (executed 15 none) ∷ []))
     ∷ row 2 1 4 8 (L 1 0 5 ++ L 2 0 6) eight done
