@@ -60,7 +60,8 @@ module _ (m u : Machine) (sound : Sound m) (sound′ : Sound u) where
             let p = position (t .oldest) (t .stages) s in
             let b : p < u .table .live = subst (λ (k : ℕ). p < k) (sym (table .live)) (live .position) in
             let here : stageOf t p ≡ s = stage-position (t .oldest) (t .stages) (sound .rules .start) s (live .stage) in
-            let there : stageOf (u .table) p ≡ s = ap (λ (X : Plain). stage (X .buffer .oldest) (X .buffer .stages) p) one ∙ here in
+            let there : stageOf (u .table) p ≡ s =
+            ap (λ (X : Plain). stage (X .buffer .oldest) (X .buffer .stages) p) one ∙ here in
             ap (λ (k : ℕ). getD (u .window) k blankEntry) (sym there)
             ∙ sym (entry-at u p b) ∙ ap (λ (X : Plain). entryAt (X .entries) p) one ∙ entry-at m p (live .position)
             ∙ ap (λ (k : ℕ). getD (m .window) k blankEntry) here;
