@@ -1,27 +1,70 @@
--- The invariant of a mix of turns: whatever the turns that are left come to, all turns from the start come to.
--- It is carried over a turn with a call and over one with another state; where no turn is left it gives what the mix promises.
+-- The invariant of a mix of turns: wherever the turns that are left lead, all turns from the start lead.
+-- It is carried over a turn, with a call or with another state; where no turn is left it gives what the mix promises.
 -- Assumes nothing.
-use mathlib.Core.Path.{_≡_, refl, sym, subst}
-use mathlib.Core.List.{List}
+use mathlib.Core.Path.{_≡_, refl, sym, subst, ap, _∙_}
+use mathlib.Core.List.{List, [], _∷_}
 use mathlib.Core.Logic.{inl, inr}
-use Prim.Native.Nat.{ℕ, suc}
+use Prim.Native.Nat.{ℕ, suc, _-_, _<_}
+use native.Mathlib.Omega.{arith}
+use lib.ListN.{length}
+use borrow.Author.Tests.{leb-true}
 use Rattle.engine.specs.Contract.{Answer}
-use Rattle.mixes.specs.Turns.{answered, Turns, Opened}
+use Rattle.mixes.specs.declared.Tally.{Tally}
+use Rattle.mixes.specs.computed.Turns.{listed, Tells, summed, numbers, answered, Turns, Turn, Mixed}
 
--- `turns` of them from state t₀, of which `left` are left at state t
-pub record Remains {S N : Type 0} (name : ℕ → N → ℕ) (Does : S → List ℕ → Answer N → S → List ℕ → Type 0) (when turns : ℕ)
+-- `turns` of them from x₀, of which `left` are left at x
+pub record Remains {X : Type 0} (Step : ℕ → X → X → Type 0) (turns : ℕ) (x₀ : X) (left : ℕ) (x : X) : Type 0 where
+  pub whole : (y : X) → Turns Step left x y → Turns Step turns x₀ y
+
+pub remains-all : {X : Type 0} {Step : ℕ → X → X → Type 0} {turns : ℕ} {x : X} → Remains Step turns x turns x
+remains-all = record { whole = λ y rest. rest }
+
+module _ {X : Type 0} {Step : ℕ → X → X → Type 0} {turns left : ℕ} {x₀ x : X} (remains : Remains Step turns x₀ left x) where
+  -- a turn
+  pub remains-turn : {y : X} → 0 < left → Step (left - 1) x y → Remains Step turns x₀ (left - 1) y
+  unfolding Turns
+  remains-turn {y} some turn =
+      let counted : suc (left - 1) ≡ left = omega arith in
+      record {
+        whole =
+            λ z rest.
+            remains .whole z
+            (subst (λ (n : ℕ). Turns Step n x z) counted (record { next = y; turn = turn; rest = rest }));
+      }
+
+  -- every turn made
+  pub remains-none : left ≡ 0 → Turns Step turns x₀ x
+  unfolding Turns
+  remains-none ended = remains .whole x (subst (λ (n : ℕ). Turns Step n x x) (sym ended) refl)
+
+-- what is held to be these numbers lists them
+pub told-list : (n : Tally) (l : List ℕ) → Tells n l → listed n ≡ l
+told-list n [] t = rw (t .count)
+told-list n (a ∷ []) t = rw (t .count, t .first)
+told-list n (a ∷ b ∷ []) t = rw (t .count, t .first, t .second)
+told-list n (a ∷ b ∷ c ∷ []) t = rw (t .count, t .first, t .second, t .third)
+told-list n (a ∷ b ∷ c ∷ d ∷ []) t = rw (t .count, t .first, t .second, t .third, t .fourth)
+told-list n (a ∷ b ∷ c ∷ d ∷ e ∷ l) t = absurd (omega (arith, leb-true (length (a ∷ b ∷ c ∷ d ∷ e ∷ l)) 4 (t .few)))
+
+-- the checksum with an answer, by the numbers that were made of it
+pub tallied : {N : Type 0} (name : N → List ℕ) (said : Answer N) {n : Tally} (sum : ℕ) {s : ℕ}
+    → Tells n (numbers name said) → s ≡ summed sum (listed n) → s ≡ answered name sum said
+tallied name said {n} sum told counted = counted ∙ ap (summed sum) (told-list n (numbers name said) told)
+
+-- the same of an engine's turns, with a memory as long as the one lent
+pub record Mixing {S N : Type 0} (name : N → List ℕ) (Does : S → List ℕ → Answer N → S → List ℕ → Type 0) (when turns : ℕ)
     (t₀ : S) (memory₀ : List ℕ) (sum₀ left : ℕ) (t : S) (memory : List ℕ) (sum : ℕ) : Type 0 where
-  pub whole : (memory′ : List ℕ) (sum′ : ℕ)
-      → Turns name Does when left memory′ sum′ t memory sum → Turns name Does when turns memory′ sum′ t₀ memory₀ sum₀
+  pub long : length memory ≡ length memory₀
+  pub remains : Remains (Turn name Does when) turns (t₀, memory₀, sum₀) left (t, memory, sum)
 
-pub remains-all : {S N : Type 0} {name : ℕ → N → ℕ} {Does : S → List ℕ → Answer N → S → List ℕ → Type 0} {when turns sum : ℕ}
-    {t : S} {memory : List ℕ}
-    → Remains name Does when turns t memory sum turns t memory sum
-remains-all = record { whole = λ memory′ sum′ rest. rest }
+pub mixing-all : {S N : Type 0} {name : N → List ℕ} {Does : S → List ℕ → Answer N → S → List ℕ → Type 0} {when turns : ℕ} {t : S}
+    {memory : List ℕ} {sum : ℕ}
+    → Mixing name Does when turns t memory sum turns t memory sum
+mixing-all = record { long = refl; remains = remains-all }
 
 module _
     {S N : Type 0}
-    {name : ℕ → N → ℕ}
+    {name : N → List ℕ}
     {Does : S → List ℕ → Answer N → S → List ℕ → Type 0}
     {when turns : ℕ}
     {t₀ : S}
@@ -30,55 +73,37 @@ module _
     {t : S}
     {m : List ℕ}
     {sum : ℕ}
-    (remains : Remains name Does when turns t₀ memory₀ sum₀ left t m sum)
+    (mixing : Mixing name Does when turns t₀ memory₀ sum₀ left t m sum)
   where
-    -- what was left, by what is left after a turn
-    whole-from : {fewer : ℕ} → suc fewer ≡ left → (memory′ : List ℕ) (sum′ : ℕ)
-        → Turns name Does when (suc fewer) memory′ sum′ t m sum → Turns name Does when turns memory′ sum′ t₀ memory₀ sum₀
-    whole-from counted memory′ sum′ rest =
-        remains .whole memory′ sum′ (subst (λ (n : ℕ). Turns name Does when n memory′ sum′ t m sum) counted rest)
-
     -- a turn with a call
-    pub remains-called : {fewer s : ℕ} {said : Answer N} {u : S} {v : List ℕ}
-        → suc fewer ≡ left → Does t m said u v → s ≡ answered name sum said
-        → Remains name Does when turns t₀ memory₀ sum₀ fewer u v s
-    unfolding Turns
-    remains-called {fewer = fewer} {said = said} {u = u} {v = v} counted does told =
+    pub mixing-called : {said : Answer N} {u : S} {v : List ℕ} {n : Tally} {s : ℕ}
+        → 0 < left → length v ≡ length m → Does t m said u v → Tells n (numbers name said) → s ≡ summed sum (listed n)
+        → Mixing name Does when turns t₀ memory₀ sum₀ (left - 1) u v s
+    mixing-called {said} some as-long does told counted =
         record {
-          whole =
-              λ memory′ sum′ rest.
-              whole-from counted memory′ sum′
-              (inl
-              (record {
-                said = said;
-                after = u;
-                left = v;
-                does = does;
-                rest = subst (λ (x : ℕ). Turns name Does when fewer memory′ sum′ u v x) told rest;
-              }));
+          long = as-long ∙ mixing .long;
+          remains =
+              remains-turn (mixing .remains) some
+              (inl (record { said = said; does = does; told = tallied name said sum told counted }));
         }
 
     -- a turn with another state in its place
-    pub remains-changed : {fewer : ℕ} {u : S} → suc fewer ≡ left → fewer ≡ when
-        → Remains name Does when turns t₀ memory₀ sum₀ fewer u m sum
-    unfolding Turns
-    remains-changed {u = u} counted last =
-        record {
-          whole = λ memory′ sum′ rest. whole-from counted memory′ sum′ (inr (last, record { after = u; rest = rest }));
-        }
+    pub mixing-changed : {u : S} → 0 < left → left - 1 ≡ when → Mixing name Does when turns t₀ memory₀ sum₀ (left - 1) u m sum
+    mixing-changed some last =
+        record { long = mixing .long; remains = remains-turn (mixing .remains) some (inr (last, refl, refl)) }
 
-    -- every turn made
-    pub remains-none : {Opens : Answer N → S → Type 0} (said : Answer N) → Opens said t₀ → sum₀ ≡ answered name 0 said
-        → left ≡ 0
-        → Opened name Opens memory₀ 0 (Turns name Does when turns m sum)
-    unfolding Turns
-    remains-none said opens told ended =
+    -- an opening before them, and every turn made
+    pub mixed : {Opens : Answer N → S → Type 0} {n : Tally} (said : Answer N)
+        → left ≡ 0 → Opens said t₀ → Tells n (numbers name said) → sum₀ ≡ summed 0 (listed n)
+        → Mixed name Opens Does when turns memory₀ m sum
+    mixed said ended opens told counted =
         record {
           said = said;
-          after = t₀;
+          opened = t₀;
           opens = opens;
-          rest =
-              subst (λ (s : ℕ). Turns name Does when turns m sum t₀ memory₀ s) told
-              (remains .whole m sum
-              (subst (λ (n : ℕ). Turns name Does when n m sum t m sum) (sym ended) (refl, refl)));
+          after = t;
+          turns =
+              subst (λ (s : ℕ). Turns (Turn name Does when) turns (t₀, memory₀, s) (t, m, sum))
+              (tallied name said 0 told counted)
+              (remains-none (mixing .remains) ended);
         }

@@ -1,2 +1,2 @@
--- Turns: the checksum of an engine's answers, and the turns that it is of.
-pub mod Turns
+-- How the benchmark computes is all that is said here, and nothing of it is to be believed.
+pub mod computed

@@ -7,7 +7,7 @@ use table::Table;
 ghost use mathlib.Core.Path.{_≡_};
 ghost use Prim.Native.Nat.{_+_, _*_, _/_, _%_};
 ghost use lib.Bits.{bitAnd};
-ghost use Rattle.mixes.specs.Turns.{added};
+ghost use Rattle.mixes.specs.computed.Turns.{added, summed, listed};
 
 // The next state of the generator, which is linear congruential modulo 2^31.
 pub fn advance(seed: u64) -> u64
@@ -30,6 +30,32 @@ pub fn with(sum: u64, x: u64) -> u64
     let twice = std::num::wrapping_add_u64(sum, sum);
     let turned = std::num::wrapping_add_u64(twice, sum / 9223372036854775808);
     std::num::wrapping_add_u64(turned, x)
+}
+
+// The numbers of an answer: how many, at most four, and they.
+pub struct Tally(pub usize, pub u64, pub u64, pub u64, pub u64);
+
+// The checksum with the numbers of an answer.
+pub fn with_all(sum: u64, tally: Tally) -> u64
+    ensures { λ r. ⌜ r ≡ summed sum (listed tally) ⌝ }
+{
+    let count = tally.0;
+    if count == 0 {
+        return sum;
+    }
+    let one = with(sum, tally.1);
+    if count == 1 {
+        return one;
+    }
+    let two = with(one, tally.2);
+    if count == 2 {
+        return two;
+    }
+    let three = with(two, tally.3);
+    if count == 3 {
+        return three;
+    }
+    with(three, tally.4)
 }
 
 // One of sixteen addresses, spread over the banks; half of the draws give one of three.

@@ -1,2 +1,2 @@
--- Turns: what the checksum of the buffer's mix is of.
-pub mod Turns
+-- How the benchmark computes is all that is said here, and nothing of it is to be believed.
+pub mod computed

@@ -2,57 +2,45 @@
 //
 // It returns a checksum of every answer. benchmarks/inplace.c has the same mix over the same calls in C, so only
 // numbers and lent slices cross the boundary. What is promised is that the checksum is that of the answers of as
-// many calls, each of which met its contract (specs/Turns.antt).
+// many calls, each of which met its contract (specs/computed/Turns.antt).
+use mixes::Tally;
 use table::STAGES;
 use table::Ticket;
 ghost use mathlib.Core.Path.{_≡_};
 ghost use Rattle.buffer_model.specs.Answers as buffer;
-ghost use Rattle.mixes.specs.Turns.{cut, answered};
-ghost use Rattle.mixes_buffer.specs.Turns.{ticketed, BufferTurns};
+ghost use Rattle.mixes.specs.computed.Turns.{Tells, numbers};
+ghost use Rattle.mixes_buffer.specs.computed.Turns.{ticketed, BufferTurns};
 
-// The checksum with a ticket.
-fn with_ticket(sum: u64, ticket: Ticket) -> u64
-    ensures { λ r. ⌜ r ≡ ticketed sum ticket ⌝ }
-{
-    mixes::with(mixes::with(sum, ticket.stage as u64), ticket.number as u64)
-}
-
-// The checksum with an answer: a refusal's number, or 100 and what the answer carries.
-fn with_done(sum: u64, answer: buffer::DoneAnswer) -> u64
-    ensures { λ r. ⌜ r ≡ answered ticketed sum (buffer.doneSays answer) ⌝ }
+// The numbers of an answer: a refusal's number, or 100 and what the answer carries.
+fn done_tally(answer: buffer::DoneAnswer) -> Tally
+    ensures { λ r. ⌜ Tells r (numbers ticketed (buffer.doneSays answer)) ⌝ }
 {
     match answer {
-        buffer::DoneAnswer::Refused(k) => mixes::with(sum, k as u64),
-        buffer::DoneAnswer::Done => mixes::with(sum, 100),
+        buffer::DoneAnswer::Refused(k) => Tally(1, k as u64, 0, 0, 0),
+        buffer::DoneAnswer::Done => Tally(1, 100, 0, 0, 0),
     }
 }
 
-fn with_named(sum: u64, answer: buffer::TicketAnswer) -> u64
-    ensures { λ r. ⌜ r ≡ answered ticketed sum (buffer.ticketSays answer) ⌝ }
+fn named_tally(answer: buffer::TicketAnswer) -> Tally
+    ensures { λ r. ⌜ Tells r (numbers ticketed (buffer.ticketSays answer)) ⌝ }
 {
     match answer {
-        buffer::TicketAnswer::Refused(k) => mixes::with(sum, k as u64),
-        buffer::TicketAnswer::Named(ticket) => with_ticket(mixes::with(sum, 100), ticket),
+        buffer::TicketAnswer::Refused(k) => Tally(1, k as u64, 0, 0, 0),
+        buffer::TicketAnswer::Named(at) => Tally(3, 100, at.stage as u64, at.number as u64, 0),
     }
 }
 
-fn with_squashed(sum: u64, squashed: buffer::Squashed) -> u64
-    ensures { λ r. ⌜ r ≡ cut ticketed sum (buffer.squashSays squashed) ⌝ }
-{
-    match squashed {
-        buffer::Squashed::Nothing => sum,
-        buffer::Squashed::From(ticket) => with_ticket(sum, ticket),
-    }
-}
-
-fn with_executed(sum: u64, answer: buffer::ExecuteAnswer) -> u64
-    ensures { λ r. ⌜ r ≡ answered ticketed sum (buffer.executeSays answer) ⌝ }
+fn executed_tally(answer: buffer::ExecuteAnswer) -> Tally
+    ensures { λ r. ⌜ Tells r (numbers ticketed (buffer.executeSays answer)) ⌝ }
 {
     match answer {
-        buffer::ExecuteAnswer::Refused(k) => mixes::with(sum, k as u64),
-        buffer::ExecuteAnswer::Executed(v, squashed) => {
-            with_squashed(mixes::with(mixes::with(sum, 100), v as u64), squashed)
-        }
+        buffer::ExecuteAnswer::Refused(k) => Tally(1, k as u64, 0, 0, 0),
+        buffer::ExecuteAnswer::Executed(v, squashed) => match squashed {
+            buffer::Squashed::Nothing => Tally(2, 100, v as u64, 0, 0),
+            buffer::Squashed::From(at) => {
+                Tally(4, 100, v as u64, at.stage as u64, at.number as u64)
+            }
+        },
     }
 }
 
@@ -119,7 +107,7 @@ pub extern "C" fn mixes_buffer(
     let opened = buffer::open(banks, rows, stages, words, memory);
     let said = opened.answer;
     let mut t = opened.table;
-    let mut sum = with_done(0, said);
+    let mut sum = mixes::with_all(0, done_tally(said));
     let mut second = seed;
     let mut left = calls;
     while 0 < left {
@@ -135,14 +123,14 @@ pub extern "C" fn mixes_buffer(
             let issued = buffer::issue(t);
             let said = issued.answer;
             t = issued.table;
-            sum = with_named(sum, said);
+            sum = mixes::with_all(sum, named_tally(said));
             continue;
         }
         if kind < 20 {
             let committed = buffer::commit(t, memory);
             let said = committed.answer;
             t = committed.table;
-            sum = with_named(sum, said);
+            sum = mixes::with_all(sum, named_tally(said));
             continue;
         }
         let numbers = t.numbers;
@@ -153,27 +141,27 @@ pub extern "C" fn mixes_buffer(
             let loaded = buffer::execute_load(t, ticket, address, memory);
             let said = loaded.answer;
             t = loaded.table;
-            sum = with_executed(sum, said);
+            sum = mixes::with_all(sum, executed_tally(said));
             continue;
         }
         if kind < 30 {
             let stored = buffer::execute_store(t, ticket, address, word_drawn(second), memory);
             let said = stored.answer;
             t = stored.table;
-            sum = with_executed(sum, said);
+            sum = mixes::with_all(sum, executed_tally(said));
             continue;
         }
         if kind < 31 {
             let noted = buffer::execute_other(t, ticket, memory);
             let said = noted.answer;
             t = noted.table;
-            sum = with_executed(sum, said);
+            sum = mixes::with_all(sum, executed_tally(said));
             continue;
         }
         let squashed = buffer::squash(t, ticket);
         let said = squashed.answer;
         t = squashed.table;
-        sum = with_done(sum, said);
+        sum = mixes::with_all(sum, done_tally(said));
     }
     sum
 }

@@ -1,2 +1,2 @@
--- Turns: what the checksums of the machine's mixes are of.
-pub mod Turns
+-- How the benchmark computes is all that is said here, and nothing of it is to be believed.
+pub mod computed

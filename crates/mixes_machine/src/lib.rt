@@ -2,74 +2,64 @@
 //
 // Each returns a checksum of every answer. benchmarks/inplace.c has the same mixes over the same calls in C, so
 // only numbers and lent slices cross the boundary. What is promised is that the checksum is that of the answers
-// of as many calls, each of which met its contract (specs/Turns.antt).
+// of as many calls, each of which met its contract (specs/computed/Turns.antt).
 use machine::Machine;
+use mixes::Tally;
 use table::STAGES;
 ghost use mathlib.Core.Path.{_≡_};
 ghost use Prim.Native.Nat.{ℕ};
 ghost use Rattle.machine_model.specs.Contract as machine;
-ghost use Rattle.mixes.specs.Turns.{added, cut, answered};
-ghost use Rattle.mixes_machine.specs.Turns.{MachineTurns, Runs};
+ghost use Rattle.mixes.specs.computed.Turns.{Tells, numbers};
+ghost use Rattle.mixes_machine.specs.computed.Turns.{placed, MachineTurns, Runs};
 
-// The checksum with an answer of the machine.
-fn with_opened(sum: u64, answer: machine::DoneAnswer) -> u64
-    ensures { λ r. ⌜ r ≡ answered added sum (machine.doneSays answer) ⌝ }
+// The numbers of an answer: a refusal's number, or 100 and what the answer carries; of a commit its four.
+fn done_tally(answer: machine::DoneAnswer) -> Tally
+    ensures { λ r. ⌜ Tells r (numbers placed (machine.doneSays answer)) ⌝ }
 {
     match answer {
-        machine::DoneAnswer::Refused(k) => mixes::with(sum, k as u64),
-        machine::DoneAnswer::Done => mixes::with(sum, 100),
+        machine::DoneAnswer::Refused(k) => Tally(1, k as u64, 0, 0, 0),
+        machine::DoneAnswer::Done => Tally(1, 100, 0, 0, 0),
     }
 }
 
-fn with_issued(sum: u64, answer: machine::IssueAnswer) -> u64
-    ensures { λ r. ⌜ r ≡ answered added sum (machine.issueSays answer) ⌝ }
+fn issued_tally(answer: machine::IssueAnswer) -> Tally
+    ensures { λ r. ⌜ Tells r (numbers placed (machine.issueSays answer)) ⌝ }
 {
     match answer {
-        machine::IssueAnswer::Refused(k) => mixes::with(sum, k as u64),
-        machine::IssueAnswer::Issued(p) => mixes::with(mixes::with(sum, 100), p as u64),
+        machine::IssueAnswer::Refused(k) => Tally(1, k as u64, 0, 0, 0),
+        machine::IssueAnswer::Issued(p) => Tally(2, 100, p as u64, 0, 0),
     }
 }
 
-fn with_cut(sum: u64, squashed: machine::Squashed) -> u64
-    ensures { λ r. ⌜ r ≡ cut added sum (machine.squashSays squashed) ⌝ }
+fn executed_tally(answer: machine::ExecuteAnswer) -> Tally
+    ensures { λ r. ⌜ Tells r (numbers placed (machine.executeSays answer)) ⌝ }
 {
-    match squashed {
-        machine::Squashed::Nothing => sum,
-        machine::Squashed::From(p) => mixes::with(sum, p as u64),
+    match answer {
+        machine::ExecuteAnswer::Refused(k) => Tally(1, k as u64, 0, 0, 0),
+        machine::ExecuteAnswer::Executed(v, squashed) => match squashed {
+            machine::Squashed::Nothing => Tally(2, 100, v as u64, 0, 0),
+            machine::Squashed::From(p) => Tally(3, 100, v as u64, p as u64, 0),
+        },
     }
 }
 
-fn with_ran(sum: u64, answer: machine::ExecuteAnswer) -> u64
-    ensures { λ r. ⌜ r ≡ answered added sum (machine.executeSays answer) ⌝ }
+fn committed_tally(answer: machine::CommitAnswer) -> Tally
+    ensures { λ r. ⌜ Tells r (numbers placed (machine.commitSays answer)) ⌝ }
 {
     match answer {
-        machine::ExecuteAnswer::Refused(k) => mixes::with(sum, k as u64),
-        machine::ExecuteAnswer::Executed(v, squashed) => {
-            with_cut(mixes::with(mixes::with(sum, 100), v as u64), squashed)
-        }
-    }
-}
-
-fn with_committed(sum: u64, answer: machine::CommitAnswer) -> u64
-    ensures { λ r. ⌜ r ≡ answered added sum (machine.commitSays answer) ⌝ }
-{
-    match answer {
-        machine::CommitAnswer::Refused(k) => mixes::with(sum, k as u64),
+        machine::CommitAnswer::Refused(k) => Tally(1, k as u64, 0, 0, 0),
         machine::CommitAnswer::Committed(i, c, r, v) => {
-            mixes::with(
-                mixes::with(mixes::with(mixes::with(sum, i as u64), c as u64), r as u64),
-                v as u64,
-            )
+            Tally(4, i as u64, c as u64, r as u64, v as u64)
         }
     }
 }
 
-fn with_finished(sum: u64, answer: machine::FinishAnswer) -> u64
-    ensures { λ r. ⌜ r ≡ answered added sum (machine.finishSays answer) ⌝ }
+fn finished_tally(answer: machine::FinishAnswer) -> Tally
+    ensures { λ r. ⌜ Tells r (numbers placed (machine.finishSays answer)) ⌝ }
 {
     match answer {
-        machine::FinishAnswer::Refused(k) => mixes::with(sum, k as u64),
-        machine::FinishAnswer::Finished(n) => mixes::with(mixes::with(sum, 100), n as u64),
+        machine::FinishAnswer::Refused(k) => Tally(1, k as u64, 0, 0, 0),
+        machine::FinishAnswer::Finished(n) => Tally(2, 100, n as u64, 0, 0),
     }
 }
 
@@ -165,7 +155,7 @@ pub extern "C" fn mixes_machine(
     let opened = machine::open(banks, rows, stages, words, program, memory);
     let said = opened.answer;
     let mut m = opened.machine;
-    let mut sum = with_opened(0, said);
+    let mut sum = mixes::with_all(0, done_tally(said));
     let mut draw = seed;
     let mut left = calls;
     while 0 < left {
@@ -180,7 +170,7 @@ pub extern "C" fn mixes_machine(
             let again = machine::open(banks, rows, stages, words, program, memory);
             let said = again.answer;
             m = again.machine;
-            sum = with_opened(sum, said);
+            sum = mixes::with_all(sum, done_tally(said));
             continue;
         }
         let kind = mixes::bits(draw) % 32;
@@ -188,14 +178,14 @@ pub extern "C" fn mixes_machine(
             let issued = machine::issue(m, program);
             let said = issued.answer;
             m = issued.machine;
-            sum = with_issued(sum, said);
+            sum = mixes::with_all(sum, issued_tally(said));
             continue;
         }
         if kind < 20 {
             let committed = machine::commit(m, program, memory);
             let said = committed.answer;
             m = committed.machine;
-            sum = with_committed(sum, said);
+            sum = mixes::with_all(sum, committed_tally(said));
             continue;
         }
         let p = position_drawn(
@@ -209,13 +199,13 @@ pub extern "C" fn mixes_machine(
             let ran = machine::execute(m, program, p, memory);
             let said = ran.answer;
             m = ran.machine;
-            sum = with_ran(sum, said);
+            sum = mixes::with_all(sum, executed_tally(said));
             continue;
         }
         let squashed = machine::squash(m, program, p);
         let said = squashed.answer;
         m = squashed.machine;
-        sum = with_opened(sum, said);
+        sum = mixes::with_all(sum, done_tally(said));
     }
     sum
 }
@@ -233,8 +223,8 @@ pub extern "C" fn mixes_finish(
     memory: &mut [u32],
     list: &mut [u32],
 ) -> u64
-    ensures { λ r. ⌜ Runs banks rows stages words (now (program .entry)) limit runs (now (memory .exit)) (now (list .exit)) r
-        (now (memory .entry)) (now (list .entry)) 0 ⌝ }
+    ensures { λ r. ⌜ Runs banks rows stages words (now (program .entry)) limit runs
+        (now (memory .entry), now (list .entry), 0) (now (memory .exit), now (list .exit), r) ⌝ }
 {
     let mut sum: u64 = 0;
     let mut left = runs;
@@ -243,10 +233,10 @@ pub extern "C" fn mixes_finish(
         let opened = machine::open(banks, rows, stages, words, program, memory);
         let m = opened.machine;
         let said = opened.answer;
-        sum = with_opened(sum, said);
+        sum = mixes::with_all(sum, done_tally(said));
         let finished = machine::finish(m, program, limit, memory, list);
         let answer = finished.answer;
-        sum = with_finished(sum, answer);
+        sum = mixes::with_all(sum, finished_tally(answer));
     }
     sum
 }

@@ -1,14 +1,15 @@
 -- `mixes_machine::mixes_finish` makes as many runs as it is asked for: its checksum is that of their answers, each of which met
--- its contract. The loop keeps that the runs left, from what stands, make up all runs from the start, and that the lent memory
--- and list keep their lengths, which is what a lent slice owes; the measure is the number of runs left. Assumes nothing.
-use mathlib.Core.Path.{_≡_, refl}
-use mathlib.Core.List.{List}
+-- its contract. The loop's invariant is Remains of crates/mixes/proofs/Remaining.antt, with a memory and a list as long as those
+-- lent; the measure is the number of runs that are left. Assumes nothing.
+use mathlib.Core.Path.{_≡_, refl, ap, _∙_}
 use Prim.Native.Nat.{ℕ}
 use native.Mathlib.Omega.{arith}
 use lib.ListN.{length}
 use borrow.Author.Needs.{needs}
-use Rattle.mixes_machine.specs.Turns.{Runs}
-use Rattle.mixes_machine.proofs.FinishRuns.{run-made, runs-over}
+use Rattle.machine_model.specs.Contract.{doneSays, finishSays}
+use Rattle.mixes.specs.computed.Turns.{answered}
+use Rattle.mixes_machine.specs.computed.Turns.{placed, Finished}
+use Rattle.mixes.proofs.Remaining.{Remains, remains-all, remains-turn, remains-none, tallied}
 use Rattle.mixes_machine.proofs.mixes_finish.Statement.{statement}
 use Rattle.mixes_machine.proofs.mixes_finish.Tie as tie
 
@@ -16,15 +17,13 @@ abbrev Inv-loop : tie.InvT-loop
 Inv-loop banks rows stages words runs limit program memory₀ list₀ sum₀ left₀ memory list sum left =
     (length memory ≡ length memory₀)
     × (length list ≡ length list₀)
-    × ((memory′ list′ : List ℕ) (sum′ : ℕ)
-    → Runs banks rows stages words program limit left memory′ list′ sum′ memory list sum
-    → Runs banks rows stages words program limit runs memory′ list′ sum′ memory₀ list₀ 0)
+    × Remains (λ k. Finished banks rows stages words program limit) left₀ (memory₀, list₀, 0) left (memory, list, sum)
 
 abbrev μ-loop : tie.MeasureT-loop
 μ-loop banks rows stages words runs limit program memory₀ list₀ sum₀ left₀ memory list sum left = left
 
 loop-holds : tie.Need-loop-holds Inv-loop μ-loop
-loop-holds c = (refl, refl, λ memory′ list′ sum′ rest. rest)
+loop-holds c = (refl, refl, remains-all)
 
 sub-left : tie.Need-sub-left Inv-loop μ-loop
 sub-left c = omega arith
@@ -32,31 +31,47 @@ sub-left c = omega arith
 open-requires : tie.Need-open-requires Inv-loop μ-loop
 open-requires c κs = tt
 
-with-opened-requires : tie.Need-with-opened-requires Inv-loop μ-loop
-with-opened-requires c κs = tt
+done-tally-requires : tie.Need-done-tally-requires Inv-loop μ-loop
+done-tally-requires c κs = tt
+
+with-all-requires : tie.Need-with-all-requires Inv-loop μ-loop
+with-all-requires c κs = tt
 
 finish-requires : tie.Need-finish-requires Inv-loop μ-loop
 finish-requires c κs = tt
 
-with-finished-requires : tie.Need-with-finished-requires Inv-loop μ-loop
-with-finished-requires c κs = tt
+finished-tally-requires : tie.Need-finished-tally-requires Inv-loop μ-loop
+finished-tally-requires c κs = tt
+
+with-all-requires-2 : tie.Need-with-all-requires-2 Inv-loop μ-loop
+with-all-requires-2 c κs = tt
 
 loop-less : tie.Need-loop-less Inv-loop μ-loop
 loop-less c = omega arith
 
 loop-again : tie.Need-loop-again Inv-loop μ-loop
 loop-again c =
-    let finishing = c .before .before .before .before .before in
-    let summing = finishing .before .before .before in
-    let opening = summing .before .before in
-    let loop = opening .before .before .before .loop in (
+    let finishing = c .before .before .before .before .before .before in
+    let opened = finishing .before .before .before in
+    let opening = opened .before .before .before in
+    let head = opening .before .before .before .loop in
+    let first = doneSays (opening .«open» .result .answer) in
+    let second = finishSays (finishing .finish .result .answer) in (
       search needs,
       search needs,
-      λ memory′ list′ sum′ rest.
-          loop .inv .2 memory′ list′ sum′
-          (run-made _ (loop .left) memory′ list′ sum′ (loop .sum) (omega arith)
-          (opening .«open» .ensures) (summing .with-opened .ensures) (finishing .finish .ensures)
-          (c .with-finished .ensures) rest),
+      remains-turn (head .inv .2) (opening .before .before .loop-test .taken)
+          (record {
+            opening = first;
+            opened = opening .«open» .result .machine;
+            opens = opening .«open» .ensures;
+            said = second;
+            after = finishing .finish .result .machine;
+            meets = finishing .finish .ensures;
+            told =
+                tallied placed second (opened .with-all .result) (c .before .finished-tally .ensures) (c .with-all2 .ensures)
+                ∙ ap (λ (s : ℕ). answered placed s second)
+                (tallied placed first (head .sum) (opened .before .done-tally .ensures) (opened .with-all .ensures));
+          }),
     )
 
 same-length : tie.Need-same-length Inv-loop μ-loop
@@ -66,9 +81,7 @@ same-length-2 : tie.Need-same-length-2 Inv-loop μ-loop
 same-length-2 c = search needs
 
 returns : tie.Need-returns Inv-loop μ-loop
-returns c =
-    let loop = c .before .loop in
-    loop .inv .2 (loop .memory) (loop .list) (loop .sum) (runs-over _ _ _ _ _ _ (loop .left) _ _ _ (omega arith))
+returns c = remains-none (c .before .loop .inv .2) (omega arith)
 
 pub mixes-finish-spec : {M : Type 1} → statement M
 mixes-finish-spec =
@@ -79,9 +92,11 @@ mixes-finish-spec =
     loop-holds
     sub-left
     open-requires
-    with-opened-requires
+    done-tally-requires
+    with-all-requires
     finish-requires
-    with-finished-requires
+    finished-tally-requires
+    with-all-requires-2
     loop-less
     loop-again
     same-length

@@ -1,17 +1,17 @@
--- What the buffer's mix hands back: the checksum of an opening's answer and of its turns' (crates/mixes/specs/Turns.antt).
+-- What the buffer's mix hands back: the checksum of an opening's answer and of its turns' (Turns.antt of crates/mixes).
 -- Assumes nothing.
-use mathlib.Core.List.{List}
+use mathlib.Core.List.{List, [], _∷_}
 use Prim.Native.Nat.{ℕ}
 use Rattle.table.specs.declared.Table.{Table}
 use Rattle.table.specs.declared.Ticket.{Ticket}
 use Rattle.engine.specs.Contract.{Answer}
 use Rattle.buffer_model.specs.Calls.{Call}
 use Rattle.buffer_model.specs.Contract.{Meets, Opens}
-use Rattle.mixes.specs.Turns.{added, Opened, Turns}
+use Rattle.mixes.specs.computed.Turns.{Mixed}
 
--- the checksum with a ticket
-abbrev pub ticketed : ℕ → Ticket → ℕ
-ticketed sum τ = added (added sum (τ .stage)) (τ .number)
+-- the numbers of a ticket
+abbrev pub ticketed : Ticket → List ℕ
+ticketed τ = τ .stage ∷ τ .number ∷ []
 
 -- a call of the buffer that met its contract
 pub record Served (t : Table) (memory : List ℕ) (said : Answer Ticket) (after : Table) (left : List ℕ) : Type 0 where
@@ -21,4 +21,4 @@ pub record Served (t : Table) (memory : List ℕ) (said : Answer Ticket) (after 
 -- an opening with these sizes on this memory, and so many turns
 abbrev pub BufferTurns : ℕ → ℕ → ℕ → ℕ → List ℕ → ℕ → ℕ → List ℕ → ℕ → Type 0
 BufferTurns banks rows stages words memory when calls memory′ sum′ =
-    Opened ticketed (Opens banks rows stages words memory) memory 0 (Turns ticketed Served when calls memory′ sum′)
+    Mixed ticketed (Opens banks rows stages words memory) Served when calls memory memory′ sum′

@@ -1,0 +1,2 @@
+-- Turns: what the checksum of the buffer's mix is of.
+pub mod Turns

@@ -1,2 +1,0 @@
--- FinishRuns: a turn of the runs, made of its parts.
-pub mod FinishRuns

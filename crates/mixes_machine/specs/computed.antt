@@ -1,0 +1,2 @@
+-- Turns: what the checksums of the machine's mixes are of.
+pub mod Turns
