@@ -58,98 +58,61 @@ abbrev put-decimal-below : ℕ → In 1 put-decimal-kinds.ps
 put-decimal-below t =
     and 1 put-decimal-kinds.ps (falls 1 put-decimal-kinds.ps _<_ μ-put-decimal t) put-decimal.Pre
 
-put-decimal-add-out : (t : ℕ) → put-decimal-lts.Need-add-out (
-  put-decimal-below t,
-  put-decimal.Post,
-) (put-decimal-at t) put-decimal.Post
+-- the inner call: what it asks, and what it promises
+abbrev inner : ℕ → put-decimal-lts.Claims
+inner t = (put-decimal-below t, put-decimal.Post)
+
+put-decimal-add-out : (t : ℕ) → put-decimal-lts.Need-add-out (inner t) (put-decimal-at t) put-decimal.Post
 put-decimal-add-out t c = omega arith
 
-put-decimal-cast-out : (t : ℕ) → put-decimal-lts.Need-cast-out (
-  put-decimal-below t,
-  put-decimal.Post,
-) (put-decimal-at t) put-decimal.Post
+put-decimal-cast-out : (t : ℕ) → put-decimal-lts.Need-cast-out (inner t) (put-decimal-at t) put-decimal.Post
 put-decimal-cast-out t c = omega arith
 
-put-decimal-slice-write-out : (t : ℕ) → put-decimal-lts.Need-slice-write-out (
-  put-decimal-below t,
-  put-decimal.Post,
-) (put-decimal-at t) put-decimal.Post
+put-decimal-slice-write-out : (t : ℕ) → put-decimal-lts.Need-slice-write-out (inner t) (put-decimal-at t) put-decimal.Post
 put-decimal-slice-write-out t c = omega arith
 
-put-decimal-add-result : (t : ℕ) → put-decimal-lts.Need-add-result (
-  put-decimal-below t,
-  put-decimal.Post,
-) (put-decimal-at t) put-decimal.Post
+put-decimal-add-result : (t : ℕ) → put-decimal-lts.Need-add-result (inner t) (put-decimal-at t) put-decimal.Post
 put-decimal-add-result t c = omega arith
 
-put-decimal-put-decimal-requires : (t : ℕ) → put-decimal-lts.Need-put-decimal-requires (
-  put-decimal-below t,
-  put-decimal.Post,
-) (put-decimal-at t) put-decimal.Post
+put-decimal-put-decimal-requires : (t : ℕ) → put-decimal-lts.Need-put-decimal-requires (inner t) (put-decimal-at t) put-decimal.Post
 put-decimal-put-decimal-requires t c κs = (omega arith, omega arith)
 
-put-decimal-add-out-2 : (t : ℕ) → put-decimal-lts.Need-add-out-2 (
-  put-decimal-below t,
-  put-decimal.Post,
-) (put-decimal-at t) put-decimal.Post
+put-decimal-add-out-2 : (t : ℕ) → put-decimal-lts.Need-add-out-2 (inner t) (put-decimal-at t) put-decimal.Post
 put-decimal-add-out-2 t c = omega arith
 
-put-decimal-cast-out-2 : (t : ℕ) → put-decimal-lts.Need-cast-out-2 (
-  put-decimal-below t,
-  put-decimal.Post,
-) (put-decimal-at t) put-decimal.Post
+put-decimal-cast-out-2 : (t : ℕ) → put-decimal-lts.Need-cast-out-2 (inner t) (put-decimal-at t) put-decimal.Post
 put-decimal-cast-out-2 t c = omega arith
 
-put-decimal-slice-write-out-2 : (t : ℕ) → put-decimal-lts.Need-slice-write-out-2 (
-  put-decimal-below t,
-  put-decimal.Post,
-) (put-decimal-at t) put-decimal.Post
+put-decimal-slice-write-out-2 : (t : ℕ) → put-decimal-lts.Need-slice-write-out-2 (inner t) (put-decimal-at t) put-decimal.Post
 put-decimal-slice-write-out-2 t c =
     let start = c .before .before .before .before .before .before in
     let a = start .args in
     let p = c .before .before .put-decimal in
     room (a .out .now) (a .at) (a .n) (p .result) (p .last .0) (omega arith) (omega arith) (start .pre .1) (p .ensures)
 
-put-decimal-add-result-2 : (t : ℕ) → put-decimal-lts.Need-add-result-2 (
-  put-decimal-below t,
-  put-decimal.Post,
-) (put-decimal-at t) put-decimal.Post
+put-decimal-add-result-2 : (t : ℕ) → put-decimal-lts.Need-add-result-2 (inner t) (put-decimal-at t) put-decimal.Post
 put-decimal-add-result-2 t c = omega (arith, put-decimal-slice-write-out-2 t c)
 
-put-decimal-same-length : (t : ℕ) → put-decimal-lts.Need-same-length (
-  put-decimal-below t,
-  put-decimal.Post,
-) (put-decimal-at t) put-decimal.Post
+put-decimal-same-length : (t : ℕ) → put-decimal-lts.Need-same-length (inner t) (put-decimal-at t) put-decimal.Post
 put-decimal-same-length t c = let a = c .before .before .args in length-set (a .out .now) (a .at) (48 + a .n)
 
-put-decimal-returns : (t : ℕ) → put-decimal-lts.Need-returns (
-  put-decimal-below t,
-  put-decimal.Post,
-) (put-decimal-at t) put-decimal.Post
+put-decimal-returns : (t : ℕ) → put-decimal-lts.Need-returns (inner t) (put-decimal-at t) put-decimal.Post
 put-decimal-returns t c = let a = c .before .before .args in put-small (a .out .now) (a .at) (a .n) (omega arith)
 
-put-decimal-same-length-2 : (t : ℕ) → put-decimal-lts.Need-same-length-2 (
-  put-decimal-below t,
-  put-decimal.Post,
-) (put-decimal-at t) put-decimal.Post
+put-decimal-same-length-2 : (t : ℕ) → put-decimal-lts.Need-same-length-2 (inner t) (put-decimal-at t) put-decimal.Post
 put-decimal-same-length-2 t c =
     let p = c .before .before .put-decimal in
     length-set (p .last .0) (p .result) (48 + c .before .before .before .before .before .before .args .n % 10) ∙ p .kept .0
 
-put-decimal-returns-2 : (t : ℕ) → put-decimal-lts.Need-returns-2 (
-  put-decimal-below t,
-  put-decimal.Post,
-) (put-decimal-at t) put-decimal.Post
+put-decimal-returns-2 : (t : ℕ) → put-decimal-lts.Need-returns-2 (inner t) (put-decimal-at t) put-decimal.Post
 put-decimal-returns-2 t c =
     let a = c .before .before .before .before .before .before .args in
     let p = c .before .before .put-decimal in
     put-more (a .out .now) (a .at) (a .n) (p .result) (p .last .0) (omega arith) (p .ensures)
 
 pub +put-decimal-spec : {M : Type 1} → statement M
-+put-decimal-spec = close μ-put-decimal λ t. put-decimal-lts.spec (
-  put-decimal-below t,
-  put-decimal.Post,
-)
++put-decimal-spec = close μ-put-decimal λ t. put-decimal-lts.spec
+    (inner t)
     (put-decimal-at t)
     put-decimal.Post
     (put-decimal-add-out t)

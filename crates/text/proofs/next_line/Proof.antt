@@ -15,17 +15,17 @@ use base.Logic.{SProp, ent, sep, emp, via, fst∗, snd∗, exE, id⊢}
 use base.Fml.{Lft, Share, Fml, ftrue, flft}
 use prog.Memory.{Memory}
 use prog.Routine.{Routine}
-use prog.Wp.{Heap, Calls, Loops, WpFn, Tables}
+use prog.Wp.{Heap, Calls, Loops, WpFn}
 use ghost.Atoms.{Atoms, sem}
 use contract.Lifetimes.{Lfts}
 use contract.Monad.{Fun, fact}
-use contract.Running.{givenOf, tables, tablesOf}
+use contract.Running.{givenOf, tables}
 use types.Kit.{Given, ‵, raw, _⊛_, given, ⋆, some, later, _$_, _∵_, !, qed, by, move, drop, use1, use2, split, join}
 use types.Kit.{learn, pick, fsplit, fjoin, suffices, frame, await, done}
 use types.Part.{whole, sub, look-in}
 use types.Run.{look, init, forget, stop, fld, from, load, of-opd, and-then, no-more, assigns, land, returns, enter}
 use types.Run.{alloc1, alloc0, params1, pass1, pass0, free1, free0}
-use sound.WpLaws.{FmC, fmOf, WpFn-mono}
+use sound.WpLaws.{FmC}
 use denote.RattleType.{RattleType, owns}
 use denote.Laws.{Is, shows}
 use denote.Plain.{uint-makes}
@@ -42,9 +42,9 @@ use denote.Struct.Values.{Values}
 use denote.Triple.Statement.{Contract, Triple}
 use denote.Triple.Call.{calls-at}
 use denote.Triple.Entry.{Vals, onEntry}
-use denote.Triple.Spec.{Meets, tripleOf}
-use denote.Triple.Table.{entered, cited}
-use denote.Triple.Walked.{says, Stays, stay-none, walkOf, goes-none, Walks, ends-at, walked, walk-meets}
+use denote.Triple.Spec.{tripleOf}
+use denote.Triple.Table.{cited}
+use denote.Triple.Walked.{says, Stays, stay-none, walkOf, goes-none, Walks, ends-at, walked}
 use denote.Exit.{yes}
 use denote.Triple.Clauses.{ensured, lasts}
 use Rattle.text.specs.Lines.{lineAt}
@@ -58,6 +58,7 @@ use Rattle.text.proofs.line_at as line
 use Rattle.text.proofs.line_at.Symbol as line-def
 use Rattle.text.proofs.line_at.Symbol.{name as #text·line-at}
 use Rattle.text.proofs.line_at.Met as line-thm
+use Rattle.text.proofs.Walks.{walk-entered}
 use Rattle.text.proofs.next_line.Key.{name as #text·next-line}
 use Rattle.text.proofs.next_line as next
 use Rattle.text.proofs.next_line.Statement as stated
@@ -186,20 +187,15 @@ module _ {M : Type 1} (𝓤 : URA M) (H : Heap 𝓤) (A : Atoms 𝓤) (W : Given
       (LL.lawful (T.the-type (namedLft 1 0 tt κs)) (T′.the-laws (namedLft 1 0 tt κs)) 𝓤 H A W .typed (a .0) _ (are .0)
       .0)))
 
-next-meets : {M : Type 1} (𝓤 : URA M) (H : Heap 𝓤) (A : Atoms 𝓤) (W : Given 𝓤 H A)
-    (mem : Memory → SProp 𝓤) (run : Routine → Fun 𝓤) (𝓣 : Tables 𝓤 H)
-    → Triple 𝓤 (𝓣 .C #text·line-at) (LineAt 𝓤 H A mem run)
-    → Meets 𝓤 H A next.signature (WpFn 𝓤 H (𝓣 .C) (𝓣 .Λ) code.function) (next.spec 𝓤 H A mem run)
-next-meets 𝓤 H A W mem run 𝓣 known-line = walk-meets 𝓤 H A next.ended stayed
-    W (goes-none 𝓤 H A W 1 B yes (λ κs x f. refl), tt) (next.clauses 𝓤 H A mem run)
-    (WpFn 𝓤 H (𝓣 .C) (𝓣 .Λ) code.function) (WpFn-mono 𝓤 H (W .laws) 𝓣 code.function)
-    (next-walks 𝓤 H A W mem run (𝓣 .C) (𝓣 .Λ) (fmOf 𝓤 H (W .laws) 𝓣) known-line)
-
 pub next-line-spec : {M : Type 1} → stated.statement M
-unfolding code.routine tablesOf
+unfolding code.routine
 next-line-spec 𝓤 H 𝓜 𝓖 𝓡 =
-    entered 𝓤 H (tripleOf 𝓤 H (𝓖 .A) next.signature (next.spec 𝓤 H (𝓖 .A) (𝓜 .mem) (𝓡 .run)))
-    (tables 𝓤 H 𝓜 𝓡 code.env .C) (tables 𝓤 H 𝓜 𝓡 code.env .Λ) #text·next-line code.function (code.unfolded 𝓤 H 𝓜 𝓡)
-    (next-meets 𝓤 H (𝓖 .A) (givenOf 𝓤 H 𝓜 𝓖) (𝓜 .mem) (𝓡 .run) (tablesOf 𝓤 H 𝓜 (tables 𝓤 H 𝓜 𝓡 code.env))
-    (cited 𝓤 H (LineAt 𝓤 H (𝓖 .A) (𝓜 .mem) (𝓡 .run)) 𝓜 𝓡 code.env #text·line-at line-def.routine
-    code.calls-text·line-at (line-thm.met 𝓤 H 𝓜 𝓖 𝓡)))
+    let A = 𝓖 .A in
+    let W = givenOf 𝓤 H 𝓜 𝓖 in
+    let own = tables 𝓤 H 𝓜 𝓡 code.env in
+    walk-entered 𝓤 H 𝓜 𝓖 𝓡 next.ended stayed
+    (goes-none 𝓤 H A W 1 B yes (λ κs x f. refl), tt)
+    (next.clauses 𝓤 H A (𝓜 .mem) (𝓡 .run)) code.env #text·next-line code.function (code.unfolded 𝓤 H 𝓜 𝓡)
+    (λ fm. next-walks 𝓤 H A W (𝓜 .mem) (𝓡 .run) (own .C) (own .Λ) fm
+    (cited 𝓤 H (LineAt 𝓤 H A (𝓜 .mem) (𝓡 .run)) 𝓜 𝓡 code.env #text·line-at line-def.routine code.calls-text·line-at
+    (line-thm.met 𝓤 H 𝓜 𝓖 𝓡)))
