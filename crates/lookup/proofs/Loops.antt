@@ -2,7 +2,7 @@
 -- Each law is the definition's own clause, with the number that the code holds in the place of the successor.
 -- Assumes nothing.
 use mathlib.Core.Bool.{Bool, true, false, cond}
-use mathlib.Core.Path.{_≡_, refl, _∙_}
+use mathlib.Core.Path.{_≡_, refl, sym, _∙_}
 use Prim.Native.Nat.{ℕ, zero, suc, _+_, _-_, _≤_, _<_, suc-le-suc}
 use native.Mathlib.Nat.{le-refl, le-suc, le-step}
 use native.Mathlib.Numerals.{add-one}
@@ -27,6 +27,24 @@ find-miss f q h e = find-turn f q h ∙ rw e
 pub find-none : (f : ℕ → Bool) (q : ℕ) → q ≤ 0 → find f q ≡ 0
 unfolding find
 find-none f q h = let z : q ≡ 0 = omega arith in rw z
+
+-- a search from n down that has come to q
+pub record Finding (f : ℕ → Bool) (n q : ℕ) : Type 0 where
+  pub within : q ≤ n
+  pub same : find f n ≡ find f q
+
+pub finding-all : {f : ℕ → Bool} {n : ℕ} → Finding f n n
+finding-all {n = n} = record { within = le-refl n; same = refl }
+
+module _ {f : ℕ → Bool} {n q : ℕ} (finding : Finding f n q) where
+  pub finding-hit : 0 < q → f (q - 1) ≡ true → (q ≤ n) × (q ≡ find f n)
+  finding-hit h e = (finding .within, sym (finding .same ∙ find-hit f q h e))
+
+  pub finding-miss : 0 < q → f (q - 1) ≡ false → Finding f n (q - 1)
+  finding-miss h e = record { within = omega arith; same = finding .same ∙ find-miss f q h e }
+
+  pub finding-none : q ≤ 0 → (0 ≤ n) × (0 ≡ find f n)
+  finding-none h = (omega arith, sym (finding .same ∙ find-none f q h))
 
 pub find-le : (f : ℕ → Bool) (n : ℕ) → find f n ≤ n
 unfolding find

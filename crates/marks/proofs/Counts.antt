@@ -4,8 +4,9 @@
 use mathlib.Core.Bool.{Bool, true, false, cond, not, _&&_, true≢false, and-eq-true-iff, and-true, and-false}
 use mathlib.Core.Logic.{⊎-elim}
 use mathlib.Core.Path.{_≡_, refl, sym, ap, ap₂, _∙_}
-use Prim.Native.Nat.{ℕ, zero, suc, _≤_, _<_, zero-le}
+use Prim.Native.Nat.{ℕ, zero, suc, _+_, _≤_, _<_, zero-le}
 use native.Mathlib.Nat.{not-suc-le-zero, le-of-suc-le-suc, eq-or-lt-of-le, le-refl, le-suc, le-step, ne-of-lt}
+use native.Mathlib.Numerals.{add-one}
 use native.Mathlib.Omega.{arith}
 use lib.Arith.{lt-of-le-ne}
 use lib.Dec.{eqb}
@@ -24,6 +25,11 @@ pub every-from : (f : ℕ → Bool) (n : ℕ) → ((k : ℕ) → k < n → f k �
 unfolding every
 every-from f zero h = refl
 every-from f (suc n) h = ap₂ _&&_ (every-from f n (λ k l. h k (omega arith))) (h n (omega arith))
+
+-- a loop's test of the numbers passed, and its test of the next one
+pub every-next : (f : ℕ → Bool) (n : ℕ) {all next : Bool} → all ≡ every f n → next ≡ f n → (all && next) ≡ every f (n + 1)
+unfolding every
+every-next f n e g = ap₂ _&&_ e g ∙ ap (every f) (sym (add-one n))
 
 -- one more number adds at most one
 one-more : (t : Bool) (c : ℕ) → cond t (suc c) c ≤ suc c

@@ -7,6 +7,7 @@ use mathlib.Core.List.{List}
 use mathlib.Core.Path.{_≡_, sym, ap, ap₂, _∙_}
 use Prim.Native.Nat.{ℕ, zero, suc, _+_}
 use native.Mathlib.Nat.{add-zero, add-suc}
+use native.Mathlib.Numerals.{add-one}
 use lib.Bits.{bitOr, or-self, or-zero-r}
 use lib.ListN.{drop}
 use lib.Seq.{getD-drop}
@@ -31,6 +32,12 @@ every-more f n zero = and-true (every f n) ∙ ap (every f) (sym (add-zero n))
 every-more f n (suc k) =
     sym (and-assoc (every f n) (every (λ i. f (n + i)) k) (f (n + k)))
     ∙ ap (λ (t : Bool). t && f (n + k)) (every-more f n k) ∙ ap (every f) (sym (add-suc n k))
+
+-- a loop's union of the marks of the rows passed, and those of the next one
+pub marks-next : (loads stores : List ℕ) (n : ℕ) {all next : ℕ} → all ≡ marksBelow loads stores n → next ≡ marksOf loads stores n
+    → bitOr all next ≡ marksBelow loads stores (n + 1)
+unfolding marksBelow
+marks-next loads stores n e g = ap₂ bitOr e g ∙ ap (marksBelow loads stores) (sym (add-one n))
 
 module _ (loads stores : List ℕ) (n : ℕ) where
   -- the marks of the i-th row from row n on

@@ -1,24 +1,21 @@
 -- `lookup::free_row` meets its contract. The loop's invariant: the search below `rows` finds what the search below `i`
 -- finds. A turn looks at place i - 1 of the bank; its row is an index of the arrays.
 -- Assumes nothing.
-use mathlib.Core.Path.{_≡_, refl, sym, _∙_}
-use Prim.Native.Nat.{_≤_}
 use native.Mathlib.Omega.{arith}
 use borrow.Author.Tests.{eq-eqb, ne-eqb}
-use Rattle.lookup.specs.computed.Search.{find, free}
-use Rattle.lookup.proofs.Loops.{find-hit, find-miss, find-none}
+use Rattle.lookup.specs.computed.Search.{free}
+use Rattle.lookup.proofs.Loops.{Finding, finding-all, finding-hit, finding-miss, finding-none}
 use Rattle.lookup.proofs.free_row.Statement.{statement}
 use Rattle.lookup.proofs.free_row.Tie as tie
 
 abbrev Inv-loop : tie.InvT-loop
-Inv-loop rows loads stores b i₀ i =
-    (i ≤ rows) × (find (free loads stores b) rows ≡ find (free loads stores b) i)
+Inv-loop rows loads stores b i₀ i = Finding (free loads stores b) rows i
 
 abbrev μ-loop : tie.MeasureT-loop
 μ-loop rows loads stores b i₀ i = i
 
 loop-holds : tie.Need-loop-holds Inv-loop μ-loop
-loop-holds c = (omega arith, refl)
+loop-holds c = finding-all
 
 mul-r : tie.Need-mul-r Inv-loop μ-loop
 mul-r c = omega arith
@@ -42,11 +39,7 @@ element-copy-out-if1-2 : tie.Need-element-copy-out-if1-2 Inv-loop μ-loop
 element-copy-out-if1-2 c = omega arith
 
 returns : tie.Need-returns Inv-loop μ-loop
-returns c =
-    let at = c .before .before .before .before .loop in
-    let args = c .before .before .before .before .before .args in
-    let f = free (args .loads .now) (args .stores .now) (args .b) in
-    (omega arith, sym (at .inv .1 ∙ find-hit f (at .i) (omega arith) (eq-eqb _ _ (c .if1 .taken))))
+returns c = finding-hit (c .before .before .before .before .loop .inv) (omega arith) (eq-eqb _ _ (c .if1 .taken))
 
 sub-i : tie.Need-sub-i Inv-loop μ-loop
 sub-i c = omega arith
@@ -55,18 +48,10 @@ loop-less : tie.Need-loop-less Inv-loop μ-loop
 loop-less c = omega arith
 
 loop-again : tie.Need-loop-again Inv-loop μ-loop
-loop-again c =
-    let at = c .before .before .before .before .loop in
-    let args = c .before .before .before .before .before .args in
-    let f = free (args .loads .now) (args .stores .now) (args .b) in
-    (omega arith, at .inv .1 ∙ find-miss f (at .i) (omega arith) (ne-eqb _ _ (c .if1 .left)))
+loop-again c = finding-miss (c .before .before .before .before .loop .inv) (omega arith) (ne-eqb _ _ (c .if1 .left))
 
 returns-2 : tie.Need-returns-2 Inv-loop μ-loop
-returns-2 c =
-    let at = c .before .loop in
-    let args = c .before .before .args in
-    let f = free (args .loads .now) (args .stores .now) (args .b) in
-    (omega arith, sym (at .inv .1 ∙ find-none f (at .i) (omega arith)))
+returns-2 c = finding-none (c .before .loop .inv) (omega arith)
 
 pub free-row-spec : {M : Type 1} → statement M
 free-row-spec =

@@ -2,24 +2,23 @@
 -- `q` finds. A turn looks at position q - 1, whose stage is a bit of the word.
 -- Assumes nothing.
 use mathlib.Core.Bool.{true, false}
-use mathlib.Core.Path.{_≡_, refl, sym, _∙_}
-use Prim.Native.Nat.{_-_, _≤_}
+use mathlib.Core.Path.{_≡_}
+use Prim.Native.Nat.{_-_}
 use native.Mathlib.Omega.{arith}
 use Rattle.marks.proofs.Turns.{stage-lt}
-use Rattle.lookup.specs.computed.Search.{nearest, marked}
-use Rattle.lookup.proofs.Loops.{find-hit, find-miss, find-none}
+use Rattle.lookup.specs.computed.Search.{marked}
+use Rattle.lookup.proofs.Loops.{Finding, finding-all, finding-hit, finding-miss, finding-none}
 use Rattle.lookup.proofs.nearest_store.Statement.{statement}
 use Rattle.lookup.proofs.nearest_store.Tie as tie
 
 abbrev Inv-loop : tie.InvT-loop
-Inv-loop oldest stages stores p q₀ q =
-    (q ≤ p) × (nearest oldest stages stores p ≡ nearest oldest stages stores q)
+Inv-loop oldest stages stores p q₀ q = Finding (marked oldest stages stores) p q
 
 abbrev μ-loop : tie.MeasureT-loop
 μ-loop oldest stages stores p q₀ q = q
 
 loop-holds : tie.Need-loop-holds Inv-loop μ-loop
-loop-holds c = (omega arith, refl)
+loop-holds c = finding-all
 
 sub-stage-at : tie.Need-sub-stage-at Inv-loop μ-loop
 sub-stage-at c = omega arith
@@ -38,7 +37,7 @@ returns c =
     let args = c .before .before .before .before .before .args in
     let f = marked (args .oldest) (args .stages) (args .stores) in
     let e : f (at .q - 1) ≡ true = cc in
-    sym (at .inv .1 ∙ find-hit f (at .q) (omega arith) e)
+    finding-hit (at .inv) (omega arith) e .1
 
 sub-q : tie.Need-sub-q Inv-loop μ-loop
 sub-q c = omega arith
@@ -52,13 +51,10 @@ loop-again c =
     let args = c .before .before .before .before .before .args in
     let f = marked (args .oldest) (args .stages) (args .stores) in
     let e : f (at .q - 1) ≡ false = cc in
-    (omega arith, at .inv .1 ∙ find-miss f (at .q) (omega arith) e)
+    finding-miss (at .inv) (omega arith) e
 
 returns-2 : tie.Need-returns-2 Inv-loop μ-loop
-returns-2 c =
-    let at = c .before .loop in
-    let args = c .before .before .args in
-    sym (at .inv .1 ∙ find-none (marked (args .oldest) (args .stages) (args .stores)) (at .q) (omega arith))
+returns-2 c = finding-none (c .before .loop .inv) (omega arith) .1
 
 pub nearest-store-spec : {M : Type 1} → statement M
 nearest-store-spec =

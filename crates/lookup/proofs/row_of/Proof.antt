@@ -1,23 +1,20 @@
 -- `lookup::row_of` meets its contract. The loop's invariant: the search below `rows` finds what the search below `i`
 -- finds. The test of a turn is the definition's own at place i - 1.
 -- Assumes nothing.
-use mathlib.Core.Path.{_≡_, refl, sym, _∙_}
-use Prim.Native.Nat.{_≤_}
 use native.Mathlib.Omega.{arith}
-use Rattle.lookup.specs.computed.Search.{belongs, rowOf}
-use Rattle.lookup.proofs.Loops.{find-hit, find-miss, find-none}
+use Rattle.lookup.specs.computed.Search.{belongs}
+use Rattle.lookup.proofs.Loops.{Finding, finding-all, finding-hit, finding-miss, finding-none}
 use Rattle.lookup.proofs.row_of.Statement.{statement}
 use Rattle.lookup.proofs.row_of.Tie as tie
 
 abbrev Inv-loop : tie.InvT-loop
-Inv-loop rows addresses loads stores b a i₀ i =
-    (i ≤ rows) × (rowOf rows addresses loads stores b a ≡ rowOf i addresses loads stores b a)
+Inv-loop rows addresses loads stores b a i₀ i = Finding (belongs addresses loads stores b a) rows i
 
 abbrev μ-loop : tie.MeasureT-loop
 μ-loop rows addresses loads stores b a i₀ i = i
 
 loop-holds : tie.Need-loop-holds Inv-loop μ-loop
-loop-holds c = (omega arith, refl)
+loop-holds c = finding-all
 
 mul-r : tie.Need-mul-r Inv-loop μ-loop
 mul-r c = omega arith
@@ -47,11 +44,7 @@ element-copy-out-if1-3 : tie.Need-element-copy-out-if1-3 Inv-loop μ-loop
 element-copy-out-if1-3 c = omega arith
 
 returns : tie.Need-returns Inv-loop μ-loop
-returns c =
-    let at = c .before .before .before .before .before .loop in
-    let args = c .before .before .before .before .before .before .args in
-    let f = belongs (args .addresses .now) (args .loads .now) (args .stores .now) (args .b) (args .a) in
-    (omega arith, sym (at .inv .1 ∙ find-hit f (at .i) (omega arith) (c .if1 .taken)))
+returns c = finding-hit (c .before .before .before .before .before .loop .inv) (omega arith) (c .if1 .taken)
 
 sub-i : tie.Need-sub-i Inv-loop μ-loop
 sub-i c = omega arith
@@ -60,18 +53,10 @@ loop-less : tie.Need-loop-less Inv-loop μ-loop
 loop-less c = omega arith
 
 loop-again : tie.Need-loop-again Inv-loop μ-loop
-loop-again c =
-    let at = c .before .before .before .before .before .loop in
-    let args = c .before .before .before .before .before .before .args in
-    let f = belongs (args .addresses .now) (args .loads .now) (args .stores .now) (args .b) (args .a) in
-    (omega arith, at .inv .1 ∙ find-miss f (at .i) (omega arith) (c .if1 .left))
+loop-again c = finding-miss (c .before .before .before .before .before .loop .inv) (omega arith) (c .if1 .left)
 
 returns-2 : tie.Need-returns-2 Inv-loop μ-loop
-returns-2 c =
-    let at = c .before .loop in
-    let args = c .before .before .args in
-    let f = belongs (args .addresses .now) (args .loads .now) (args .stores .now) (args .b) (args .a) in
-    (omega arith, sym (at .inv .1 ∙ find-none f (at .i) (omega arith)))
+returns-2 c = finding-none (c .before .loop .inv) (omega arith)
 
 pub row-of-spec : {M : Type 1} → statement M
 row-of-spec =

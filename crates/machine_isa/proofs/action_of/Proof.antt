@@ -1,10 +1,5 @@
 -- `machine_isa::action_of` meets its contract: each arm by the instruction that it matched and by what the sum is.
 -- Assumes nothing.
-use mathlib.Core.Path.{sym, ap, _∙_}
-use Prim.Native.Nat.{ℕ}
-use Rattle.machine_model.specs.declared.Instruction.{Instruction}
-use Rattle.engine.specs.declared.Action.the-variants.{Compute, LoadAt, StoreAt}
-use Rattle.machine_model.specs.computed.Parts.{actionOf}
 use borrow.Author.Needs.{needs}
 use Rattle.machine_isa.proofs.action_of.Statement.{statement}
 use Rattle.machine_isa.proofs.action_of.Tie as tie
@@ -34,28 +29,16 @@ wrapping-add-u32-requires-4 : tie.Need-wrapping-add-u32-requires-4
 wrapping-add-u32-requires-4 c κs = search needs
 
 returns : tie.Need-returns
-returns c =
-    let args = c .before .before .before .before .args in
-    ap Compute (c .wrapping-add-u32 .ensures)
-    ∙ ap (λ (i : Instruction). actionOf i (args .x) (args .y)) (sym (c .before .before .i .given .1))
+returns c = rw (c .before .before .i .given .1, c .wrapping-add-u32 .ensures)
 
 returns-2 : tie.Need-returns-2
-returns-2 c =
-    let args = c .before .before .before .args in
-    ap Compute (c .wrapping-add-u322 .ensures)
-    ∙ ap (λ (i : Instruction). actionOf i (args .x) (args .y)) (sym (c .before .enum-told .given .1))
+returns-2 c = rw (c .before .enum-told .given .1, c .wrapping-add-u322 .ensures)
 
 returns-3 : tie.Need-returns-3
-returns-3 c =
-    let args = c .before .before .before .before .args in
-    ap LoadAt (c .wrapping-add-u323 .ensures)
-    ∙ ap (λ (i : Instruction). actionOf i (args .x) (args .y)) (sym (c .before .before .i2 .given .1))
+returns-3 c = rw (c .before .before .i2 .given .1, c .wrapping-add-u323 .ensures)
 
 returns-4 : tie.Need-returns-4
-returns-4 c =
-    let args = c .before .before .before .before .args in
-    ap (λ (a : ℕ). StoreAt a (args .y)) (c .wrapping-add-u324 .ensures)
-    ∙ ap (λ (i : Instruction). actionOf i (args .x) (args .y)) (sym (c .before .before .i3 .given .1))
+returns-4 c = rw (c .before .before .i3 .given .1, c .wrapping-add-u324 .ensures)
 
 pub action-of-spec : {M : Type 1} → statement M
 action-of-spec =

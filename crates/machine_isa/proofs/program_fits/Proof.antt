@@ -1,14 +1,13 @@
 -- `machine_isa::program_fits` meets its contract. The loop's invariant: `fit` is the test over the i instructions passed. Of
 -- a whole number of instructions the one at i has its four numbers below the length. The measure is the number left.
 -- Assumes nothing.
-use mathlib.Core.Path.{_≡_, refl, ap, ap₂, sym, _∙_}
-use mathlib.Core.Bool.{_&&_}
+use mathlib.Core.Path.{_≡_, refl, ap, _∙_}
 use Prim.Native.Nat.{_-_, _%_, _≤_}
-use native.Mathlib.Numerals.{add-one}
 use native.Mathlib.Omega.{arith}
 use lib.ListN.{length}
 use borrow.Author.Tests.{eq-eqb, ne-eqb}
 use Rattle.marks.specs.Counting.{every}
+use Rattle.marks.proofs.Counts.{every-next}
 use Rattle.machine_model.specs.Program.{wellFormedAt, programFits}
 use Rattle.machine_isa.proofs.program_fits.Statement.{statement}
 use Rattle.machine_isa.proofs.program_fits.Tie as tie
@@ -73,14 +72,11 @@ loop-less : tie.Need-loop-less Inv-loop μ-loop
 loop-less c = omega arith
 
 loop-again : tie.Need-loop-again Inv-loop μ-loop
-unfolding every
 loop-again c =
     let here = c .before .before .before .before .before .before in
     let at = here .loop in
-    let test = wellFormedAt (here .before .before .before .args .program .now) in (
-      omega arith,
-      ap₂ _&&_ {v = test (at .i)} (at .inv .1) (c .well-formed .ensures) ∙ ap (every test) (sym (add-one (at .i))),
-    )
+    let program = here .before .before .before .args .program .now in
+    (omega arith, every-next (wellFormedAt program) (at .i) (at .inv .1) (c .well-formed .ensures))
 
 returns-2 : tie.Need-returns-2 Inv-loop μ-loop
 unfolding programFits

@@ -1,11 +1,10 @@
 -- `table::address_alone` meets its contract. The loop's invariant: `alone` is the test over the k rows passed.
 -- The measure is the number of rows left. Assumes nothing.
-use mathlib.Core.Path.{_≡_, refl, ap, sym, _∙_}
-use mathlib.Core.Bool.{Bool, _&&_}
+use mathlib.Core.Path.{_≡_, refl, ap, _∙_}
 use Prim.Native.Nat.{_-_, _≤_}
-use native.Mathlib.Numerals.{add-one}
 use native.Mathlib.Omega.{arith}
 use Rattle.marks.specs.Counting.{every}
+use Rattle.marks.proofs.Counts.{every-next}
 use Rattle.table.specs.computed.Check.{otherAddress}
 use Rattle.table.proofs.address_alone.Statement.{statement}
 use Rattle.table.proofs.address_alone.Tie as tie
@@ -52,12 +51,11 @@ loop-less : tie.Need-loop-less Inv-loop μ-loop
 loop-less c = omega arith
 
 loop-again : tie.Need-loop-again Inv-loop μ-loop
-unfolding every
 loop-again c =
     let at = c .before .before .before .before .loop in
     let args = c .before .before .before .before .before .args in
     let test = otherAddress (args .addresses .now) (args .loads .now) (args .stores .now) (args .b) (args .a) in
-    (omega arith, ap (λ (t : Bool). t && test (at .k)) (at .inv .1) ∙ ap (every test) (sym (add-one (at .k))))
+    (omega arith, every-next test (at .k) (at .inv .1) refl)
 
 returns : tie.Need-returns Inv-loop μ-loop
 returns c = c .before .loop .inv .1 ∙ ap (every _) (omega arith)

@@ -1,15 +1,15 @@
 -- `table::bank_fits` meets its contract. The loop's invariant: `fit` is the test over the bank's first i rows, and `marked`
 -- the set of the stages that they and the rows before the bank mark, which the next row's test asks for. The measure is
 -- the number of rows left. Assumes nothing.
-use mathlib.Core.Path.{_≡_, refl, ap, ap₂, sym, _∙_}
-use mathlib.Core.Bool.{Bool, _&&_}
-use Prim.Native.Nat.{ℕ, suc, _+_, _*_, _-_, _≤_}
-use native.Mathlib.Numerals.{add-one}
+use mathlib.Core.Path.{_≡_, refl, ap, _∙_}
+use mathlib.Core.Bool.{Bool}
+use Prim.Native.Nat.{ℕ, _+_, _*_, _-_, _≤_}
 use native.Mathlib.Omega.{arith}
-use lib.Bits.{bitOr}
 use Rattle.marks.specs.Counting.{every}
+use Rattle.marks.proofs.Counts.{every-next}
 use Rattle.table.specs.Limits.{rowsMost}
-use Rattle.table.specs.computed.Check.{marksOf, marksBelow, rowFits}
+use Rattle.table.specs.computed.Check.{marksBelow, rowFits}
+use Rattle.table.proofs.Banked.{marks-next}
 use Rattle.table.proofs.bank_fits.Statement.{statement}
 use Rattle.table.proofs.bank_fits.Tie as tie
 
@@ -53,7 +53,6 @@ loop-less : tie.Need-loop-less Inv-loop μ-loop
 loop-less c = omega arith
 
 loop-again : tie.Need-loop-again Inv-loop μ-loop
-unfolding every marksBelow
 loop-again c =
     let at = c .before .before .before .before .loop in
     let args = c .before .before .before .before .before .args in
@@ -63,10 +62,8 @@ loop-again c =
     let fits = rowFits (args .banks) (args .rows) (args .allowed) (args .addresses .now) loads stores in
     let test : ℕ → Bool = λ k. fits (args .b * rowsMost + k) in (
       omega arith,
-      ap₂ _&&_ {v = test (at .i)} (at .inv .1) (c .before .before .row-fits .ensures)
-          ∙ ap (every test) (sym (add-one (at .i))),
-      ap (λ (w : ℕ). bitOr w (marksOf loads stores r)) (at .inv .2)
-          ∙ ap (marksBelow loads stores) {x = suc r} {y = args .b * rowsMost + (at .i + 1)} (omega arith),
+      every-next test (at .i) (at .inv .1) (c .before .before .row-fits .ensures),
+      marks-next loads stores r (at .inv .2) refl ∙ ap (marksBelow loads stores) (omega arith),
     )
 
 returns : tie.Need-returns Inv-loop μ-loop

@@ -1,14 +1,12 @@
 -- `table::bank_marks` meets its contract. The loop's invariant: `all` is the set of the stages that the bank's first i
 -- rows mark, the arrays seen from the bank's first row on. The measure is the number of rows left. Assumes nothing.
-use mathlib.Core.Path.{_≡_, refl, ap, ap₂, sym, _∙_}
+use mathlib.Core.Path.{_≡_, refl, ap, sym, _∙_}
 use Prim.Native.Nat.{_*_, _-_, _≤_}
-use native.Mathlib.Numerals.{add-one}
 use native.Mathlib.Omega.{arith}
-use lib.Bits.{bitOr}
 use lib.ListN.{drop}
 use Rattle.table.specs.Limits.{rowsMost}
 use Rattle.table.specs.computed.Check.{marksBelow}
-use Rattle.table.proofs.Banked.{marks-from}
+use Rattle.table.proofs.Banked.{marks-next, marks-from}
 use Rattle.table.proofs.bank_marks.Statement.{statement}
 use Rattle.table.proofs.bank_marks.Tie as tie
 
@@ -48,17 +46,14 @@ loop-less : tie.Need-loop-less Inv-loop μ-loop
 loop-less c = omega arith
 
 loop-again : tie.Need-loop-again Inv-loop μ-loop
-unfolding marksBelow
 loop-again c =
     let at = c .before .before .before .loop in
     let args = c .before .before .before .before .args in
     let loads = args .loads .now in
     let stores = args .stores .now in
-    let first = args .b * rowsMost in (
-      omega arith,
-      ap₂ bitOr (at .inv .1) (sym (marks-from loads stores first (at .i)))
-          ∙ ap (marksBelow (drop first loads) (drop first stores)) (sym (add-one (at .i))),
-    )
+    let first = args .b * rowsMost in
+    let row = sym (marks-from loads stores first (at .i)) in
+    (omega arith, marks-next (drop first loads) (drop first stores) (at .i) (at .inv .1) row)
 
 returns : tie.Need-returns Inv-loop μ-loop
 returns c = c .before .loop .inv .1 ∙ ap (marksBelow _ _) (omega arith)
