@@ -10,7 +10,7 @@ use lib.ListN.{length}
 use borrow.Author.Tests.{leb-true}
 use Rattle.engine.specs.Contract.{Answer}
 use Rattle.mixes.specs.declared.Tally.{Tally}
-use Rattle.mixes.specs.computed.Turns.{listed, Tells, summed, numbers, answered, Turns, Turn, Mixed}
+use Rattle.mixes.specs.computed.Turns.{listed, Tallies, summed, numbersIn, answered, Turns, Turn, Mixed}
 
 -- `turns` of them from x₀, of which `left` are left at x
 pub record Remains {X : Type 0} (Step : ℕ → X → X → Type 0) (turns : ℕ) (x₀ : X) (left : ℕ) (x : X) : Type 0 where
@@ -38,7 +38,7 @@ module _ {X : Type 0} {Step : ℕ → X → X → Type 0} {turns left : ℕ} {x�
   remains-none ended = remains .whole x (subst (λ (n : ℕ). Turns Step n x x) (sym ended) refl)
 
 -- what is held to be these numbers lists them
-pub told-list : (n : Tally) (l : List ℕ) → Tells n l → listed n ≡ l
+pub told-list : (n : Tally) (l : List ℕ) → Tallies n l → listed n ≡ l
 told-list n [] t = rw (t .count)
 told-list n (a ∷ []) t = rw (t .count, t .first)
 told-list n (a ∷ b ∷ []) t = rw (t .count, t .first, t .second)
@@ -48,8 +48,8 @@ told-list n (a ∷ b ∷ c ∷ d ∷ e ∷ l) t = absurd (omega (arith, leb-true
 
 -- the checksum with an answer, by the numbers that were made of it
 pub tallied : {N : Type 0} (name : N → List ℕ) (said : Answer N) {n : Tally} (sum : ℕ) {s : ℕ}
-    → Tells n (numbers name said) → s ≡ summed sum (listed n) → s ≡ answered name sum said
-tallied name said {n} sum told counted = counted ∙ ap (summed sum) (told-list n (numbers name said) told)
+    → Tallies n (numbersIn name said) → s ≡ summed sum (listed n) → s ≡ answered name sum said
+tallied name said {n} sum told counted = counted ∙ ap (summed sum) (told-list n (numbersIn name said) told)
 
 -- the same of an engine's turns, with a memory as long as the one lent
 pub record Mixing {S N : Type 0} (name : N → List ℕ) (Does : S → List ℕ → Answer N → S → List ℕ → Type 0) (when turns : ℕ)
@@ -77,7 +77,7 @@ module _
   where
     -- a turn with a call
     pub mixing-called : {said : Answer N} {u : S} {v : List ℕ} {n : Tally} {s : ℕ}
-        → 0 < left → length v ≡ length m → Does t m said u v → Tells n (numbers name said) → s ≡ summed sum (listed n)
+        → 0 < left → length v ≡ length m → Does t m said u v → Tallies n (numbersIn name said) → s ≡ summed sum (listed n)
         → Mixing name Does when turns t₀ memory₀ sum₀ (left - 1) u v s
     mixing-called {said} some as-long does told counted =
         record {
@@ -94,7 +94,7 @@ module _
 
     -- an opening before them, and every turn made
     pub mixed : {Opens : Answer N → S → Type 0} {n : Tally} (said : Answer N)
-        → left ≡ 0 → Opens said t₀ → Tells n (numbers name said) → sum₀ ≡ summed 0 (listed n)
+        → left ≡ 0 → Opens said t₀ → Tallies n (numbersIn name said) → sum₀ ≡ summed 0 (listed n)
         → Mixed name Opens Does when turns memory₀ m sum
     mixed said ended opens told counted =
         record {

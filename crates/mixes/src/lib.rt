@@ -5,8 +5,10 @@ use table::SLOTS;
 use table::STAGES;
 use table::Table;
 ghost use mathlib.Core.Path.{_≡_};
-ghost use Prim.Native.Nat.{_+_, _*_, _/_, _%_};
+ghost use mathlib.Core.Logic.{_⊎_};
+ghost use Prim.Native.Nat.{_+_, _*_, _/_, _%_, _<_};
 ghost use lib.Bits.{bitAnd};
+ghost use Rattle.table.specs.Limits.{stagesMost};
 ghost use Rattle.mixes.specs.computed.Turns.{added, summed, listed};
 
 // The next state of the generator, which is linear congruential modulo 2^31.
@@ -63,6 +65,36 @@ pub fn address_drawn(drawn: usize) -> u32
     ensures { λ r. ⌜ r ≡ bitAnd drawn (drawn / 16) % 16 * 5 ⌝ }
 {
     ((drawn & (drawn / 16)) % 16 * 5) as u32
+}
+
+// The stage at position `p`; of a table that breaks its rules any stage will do.
+pub fn stage_drawn(oldest: usize, stages: usize, p: usize) -> usize
+    ensures { λ r. ⌜ r < stagesMost ⌝ }
+{
+    if stages == 0 {
+        return 0;
+    }
+    std::num::wrapping_add_usize(oldest, p) % stages % STAGES
+}
+
+// The position to execute or squash: the drawn one, or the oldest where it has executed or none is live.
+pub fn position_drawn(
+    oldest: usize,
+    stages: usize,
+    live: usize,
+    executed: u32,
+    drawn: usize,
+) -> usize
+    ensures { λ r. ⌜ (r ≡ 0) ⊎ (r < live) ⌝ }
+{
+    if live == 0 {
+        return 0;
+    }
+    let p = drawn % live;
+    if (executed >> stage_drawn(oldest, stages, p)) % 2 == 1 {
+        return 0;
+    }
+    p
 }
 
 // A table with one number changed, which mostly breaks a rule. Sizes only grow: rows that a smaller size

@@ -8,12 +8,12 @@ use table::STAGES;
 use table::Ticket;
 ghost use mathlib.Core.Path.{_≡_};
 ghost use Rattle.buffer_model.specs.Answers as buffer;
-ghost use Rattle.mixes.specs.computed.Turns.{Tells, numbers};
+ghost use Rattle.mixes.specs.computed.Turns.{Tallies, numbersIn};
 ghost use Rattle.mixes_buffer.specs.computed.Turns.{ticketed, BufferTurns};
 
 // The numbers of an answer: a refusal's number, or 100 and what the answer carries.
 fn done_tally(answer: buffer::DoneAnswer) -> Tally
-    ensures { λ r. ⌜ Tells r (numbers ticketed (buffer.doneSays answer)) ⌝ }
+    ensures { λ r. ⌜ Tallies r (numbersIn ticketed (buffer.doneSays answer)) ⌝ }
 {
     match answer {
         buffer::DoneAnswer::Refused(k) => Tally(1, k as u64, 0, 0, 0),
@@ -22,7 +22,7 @@ fn done_tally(answer: buffer::DoneAnswer) -> Tally
 }
 
 fn named_tally(answer: buffer::TicketAnswer) -> Tally
-    ensures { λ r. ⌜ Tells r (numbers ticketed (buffer.ticketSays answer)) ⌝ }
+    ensures { λ r. ⌜ Tallies r (numbersIn ticketed (buffer.ticketSays answer)) ⌝ }
 {
     match answer {
         buffer::TicketAnswer::Refused(k) => Tally(1, k as u64, 0, 0, 0),
@@ -31,7 +31,7 @@ fn named_tally(answer: buffer::TicketAnswer) -> Tally
 }
 
 fn executed_tally(answer: buffer::ExecuteAnswer) -> Tally
-    ensures { λ r. ⌜ Tells r (numbers ticketed (buffer.executeSays answer)) ⌝ }
+    ensures { λ r. ⌜ Tallies r (numbersIn ticketed (buffer.executeSays answer)) ⌝ }
 {
     match answer {
         buffer::ExecuteAnswer::Refused(k) => Tally(1, k as u64, 0, 0, 0),
@@ -44,21 +44,6 @@ fn executed_tally(answer: buffer::ExecuteAnswer) -> Tally
     }
 }
 
-// The stage to execute: at the drawn position, or the oldest where that one has executed or none is live.
-fn stage_drawn(oldest: usize, stages: usize, live: usize, executed: u32, drawn: usize) -> usize {
-    if stages == 0 {
-        return 0;
-    }
-    if live == 0 {
-        return oldest % STAGES;
-    }
-    let s = std::num::wrapping_add_usize(oldest, drawn % live) % stages % STAGES;
-    if (executed >> s) % 2 == 1 {
-        return oldest % STAGES;
-    }
-    s
-}
-
 // A ticket for an execution or a squash: a live one, one time in sixteen with another number.
 fn ticket_drawn(
     oldest: usize,
@@ -68,7 +53,8 @@ fn ticket_drawn(
     numbers: [u32; STAGES],
     drawn: usize,
 ) -> Ticket {
-    let stage = stage_drawn(oldest, stages, live, executed, drawn / 16);
+    let p = mixes::position_drawn(oldest, stages, live, executed, drawn / 16);
+    let stage = mixes::stage_drawn(oldest, stages, p);
     let number = numbers[stage % STAGES];
     if drawn % 16 == 0 {
         return Ticket {

@@ -9,12 +9,12 @@ use table::STAGES;
 ghost use mathlib.Core.Path.{_≡_};
 ghost use Prim.Native.Nat.{ℕ};
 ghost use Rattle.machine_model.specs.Contract as machine;
-ghost use Rattle.mixes.specs.computed.Turns.{Tells, numbers};
+ghost use Rattle.mixes.specs.computed.Turns.{Tallies, numbersIn};
 ghost use Rattle.mixes_machine.specs.computed.Turns.{placed, MachineTurns, Runs};
 
 // The numbers of an answer: a refusal's number, or 100 and what the answer carries; of a commit its four.
 fn done_tally(answer: machine::DoneAnswer) -> Tally
-    ensures { λ r. ⌜ Tells r (numbers placed (machine.doneSays answer)) ⌝ }
+    ensures { λ r. ⌜ Tallies r (numbersIn placed (machine.doneSays answer)) ⌝ }
 {
     match answer {
         machine::DoneAnswer::Refused(k) => Tally(1, k as u64, 0, 0, 0),
@@ -23,7 +23,7 @@ fn done_tally(answer: machine::DoneAnswer) -> Tally
 }
 
 fn issued_tally(answer: machine::IssueAnswer) -> Tally
-    ensures { λ r. ⌜ Tells r (numbers placed (machine.issueSays answer)) ⌝ }
+    ensures { λ r. ⌜ Tallies r (numbersIn placed (machine.issueSays answer)) ⌝ }
 {
     match answer {
         machine::IssueAnswer::Refused(k) => Tally(1, k as u64, 0, 0, 0),
@@ -32,7 +32,7 @@ fn issued_tally(answer: machine::IssueAnswer) -> Tally
 }
 
 fn executed_tally(answer: machine::ExecuteAnswer) -> Tally
-    ensures { λ r. ⌜ Tells r (numbers placed (machine.executeSays answer)) ⌝ }
+    ensures { λ r. ⌜ Tallies r (numbersIn placed (machine.executeSays answer)) ⌝ }
 {
     match answer {
         machine::ExecuteAnswer::Refused(k) => Tally(1, k as u64, 0, 0, 0),
@@ -44,7 +44,7 @@ fn executed_tally(answer: machine::ExecuteAnswer) -> Tally
 }
 
 fn committed_tally(answer: machine::CommitAnswer) -> Tally
-    ensures { λ r. ⌜ Tells r (numbers placed (machine.commitSays answer)) ⌝ }
+    ensures { λ r. ⌜ Tallies r (numbersIn placed (machine.commitSays answer)) ⌝ }
 {
     match answer {
         machine::CommitAnswer::Refused(k) => Tally(1, k as u64, 0, 0, 0),
@@ -55,28 +55,12 @@ fn committed_tally(answer: machine::CommitAnswer) -> Tally
 }
 
 fn finished_tally(answer: machine::FinishAnswer) -> Tally
-    ensures { λ r. ⌜ Tells r (numbers placed (machine.finishSays answer)) ⌝ }
+    ensures { λ r. ⌜ Tallies r (numbersIn placed (machine.finishSays answer)) ⌝ }
 {
     match answer {
         machine::FinishAnswer::Refused(k) => Tally(1, k as u64, 0, 0, 0),
         machine::FinishAnswer::Finished(n) => Tally(2, 100, n as u64, 0, 0),
     }
-}
-
-// The position to execute or squash: the drawn one, or the oldest where it has executed or none is live.
-fn position_drawn(oldest: usize, stages: usize, live: usize, executed: u32, drawn: usize) -> usize {
-    if stages == 0 {
-        return 0;
-    }
-    if live == 0 {
-        return 0;
-    }
-    let p = drawn % live;
-    let s = std::num::wrapping_add_usize(oldest, p) % stages % STAGES;
-    if (executed >> s) % 2 == 1 {
-        return 0;
-    }
-    p
 }
 
 // An entry with one part changed.
@@ -188,7 +172,7 @@ pub extern "C" fn mixes_machine(
             sum = mixes::with_all(sum, committed_tally(said));
             continue;
         }
-        let p = position_drawn(
+        let p = mixes::position_drawn(
             t.oldest,
             t.stages,
             t.live,

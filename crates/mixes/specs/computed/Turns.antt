@@ -28,7 +28,7 @@ abbrev pub listed : Tally → List ℕ
 listed n = take (n .0) (n .1 ∷ n .2 ∷ n .3 ∷ n .4 ∷ [])
 
 -- that they are these
-pub record Tells (n : Tally) (l : List ℕ) : Type 0 where
+pub record Tallies (n : Tally) (l : List ℕ) : Type 0 where
   pub count : n .0 ≡ length l
   pub few : leb (length l) 4 ≡ true
   pub first : n .1 ≡ getD l 0 0
@@ -38,20 +38,20 @@ pub record Tells (n : Tally) (l : List ℕ) : Type 0 where
 
 -- An answer's numbers: a refusal's number, or 100 and what the answer carries; of the machine's commit its four. `name` has
 -- those of a reference's name.
-abbrev pub numbers : {N : Type 0} → (N → List ℕ) → Answer N → List ℕ
-numbers name (refused k) = k ∷ []
-numbers name done = 100 ∷ []
-numbers name (named x) = 100 ∷ name x
-numbers name (executed v none) = 100 ∷ v ∷ []
-numbers name (executed v (some x)) = 100 ∷ v ∷ name x
-numbers name (committed i c r v) = i ∷ c ∷ r ∷ v ∷ []
-numbers name (finished n) = 100 ∷ n ∷ []
+abbrev pub numbersIn : {N : Type 0} → (N → List ℕ) → Answer N → List ℕ
+numbersIn name (refused k) = k ∷ []
+numbersIn name done = 100 ∷ []
+numbersIn name (named x) = 100 ∷ name x
+numbersIn name (executed v none) = 100 ∷ v ∷ []
+numbersIn name (executed v (some x)) = 100 ∷ v ∷ name x
+numbersIn name (committed i c r v) = i ∷ c ∷ r ∷ v ∷ []
+numbersIn name (finished n) = 100 ∷ n ∷ []
 
 -- with an answer
 abbrev pub answered : {N : Type 0} → (N → List ℕ) → ℕ → Answer N → ℕ
-answered name sum said = summed sum (numbers name said)
+answered name sum said = summed sum (numbersIn name said)
 
--- ---- turns of a mix, which is at a place X: `Step` says what a turn does after which so many are left
+-- ---- turns of a mix, which stands at some x of X: `Step` says what a turn does after which so many are left
 
 -- a turn, with what follows
 pub record Goes {X : Type 0} (Step : X → X → Type 0) (Rest : X → Type 0) (x : X) : Type 0 where
@@ -66,18 +66,18 @@ Turns Step (suc left) x y = Goes (Step left) (λ z. Turns Step left z y) x
 
 -- ---- an engine with states S and names N, its memory and the checksum: `Does` says what a call does to a state and a memory
 
-abbrev pub Place : Type 0 → Type 0
-Place S = S × List ℕ × ℕ
+abbrev pub Standing : Type 0 → Type 0
+Standing S = S × List ℕ × ℕ
 
 -- a call, with its answer in the checksum
-pub record Called {S N : Type 0} (name : N → List ℕ) (Does : S → List ℕ → Answer N → S → List ℕ → Type 0) (x y : Place S) : Type 0
-  where
-    pub said : Answer N
-    pub does : Does (x .0) (x .1) said (y .0) (y .1)
-    pub told : y .2 ≡ answered name (x .2) said
+pub record Called {S N : Type 0} (name : N → List ℕ) (Does : S → List ℕ → Answer N → S → List ℕ → Type 0)
+    (x y : Standing S) : Type 0 where
+  pub said : Answer N
+  pub does : Does (x .0) (x .1) said (y .0) (y .1)
+  pub told : y .2 ≡ answered name (x .2) said
 
 -- A turn is a call; the one after which `when` are left may put another state in the state's place.
-abbrev pub Turn : {S N : Type 0} → (N → List ℕ) → (S → List ℕ → Answer N → S → List ℕ → Type 0) → ℕ → ℕ → Place S → Place S
+abbrev pub Turn : {S N : Type 0} → (N → List ℕ) → (S → List ℕ → Answer N → S → List ℕ → Type 0) → ℕ → ℕ → Standing S → Standing S
     → Type 0
 Turn name Does when left x y = Called name Does x y ⊎ ((left ≡ when) × (y .1 ≡ x .1) × (y .2 ≡ x .2))
 
