@@ -11,63 +11,48 @@ Inv-loop pairs passed₀ k₀ t4 passed k = (passed ≤ k) × (k ≤ pairs) × (
 abbrev μ-loop : tie.MeasureT-loop
 μ-loop pairs passed₀ k₀ t4 passed k = pairs - k
 
--- src/main.rt:96:17
 arg-count-requires : tie.Need-arg-count-requires Inv-loop μ-loop
 arg-count-requires c κs = search needs
 
--- src/main.rt:99:5
 loop-holds : tie.Need-loop-holds Inv-loop μ-loop
 loop-holds c = search needs
 
--- src/main.rt:100:29
 mul-play-pair : tie.Need-mul-play-pair Inv-loop μ-loop
 mul-play-pair c = search needs
 
--- src/main.rt:100:29
 add-play-pair : tie.Need-add-play-pair Inv-loop μ-loop
 add-play-pair c = search needs
 
--- src/main.rt:100:40
 mul-play-pair-2 : tie.Need-mul-play-pair-2 Inv-loop μ-loop
 mul-play-pair-2 c = search needs
 
--- src/main.rt:100:40
 add-play-pair-2 : tie.Need-add-play-pair-2 Inv-loop μ-loop
 add-play-pair-2 c = search needs
 
--- src/main.rt:100:19
 play-pair-requires : tie.Need-play-pair-requires Inv-loop μ-loop
 play-pair-requires c κs = search needs
 
--- src/main.rt:100:9
 add-passed : tie.Need-add-passed Inv-loop μ-loop
 add-passed c = search needs
 
--- src/main.rt:101:9
 add-k : tie.Need-add-k Inv-loop μ-loop
 add-k c = search needs
 
--- src/main.rt:99:5
 loop-less : tie.Need-loop-less Inv-loop μ-loop
 loop-less c = search needs
 
--- src/main.rt:99:5
 loop-again : tie.Need-loop-again Inv-loop μ-loop
 loop-again c = search needs
 
--- src/main.rt:103:5
 print-decimal-requires : tie.Need-print-decimal-requires Inv-loop μ-loop
 print-decimal-requires c κs = search needs
 
--- src/main.rt:104:9
 slice-aggregate-say : tie.Need-slice-aggregate-say Inv-loop μ-loop
 slice-aggregate-say c = search needs
 
--- src/main.rt:104:5
 say-requires : tie.Need-say-requires Inv-loop μ-loop
 say-requires c κs = search needs
 
--- src/main.rt:95:1
 returns : tie.Need-returns Inv-loop μ-loop
 returns c = search needs
 
