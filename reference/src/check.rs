@@ -1,8 +1,9 @@
 //! Demand 3, asserted of the player itself: its commits are the sequential run, and it never gets stuck.
 
 use crate::machine::{Commit, Machine};
+use crate::rules::Rules;
 use crate::run::Run;
-use crate::window::{Instruction, Rules};
+use crate::window::Instruction;
 
 pub struct Check {
     run: Run,
@@ -15,6 +16,11 @@ impl Check {
 
     pub fn instruction(&mut self, instruction: Instruction) {
         self.run.program.push(instruction);
+    }
+
+    /// What the run does next; none at its end and before a fault.
+    pub fn ahead(&self) -> Option<Commit> {
+        self.run.ahead()
     }
 
     pub fn committed(&mut self, commit: Commit) {

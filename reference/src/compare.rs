@@ -3,8 +3,11 @@
 use crate::events::Events;
 use crate::generator::generate;
 use crate::outside;
-use crate::player::{play, play_counted};
+use crate::player::play;
+use crate::rules::Stated;
 use crate::shrink::shrink;
+use crate::watch::watch;
+use std::path::Path;
 use std::time::{Duration, Instant};
 
 /// Differences shown in full; later ones are only counted.
@@ -12,19 +15,20 @@ const SHOWN: usize = 3;
 const SCRIPT_SHOWN: usize = 2000;
 
 /// Whether all scripts agree and every event is reached.
-pub fn differ(program: &str, count: u64, first: u64) -> bool {
+pub fn differ(program: &Path, count: u64, first: u64) -> bool {
     let mut events = Events::default();
     let (mut passed, mut failed) = (0, 0);
     for seed in (0..count).map(|step| first.wrapping_add(step)) {
         let script = generate(seed);
-        let (expected, reached) = play_counted(&script);
+        let (expected, reached) = watch(Stated, &script);
         events.join(&reached);
         match difference(&expected, outside::play(program, &script)) {
             None => passed += 1,
             Some(message) => {
                 failed += 1;
                 if failed <= SHOWN {
-                    show(seed, &script, &message);
+                    println!("seed {seed} differs at {message}");
+                    show(&script);
                 }
             }
         }
@@ -35,8 +39,8 @@ pub fn differ(program: &str, count: u64, first: u64) -> bool {
     failed + missed == 0
 }
 
-/// Whether no difference was found in this time. The first one is saved, shrunk and saved again.
-pub fn fuzz(program: &str, seconds: u64, first: u64) -> bool {
+/// Whether no difference was found in this time. The first one is saved, shrunk, saved again and shown.
+pub fn fuzz(program: &Path, seconds: u64, first: u64) -> bool {
     let (start, mut seed, mut bytes) = (Instant::now(), first, 0);
     let (mut found, mut told) = (false, 0);
     while !found && start.elapsed() < Duration::from_secs(seconds) {
@@ -45,7 +49,7 @@ pub fn fuzz(program: &str, seconds: u64, first: u64) -> bool {
         if let Some(message) = difference(&play(&script), outside::play(program, &script)) {
             found = true;
             eprintln!();
-            show(seed, &script, &message);
+            println!("seed {seed} differs at {message}");
             save(program, seed, &script);
         }
         seed = seed.wrapping_add(1);
@@ -75,30 +79,41 @@ fn line(text: &[u8], place: usize) -> Option<&[u8]> {
     text.split_inclusive(|&byte| byte == b'\n').nth(place)
 }
 
-fn show(seed: u64, script: &[u8], message: &str) {
-    println!("seed {seed} differs at {message}\nscript of {} bytes:", script.len());
-    for line in script[..script.len().min(SCRIPT_SHOWN)].split(|&byte| byte == b'\n') {
-        println!("  {}", line.escape_ascii());
+/// A script as text: bytes that cannot be printed are escaped, and a last line without a line feed is told.
+fn show(script: &[u8]) {
+    println!("script of {} bytes:", script.len());
+    let shown = &script[..script.len().min(SCRIPT_SHOWN)];
+    for line in shown.split_inclusive(|&byte| byte == b'\n') {
+        match line.strip_suffix(b"\n") {
+            Some(line) => println!("  {}", line.escape_ascii()),
+            None => println!("  {} (no line feed here)", line.escape_ascii()),
+        }
     }
 }
 
 /// Prints how often each event was reached; answers how many were, and how many were not.
 fn tell(events: &Events) -> (usize, usize) {
-    events.list().for_each(|(name, count)| println!("{name:48} {count:8}"));
+    events.table().iter().for_each(|line| println!("{line}"));
     let missed: Vec<&str> = events.list().filter(|(_, count)| *count == 0).map(|(name, _)| name).collect();
     missed.iter().for_each(|name| println!("never reached: {name}"));
-    (events.list().count() - missed.len(), missed.len())
+    let reached = events.list().count() - missed.len();
+    println!("{reached} kinds of events reached, {} not", missed.len());
+    (reached, missed.len())
 }
 
-fn save(program: &str, seed: u64, script: &[u8]) {
-    let differs = |script: &[u8]| difference(&play(script), outside::play(program, script)).is_some();
+fn save(program: &Path, seed: u64, script: &[u8]) {
+    let message = |script: &[u8]| difference(&play(script), outside::play(program, script));
     write(&format!("difference-{seed}.arb"), script);
-    write(&format!("difference-{seed}-small.arb"), &shrink(script, differs));
+    let small = shrink(script, |script| message(script).is_some());
+    write(&format!("difference-{seed}-small.arb"), &small);
+    println!("shrunk, it differs at {}", message(&small).unwrap_or_default());
+    show(&small);
 }
 
 fn write(file: &str, script: &[u8]) {
-    match std::fs::write(file, script) {
-        Ok(()) => println!("saved {file}, {} bytes", script.len()),
-        Err(error) => println!("{file} cannot be written: {error}"),
+    let path = std::env::current_dir().unwrap_or_default().join(file);
+    match std::fs::write(&path, script) {
+        Ok(()) => println!("saved {}, {} bytes", path.display(), script.len()),
+        Err(error) => println!("{} cannot be written: {error}", path.display()),
     }
 }

@@ -1,41 +1,59 @@
-//! Counters of what scripts reach.
+//! Counters of what scripts reach. Each kind has a name; most are members of a family with a number or two.
 
-pub const NAMES: [&str; 72] = [
+use std::collections::HashMap;
+use std::sync::OnceLock;
+
+const SINGLE: [&str; 98] = [
     "issue wrapped",
     "re-issued executed late",
     "re-issued executed late, wrapped",
-    "violation",
     "violation by the same word",
     "violation squashing past the wrap",
     "store between",
-    "eviction",
-    "eviction with a choice",
     "full bank, an address marked on both sides",
-    "forward",
     "forward with a choice",
     "forward across the wrap",
     "forward at W or more",
+    "violation at W or more",
+    "operand with a choice",
+    "operand across the wrap",
+    "operand past an S of the register",
+    "operand of a load",
+    "operand of the registers, a younger one writes",
+    "sum of A wrapped",
+    "sum of P wrapped",
+    "sum of L wrapped",
+    "sum of S wrapped",
+    "q of the oldest",
+    "q of the youngest",
+    "q of executed ones",
     "largest number",
     "fault by e",
     "fault by c or x, executed before",
     "fault by x",
+    "fault squashed",
     "x limit 0",
     "x limit 1",
-    "x limit large",
+    "x limit above 256",
+    "x limit above 2147483647",
     "x ended by its limit",
     "x ended by the program's end",
     "x squashed",
     "x left live ones executed",
+    "x of more than 64 commits",
     "register 0 written",
+    "word above 2147483647",
     "refusal 5",
     "refusal 6",
     "refusal 7 of e",
     "refusal 7 of q",
     "refusal 8",
     "refusal 9",
-    "refusal 10",
+    "refusal 9, an older writer has executed",
+    "refusal 9 of the second operand",
     "refusal 11",
     "refusal 12",
+    "refusal 12, a younger one has executed",
     "refusal 13",
     "input empty",
     "input of 65536 bytes",
@@ -49,6 +67,7 @@ pub const NAMES: [&str; 72] = [
     "size outside limits",
     "register above 7",
     "P's imm above 7",
+    "A's imm above 7 taken",
     "256 instructions",
     "257th instruction",
     "letter unknown",
@@ -59,6 +78,7 @@ pub const NAMES: [&str; 72] = [
     "trailing comma",
     "number with leading zero",
     "number too large",
+    "number of 32 bits and more that wraps to a good one",
     "number signed",
     "number with another byte",
     "byte carriage return",
@@ -67,26 +87,91 @@ pub const NAMES: [&str; 72] = [
     "byte NUL",
     "byte 128 or more",
     "bad after a commit",
+    "bad at a late line",
     "program empty",
     "no steps",
-    "one stage",
+    "m line of word 0",
+    "m line of word 4095",
+    "256 commits",
     "end done",
-    "end fault",
+    "end fault of a load",
+    "end fault of a store",
     "end open",
+    "end open, none live",
+    "end open, all issued",
+    "end open, the oldest waits and would fault",
+    "end open, the next would fault",
+    "end open, a younger one is past the end",
 ];
 
+/// How one byte makes a line differ from a good one.
+#[derive(Clone, Copy, PartialEq, Eq, Debug)]
+pub enum Way {
+    Replaced,
+    Inserted,
+    Appended,
+}
+
+pub const WAYS: [Way; 3] = [Way::Replaced, Way::Inserted, Way::Appended];
+pub const BANKS: [u32; 4] = [1, 2, 4, 8];
+/// Sizes just outside their limits.
+const OUTSIDE: [&str; 9] = ["B 0", "B 3", "B 16", "R 0", "R 9", "n 0", "n 17", "W 0", "W 4097"];
+
+pub fn by_byte(way: Way, byte: u8) -> String {
+    format!("byte {byte} {way:?}")
+}
+
+struct Kinds {
+    names: Vec<String>,
+    places: HashMap<String, usize>,
+}
+
+fn kinds() -> &'static Kinds {
+    static KINDS: OnceLock<Kinds> = OnceLock::new();
+    KINDS.get_or_init(|| {
+        let names = all();
+        let places = names.iter().cloned().zip(0..).collect();
+        Kinds { names, places }
+    })
+}
+
+fn all() -> Vec<String> {
+    let mut names: Vec<String> = SINGLE.map(String::from).into();
+    let tables = BANKS.into_iter().flat_map(|banks| (1..=8).map(move |rows| (banks, rows)));
+    let tables: Vec<(u32, u32)> = tables.collect();
+    for kind in ["eviction", "refusal 10"] {
+        names.extend(tables.iter().map(|(banks, rows)| format!("{kind}, B {banks} R {rows}")));
+    }
+    names.extend((2..=8).map(|rows| format!("eviction with a choice, R {rows}")));
+    names.extend((1..=8).map(|rows| format!("full bank, the address has a row, R {rows}")));
+    for kind in ["forward", "violation", "eviction", "operand"] {
+        names.extend((1..=15).map(|positions| format!("{kind} over {positions:2}")));
+    }
+    names.extend((1..=16).map(|stages| format!("window full, n {stages:2}")));
+    names.extend(BANKS.map(|banks| format!("size B {banks}")));
+    names.extend((1..=8).map(|rows| format!("size R {rows}")));
+    names.extend([1, 4096].map(|words| format!("size W {words}")));
+    names.extend(OUTSIDE.map(|size| format!("size outside, {size}")));
+    for code in ["A", "P", "L", "S"] {
+        names.extend(["d", "s"].map(|field| format!("register 8, {field} of {code}")));
+    }
+    names.push("register 8, imm of P".into());
+    names.extend(WAYS.into_iter().flat_map(|way| (0..=255).map(move |byte| by_byte(way, byte))));
+    names
+}
+
 #[derive(Clone)]
-pub struct Events([u64; NAMES.len()]);
+pub struct Events(Vec<u64>);
 
 impl Default for Events {
     fn default() -> Self {
-        Events([0; NAMES.len()])
+        Events(vec![0; kinds().names.len()])
     }
 }
 
 impl Events {
     pub fn add(&mut self, name: &str) {
-        let place = NAMES.iter().position(|known| *known == name).expect("a name of the list");
+        let place = *kinds().places.get(name).unwrap_or_else(|| panic!("{name} is no kind of event"));
         self.0[place] += 1;
     }
 
@@ -96,11 +181,42 @@ impl Events {
         }
     }
 
+    /// Adds where this name is a kind: a family need not have every number.
+    pub fn add_known(&mut self, name: &str) {
+        self.add_if(kinds().places.contains_key(name), name);
+    }
+
     pub fn join(&mut self, other: &Events) {
-        self.0.iter_mut().zip(other.0).for_each(|(sum, count)| *sum += count);
+        self.0.iter_mut().zip(&other.0).for_each(|(sum, count)| *sum += count);
+    }
+
+    /// Lines that tell how often each kind was reached: of a family how many kinds it has, and the least of them.
+    pub fn table(&self) -> Vec<String> {
+        let mut lines: Vec<String> =
+            self.list().take(SINGLE.len()).map(|(name, count)| format!("{name:54} {count:8}")).collect();
+        let mut families: Vec<(String, usize, u64)> = Vec::new();
+        for (name, count) in self.list().skip(SINGLE.len()) {
+            let name = family(name);
+            match families.last_mut() {
+                Some((last, kinds, least)) if *last == name => {
+                    (*kinds, *least) = (*kinds + 1, count.min(*least))
+                }
+                _ => families.push((name, 1, count)),
+            }
+        }
+        let line = |(name, kinds, least)| format!("{name:40} {kinds:4} kinds, least {least:8}");
+        lines.extend(families.into_iter().map(line));
+        lines
     }
 
     pub fn list(&self) -> impl Iterator<Item = (&'static str, u64)> + '_ {
-        NAMES.into_iter().zip(self.0)
+        kinds().names.iter().map(String::as_str).zip(self.0.iter().copied())
     }
+}
+
+/// The name with `#` for each number.
+fn family(name: &str) -> String {
+    let plain = |word: &str| word.bytes().any(|byte| !byte.is_ascii_digit());
+    let words: Vec<&str> = name.split_whitespace().map(|word| if plain(word) { word } else { "#" }).collect();
+    words.join(" ")
 }

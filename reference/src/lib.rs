@@ -1,5 +1,6 @@
 //! The reference player of scripts, the generator of scripts and the comparison with another player.
 
+pub mod blame;
 pub mod check;
 pub mod compare;
 pub mod events;
@@ -8,10 +9,15 @@ pub mod machine;
 pub mod outside;
 pub mod pace;
 pub mod player;
+pub mod prober;
 pub mod random;
+pub mod reach;
+pub mod rules;
 pub mod run;
 pub mod shrink;
+pub mod sights;
 pub mod spoil;
+pub mod taste;
 pub mod text;
 pub mod watch;
 pub mod window;

@@ -1,6 +1,7 @@
-//! The window machine: issue, execute, squash and commit over the plain list.
+//! The window machine: issue, execute, squash, commit and finish over the plain list.
 
-use crate::window::{Code, Entry, Fate, Instruction, Rules, Sizes, Window};
+use crate::rules::Rules;
+use crate::window::{Code, Entry, Fate, Instruction, Sizes, Window};
 
 #[derive(Clone, Copy, PartialEq, Eq, Debug)]
 pub struct Commit {
@@ -20,7 +21,7 @@ pub struct Executed {
 
 #[derive(Clone)]
 pub struct Machine<R> {
-    rules: R,
+    pub rules: R,
     pub program: Vec<Instruction>,
     pub window: Window,
     pub next: usize,
@@ -56,15 +57,15 @@ impl<R: Rules> Machine<R> {
         let Instruction { code, d, s, imm } = entry.instruction;
         let base = self.operand(k, s)?;
         match code {
-            Code::A => Ok(self.other(k, base.wrapping_add(imm))),
+            Code::A => Ok(self.other(k, self.rules.sum(base, imm))),
             Code::P => {
-                let sum = base.wrapping_add(self.operand(k, imm)?);
+                let sum = self.rules.sum(base, self.operand(k, imm)?);
                 Ok(self.other(k, sum))
             }
-            Code::L => self.load(k, base.wrapping_add(imm)),
+            Code::L => self.load(k, self.rules.sum(base, imm)),
             Code::S => {
                 let word = self.operand(k, d)?;
-                self.store(k, base.wrapping_add(imm), word)
+                self.store(k, self.rules.sum(base, imm), word)
             }
         }
     }
@@ -102,12 +103,25 @@ impl<R: Rules> Machine<R> {
     /// program's end and at a fault, which stays executed.
     pub fn advance(&mut self) -> Option<Commit> {
         if self.window.live.is_empty() {
-            self.issue().ok()?;
+            R::issue(self).ok()?;
         }
         if self.window.live[0].waits() {
-            self.execute(0).ok()?;
+            R::execute(self, 0).ok()?;
         }
-        self.commit().ok()
+        R::commit(self).ok()
+    }
+
+    /// Round after round, as many as the limit says.
+    pub fn finish(&mut self, limit: u32) -> Vec<Commit> {
+        (0..limit).map_while(|_| self.advance()).collect()
+    }
+
+    pub fn fate(&self) -> &'static str {
+        match () {
+            _ if self.done() => "done",
+            _ if self.faulted() => "fault",
+            _ => "open",
+        }
     }
 
     /// All is committed.
@@ -122,11 +136,7 @@ impl<R: Rules> Machine<R> {
     }
 
     fn operand(&self, k: usize, register: u32) -> Result<u32, u32> {
-        let mut older = self.window.live[..k].iter().rev();
-        match older.find(|entry| entry.instruction.writes(register)) {
-            Some(writer) => writer.value().ok_or(9),
-            None => Ok(self.registers[register as usize]),
-        }
+        self.rules.operand(&self.window, &self.registers, k, register)
     }
 
     fn other(&mut self, k: usize, value: u32) -> Executed {
@@ -159,7 +169,7 @@ impl<R: Rules> Machine<R> {
     }
 
     fn drop_from(&mut self, from: usize) {
-        self.next = self.window.live[from].index;
-        self.rules.squash(&mut self.window, from);
+        self.next = self.rules.resume(&self.window, from);
+        self.rules.drop_from(&mut self.window, from);
     }
 }

@@ -2,6 +2,7 @@
 
 use reference::{compare, generator, pace, player};
 use std::io::{Read, Write};
+use std::path::Path;
 use std::process::ExitCode;
 use std::time::{SystemTime, UNIX_EPOCH};
 
@@ -33,11 +34,15 @@ fn run(arguments: &[&str]) -> Result<bool, String> {
             print(&player::play(&text))
         }
         ["script", seed] => print(&generator::generate(number(seed)?)),
-        ["differ", program, count] => Ok(compare::differ(program, number(count)?, 0)),
-        ["differ", program, count, first] => Ok(compare::differ(program, number(count)?, number(first)?)),
-        ["fuzz", program, seconds] => Ok(compare::fuzz(program, number(seconds)?, fresh())),
-        ["fuzz", program, seconds, seed] => Ok(compare::fuzz(program, number(seconds)?, number(seed)?)),
-        ["pace", program] => Ok(pace::pace(program)),
+        ["differ", program, count] => Ok(compare::differ(Path::new(program), number(count)?, 0)),
+        ["differ", program, count, first] => {
+            Ok(compare::differ(Path::new(program), number(count)?, number(first)?))
+        }
+        ["fuzz", program, seconds] => Ok(compare::fuzz(Path::new(program), number(seconds)?, fresh())),
+        ["fuzz", program, seconds, seed] => {
+            Ok(compare::fuzz(Path::new(program), number(seconds)?, number(seed)?))
+        }
+        ["pace", program] => Ok(pace::pace(Path::new(program))),
         _ => Err(USAGE.to_string()),
     }
 }

@@ -1,6 +1,7 @@
 //! Another player of scripts, run as a process.
 
 use std::io::{Read, Write};
+use std::path::Path;
 use std::process::{Child, Command, Stdio};
 use std::sync::mpsc;
 use std::thread;
@@ -9,28 +10,27 @@ use std::time::Duration;
 /// Far above what a script takes, so that only a player that does not end meets it.
 const PATIENCE: Duration = Duration::from_secs(60);
 
-/// What `program`, a command with its arguments parted by blanks, prints for a script. Its exit code is left
-/// aside, as the scope names none.
-pub fn play(program: &str, script: &[u8]) -> Result<Vec<u8>, String> {
-    let mut child = start(program).map_err(|error| format!("{program} cannot be started: {error}"))?;
+/// What `program` prints for a script. Its exit code and what it says to standard error are left aside, as the scope
+/// names none.
+pub fn play(program: &Path, script: &[u8]) -> Result<Vec<u8>, String> {
+    let name = program.display();
+    let mut child = start(program).map_err(|error| format!("{name} cannot be started: {error}"))?;
     feed(&mut child, script);
     match collect(&mut child).recv_timeout(PATIENCE) {
         Ok(output) => match child.wait() {
             Ok(status) if status.code().is_some() => Ok(output),
-            ended => Err(format!("{program} was ended: {ended:?}")),
+            ended => Err(format!("{name} was ended: {ended:?}")),
         },
         Err(_) => {
             let _ = child.kill();
             let _ = child.wait();
-            Err(format!("{program} does not end"))
+            Err(format!("{name} does not end"))
         }
     }
 }
 
-fn start(program: &str) -> std::io::Result<Child> {
-    let mut words = program.split_whitespace();
-    let command = words.next().unwrap_or_default();
-    Command::new(command).args(words).stdin(Stdio::piped()).stdout(Stdio::piped()).spawn()
+fn start(program: &Path) -> std::io::Result<Child> {
+    Command::new(program).stdin(Stdio::piped()).stdout(Stdio::piped()).stderr(Stdio::null()).spawn()
 }
 
 /// From a thread: the player may print before it has read everything, and may stop reading early.

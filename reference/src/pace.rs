@@ -1,8 +1,8 @@
 //! How fast a script is played, in bytes a second: by another program, and by this player without its checks.
 
 use crate::outside;
-use crate::player::{play_by, LONGEST};
-use crate::window::Stated;
+use crate::player::{play, LONGEST};
+use std::path::Path;
 use std::time::{Duration, Instant};
 
 const ROUNDS: usize = 20;
@@ -27,11 +27,11 @@ fn least(mut play: impl FnMut()) -> Duration {
 }
 
 /// Whether both print the same; shows the pace of each, by the least time of some rounds.
-pub fn pace(program: &str) -> bool {
+pub fn pace(program: &Path) -> bool {
     let text = script();
-    let expected = play_by(Stated, false, &text).0;
+    let expected = play(&text);
     let same = outside::play(program, &text).is_ok_and(|printed| printed == expected);
-    let own = least(|| drop(play_by(Stated, false, &text)));
+    let own = least(|| drop(play(&text)));
     let other = least(|| drop(outside::play(program, &text)));
     for (name, time) in [("program", other), ("reference", own)] {
         println!("{name:9} {:9.0} bytes a second", text.len() as f64 / time.as_secs_f64());

@@ -1,5 +1,7 @@
 //! Scripts with a malformed line, or one outside the limits, at a random place.
 
+use crate::blame::GRAMMAR;
+use crate::events::Way;
 use crate::generator::Draft;
 use crate::random::Random;
 
@@ -21,6 +23,32 @@ pub fn spoil(random: &mut Random, mut draft: Draft) -> Vec<u8> {
             draft.text()
         }
     }
+}
+
+/// One line with this byte in the place of a comma, before another byte, or at its end. A byte of the grammar goes to
+/// where it makes the line bad, too.
+pub fn spoil_by(random: &mut Random, mut draft: Draft, way: Way, byte: u8) -> Vec<u8> {
+    let grammar = GRAMMAR.contains(&byte);
+    let mut place = place(random, &draft);
+    if way == Way::Appended && grammar {
+        place = draft.steps + random.below(draft.lines.len() - draft.steps + 1);
+        draft.lines.insert(place, random.pick(&[b"i", b"c"]).to_vec());
+    }
+    if way == Way::Replaced && !draft.lines[place].contains(&b',') {
+        place = random.below(draft.steps);
+    }
+    let line = &mut draft.lines[place];
+    let commas: Vec<usize> = (0..line.len()).filter(|&place| line[place] == b',').collect();
+    let comma = if commas.is_empty() { 0 } else { random.pick(&commas) };
+    match way {
+        Way::Appended => line.push(byte),
+        Way::Inserted if grammar => line.insert(0, byte),
+        Way::Inserted => line.insert(random.below(line.len()), byte),
+        Way::Replaced if byte == b',' => line[0] = byte,
+        Way::Replaced if grammar => line[commas[0]] = byte,
+        Way::Replaced => line[comma] = byte,
+    }
+    draft.text()
 }
 
 /// A line of a letter that is as likely as the other letters, although lines of it may be few.
@@ -74,6 +102,29 @@ fn beyond(random: &mut Random, draft: &mut Draft) {
     } else {
         draft.lines.insert(place, line.into());
     }
+}
+
+/// A size just outside its limits, or register 8, in one of 18 places.
+pub fn just_beyond(random: &mut Random, mut draft: Draft, which: usize) -> Vec<u8> {
+    let sizes = [
+        "0,1,4,8",
+        "3,1,4,8",
+        "16,1,4,8",
+        "1,0,4,8",
+        "1,9,4,8",
+        "1,1,0,8",
+        "1,1,17,8",
+        "1,1,4,0",
+        "1,1,4,4097",
+    ];
+    let registers = ["A,8,0", "A,0,8", "P,8,0", "P,0,8", "L,8,0", "L,0,8", "S,8,0", "S,0,8"];
+    let place = 1 + random.below(draft.steps);
+    match which {
+        0..=8 => draft.lines[0] = format!("N,{}", sizes[which]).into(),
+        9..=16 => draft.lines.insert(place, format!("{},{}", registers[which - 9], random.number(8)).into()),
+        _ => draft.lines.insert(place, b"P,0,0,8".to_vec()),
+    }
+    draft.text()
 }
 
 /// Another field, one less, or a number written in a way that no number is.

@@ -3,9 +3,11 @@
 use crate::events::Events;
 use crate::generator::generate;
 use crate::machine::{Executed, Machine};
-use crate::player::{play, play_counted};
+use crate::player::play;
+use crate::rules::Stated;
 use crate::text::{parse, Line};
-use crate::window::{Sizes, Stated};
+use crate::watch::watch;
+use crate::window::Sizes;
 
 /// Lines parted by blanks here.
 fn played(lines: &str) -> String {
@@ -249,8 +251,10 @@ fn longest_input() {
 #[test]
 fn every_event_is_reached() {
     let mut events = Events::default();
-    (0..3000).for_each(|seed| events.join(&play_counted(&generate(seed)).1));
+    (0..3000).for_each(|seed| events.join(&watch(Stated, &generate(seed)).1));
     for (name, count) in events.list() {
-        assert!(count >= 5, "{name}: {count}");
+        // Of 3,000 scripts each byte spoils one in each of the three ways.
+        let least = if name.starts_with("byte ") { 1 } else { 3 };
+        assert!(count >= least, "{name}: {count}");
     }
 }

@@ -1,140 +1,226 @@
-//! Counts what a script reaches, from the outside: windows before a call, answers, and windows after it.
+//! Counts what a text reaches, and asserts demand 3 on the way: its good lines are played once more, with a look at
+//! the states around each step.
 
-use crate::events::Events;
-use crate::machine::{Commit, Executed, Machine};
-use crate::window::{Code, Rules, Stated, Window};
+use crate::blame::blame;
+use crate::check::Check;
+use crate::events::{by_byte, Events};
+use crate::machine::{Commit, Machine};
+use crate::player::{play_by, Printed, LONGEST};
+use crate::rules::{Rules, MOST_INSTRUCTIONS};
+use crate::sights;
+use crate::text::{parse, Line, Step};
+use crate::window::{Code, Instruction, Sizes};
 
-/// From here on a limit of `x` is above every program.
-const LARGE: u32 = 257;
+/// From here on a bad line counts as late.
+const LATE: usize = 100;
+/// More commits than a list of 256 places takes.
+const MANY: usize = 64;
 
-#[derive(Default)]
-pub struct Watch {
-    pub events: Events,
+/// What is printed for a text, and what it reaches.
+pub fn watch<R: Rules>(rules: R, text: &[u8]) -> (Vec<u8>, Events) {
+    let Printed { out, bad } = play_by(rules.clone(), text);
+    let mut events = Events::default();
+    events.add_if(text.len() == LONGEST, "input of 65536 bytes");
+    let good = match bad {
+        Some((line, event)) => {
+            spoiled(&mut events, text, line, event);
+            events.add_if(out.iter().filter(|&&byte| byte == b'\n').count() > 1, "bad after a commit");
+            line.saturating_sub(1)
+        }
+        None => usize::MAX,
+    };
+    let mut game: Option<Game<R>> = None;
+    for line in text.split(|&byte| byte == b'\n').take(good) {
+        let largest = line.split(|&byte| byte == b',').any(|field| field == b"4294967295");
+        events.add_if(largest, "largest number");
+        match (parse(line), &mut game) {
+            (Some(Line::Sizes(sizes)), _) => {
+                opened(&mut events, sizes);
+                let (machine, check) = (Machine::new(rules.clone(), sizes), Check::new(sizes.words));
+                game = Some(Game { machine, check, stepped: false, reached: 0, again: Vec::new() });
+            }
+            (Some(Line::Instruction(instruction)), Some(game)) => game.instruction(&mut events, instruction),
+            (Some(Line::Step(step)), Some(game)) => game.step(&mut events, step),
+            _ => {}
+        }
+    }
+    if let (None, Some(game)) = (bad, &game) {
+        game.end(&mut events);
+    }
+    (out, events)
+}
+
+/// A bad line: why it is one, and which byte is to blame.
+fn spoiled(events: &mut Events, text: &[u8], number: usize, event: &str) {
+    events.add(event);
+    events.add_if(number >= LATE, "bad at a late line");
+    let Some(number) = number.checked_sub(1) else { return };
+    let line = text.split(|&byte| byte == b'\n').nth(number).unwrap_or_default();
+    events.add_if(event == "line unended" && parse(line).is_some(), "line unended but good");
+    match parse(line) {
+        None if event == "line unended" => {}
+        None => {
+            blame(text, number).iter().for_each(|&(way, byte)| events.add(&by_byte(way, byte)));
+            let wraps = |number: u128| number > u128::from(u32::MAX) && (number as u32) < 16;
+            let fields = String::from_utf8_lossy(line).into_owned();
+            let wrapped = fields.split(',').any(|field| field.parse().is_ok_and(wraps));
+            events.add_if(wrapped, "number of 32 bits and more that wraps to a good one");
+        }
+        Some(Line::Sizes(Sizes { banks, rows, stages, words })) => {
+            for (letter, size) in [("B", banks), ("R", rows), ("n", stages), ("W", words)] {
+                events.add_known(&format!("size outside, {letter} {size}"));
+            }
+        }
+        Some(Line::Instruction(Instruction { code, d, s, imm })) => {
+            events.add_if(d == 8, &format!("register 8, d of {code:?}"));
+            events.add_if(s == 8, &format!("register 8, s of {code:?}"));
+            events.add_if(code == Code::P && imm == 8, "register 8, imm of P");
+        }
+        Some(Line::Step(_)) => {}
+    }
+}
+
+fn opened(events: &mut Events, sizes: Sizes) {
+    for (letter, size) in [("B", sizes.banks), ("R", sizes.rows), ("W", sizes.words)] {
+        events.add_known(&format!("size {letter} {size}"));
+    }
+}
+
+/// A script after its first line.
+struct Game<R> {
+    machine: Machine<R>,
+    check: Check,
+    stepped: bool,
     /// One above the largest index issued so far.
     reached: usize,
     /// Whether the live instruction of an index was issued before.
     again: Vec<bool>,
 }
 
-impl Watch {
-    pub fn issued(&mut self, window: &Window, answer: Result<usize, u32>) {
-        let position = match answer {
+impl<R: Rules> Game<R> {
+    fn instruction(&mut self, events: &mut Events, instruction: Instruction) {
+        self.machine.program.push(instruction);
+        self.check.instruction(instruction);
+        let Instruction { code, imm, .. } = instruction;
+        events.add_if(code == Code::A && imm > 7, "A's imm above 7 taken");
+    }
+
+    fn step(&mut self, events: &mut Events, step: Step) {
+        self.stepped = true;
+        match step {
+            Step::Issue => self.issue(events),
+            Step::Execute(k) => self.execute(events, k as usize),
+            Step::Squash(k) => self.squash(events, k as usize),
+            Step::Commit => match self.machine.commit() {
+                Ok(commit) => self.committed(events, commit),
+                Err(number) => sights::uncommitted(events, &self.machine.window, number),
+            },
+            Step::Finish(limit) => self.finish(events, limit),
+        }
+        self.check.state(&self.machine);
+    }
+
+    fn issue(&mut self, events: &mut Events) {
+        let position = match self.machine.issue() {
             Ok(position) => position,
-            Err(number) => return self.refused(number, ' '),
+            Err(number) => return events.add(&format!("refusal {number}")),
         };
-        let index = window.live[position].index;
-        self.events.add_if(window.stage(position) < window.stage(0), "issue wrapped");
+        let window = &self.machine.window;
+        let (index, stages) = (window.live[position].index, window.sizes.stages);
+        events.add_if(window.stage(position) < window.stage(0), "issue wrapped");
+        events.add_if(position + 1 == stages as usize, &format!("window full, n {stages:2}"));
         self.again.resize(self.again.len().max(index + 1), false);
         self.again[index] = index < self.reached;
         self.reached = self.reached.max(index + 1);
     }
 
-    pub fn executed<R>(
-        &mut self,
-        before: &Window,
-        k: usize,
-        answer: Result<Executed, u32>,
-        after: &Machine<R>,
-    ) {
-        if let Err(number) = answer {
-            if number == 10 {
-                self.events.add_if(mixed(before, k), "full bank, an address marked on both sides");
-            }
-            return self.refused(number, 'e');
+    fn execute(&mut self, events: &mut Events, k: usize) {
+        let (before, registers) = (self.machine.window.clone(), self.machine.registers);
+        if let Err(number) = self.machine.execute(k) {
+            return sights::unexecuted(events, &before, k, number);
         }
-        self.late(before, k);
-        let entry = after.window.live[k];
-        let (Some(address), Some(value)) = (entry.mark(), entry.value()) else { return };
-        self.events.add_if(k == 0 && address >= before.sizes.words, "fault by e");
-        if let Ok(Some(_)) = Stated.room(before, k, address) {
-            self.eviction(before, k, address);
-        }
-        match entry.instruction.code {
-            Code::L => self.load(before, k, address),
-            _ => self.store(before, k, address, value),
-        }
-    }
-
-    pub fn squashed(&mut self, answer: Result<(), u32>) {
-        if let Err(number) = answer {
-            self.refused(number, 'q');
-        }
-    }
-
-    pub fn committed<R: Rules>(&mut self, answer: Result<Commit, u32>, after: &Machine<R>) {
-        match answer {
-            Ok(commit) => {
-                self.events.add_if(commit.code != Code::S && commit.target == 0, "register 0 written");
-                self.events.add_if(after.faulted(), "fault by c or x, executed before");
-            }
-            Err(number) => self.refused(number, ' '),
-        }
-    }
-
-    pub fn limit(&mut self, limit: u32) {
-        self.events.add_if(limit == 0, "x limit 0");
-        self.events.add_if(limit == 1, "x limit 1");
-        self.events.add_if(limit >= LARGE, "x limit large");
-    }
-
-    /// One round of `x`; `faulted` tells whether a fault stood before it.
-    pub fn advanced<R: Rules>(&mut self, before: &Window, faulted: bool, done: bool, after: &Machine<R>) {
-        self.events.add_if(done, "x ended by the program's end");
-        self.events.add_if(!faulted && after.faulted(), "fault by x");
-        self.events.add_if(after.window.live.len() + 1 < before.live.len(), "x squashed");
-        self.reached = self.reached.max(after.next);
-    }
-
-    pub fn limit_reached(&mut self, limit: u32, window: &Window) {
-        self.events.add_if(limit > 0, "x ended by its limit");
-        let left = window.live.iter().any(|entry| !entry.waits());
-        self.events.add_if(limit > 0 && left, "x left live ones executed");
-    }
-
-    fn late(&mut self, before: &Window, k: usize) {
         let overtaken = before.live[k + 1..].iter().any(|entry| !entry.waits());
         if overtaken && self.again.get(before.live[k].index) == Some(&true) {
-            self.events.add("re-issued executed late");
-            self.events.add_if(before.stage(k) < before.stage(0), "re-issued executed late, wrapped");
+            events.add("re-issued executed late");
+            events.add_if(before.stage(k) < before.stage(0), "re-issued executed late, wrapped");
+        }
+        let entry = self.machine.window.live[k];
+        let outside = entry.mark().is_some_and(|address| address >= before.sizes.words);
+        events.add_if(k == 0 && outside, "fault by e");
+        sights::executed(events, &before, &registers, k, entry);
+    }
+
+    fn squash(&mut self, events: &mut Events, k: usize) {
+        let before = self.machine.window.live.clone();
+        let faulted = self.machine.faulted();
+        match self.machine.squash(k) {
+            Ok(()) => {
+                events.add_if(k == 0, "q of the oldest");
+                events.add_if(k > 0 && k + 1 == before.len(), "q of the youngest");
+                events.add_if(before[k..].iter().any(|entry| !entry.waits()), "q of executed ones");
+                events.add_if(faulted && k == 0, "fault squashed");
+            }
+            Err(number) => events.add(&format!("refusal {number} of q")),
         }
     }
 
-    fn eviction(&mut self, before: &Window, k: usize, address: u32) {
-        let rows = before.rows(before.sizes.bank(address));
-        self.events.add("eviction");
-        self.events.add_if(rows.iter().filter(|row| row.oldest > k).count() > 1, "eviction with a choice");
-        self.events.add_if(mixed(before, k), "full bank, an address marked on both sides");
+    fn committed(&mut self, events: &mut Events, commit: Commit) {
+        events.add_if(commit.code != Code::S && commit.target == 0, "register 0 written");
+        events.add_if(commit.value >= 1 << 31, "word above 2147483647");
+        events.add_if(self.machine.faulted(), "fault by c or x, executed before");
+        self.check.committed(commit);
     }
 
-    fn load(&mut self, before: &Window, k: usize, address: u32) {
-        let Some(store) = Stated.forward(before, k, address) else { return };
-        self.events.add("forward");
-        self.events.add_if(Stated.forward(before, store, address).is_some(), "forward with a choice");
-        self.events.add_if(before.stage(store) > before.stage(k), "forward across the wrap");
-        self.events.add_if(address >= before.sizes.words, "forward at W or more");
-    }
-
-    fn store(&mut self, before: &Window, k: usize, address: u32, value: u32) {
-        let mut met = before.live[k + 1..].iter().filter(|entry| entry.mark() == Some(address));
-        let between = met.next().is_some_and(|first| first.is(Code::S)) && met.any(|entry| entry.is(Code::L));
-        self.events.add_if(between, "store between");
-        let Some(from) = Stated.violation(before, k, address, value) else { return };
-        self.events.add("violation");
-        self.events.add_if(before.live[from].value() == Some(value), "violation by the same word");
-        let past = (from..before.live.len()).any(|p| before.stage(p) < before.stage(from));
-        self.events.add_if(past, "violation squashing past the wrap");
-    }
-
-    fn refused(&mut self, number: u32, step: char) {
-        match (number, step) {
-            (7, step) => self.events.add(&format!("refusal 7 of {step}")),
-            _ => self.events.add(&format!("refusal {number}")),
+    fn finish(&mut self, events: &mut Events, limit: u32) {
+        events.add_if(limit == 0, "x limit 0");
+        events.add_if(limit == 1, "x limit 1");
+        events.add_if(limit > 256, "x limit above 256");
+        events.add_if(limit >= 1 << 31, "x limit above 2147483647");
+        for round in 0..limit {
+            let (live, faulted) = (self.machine.window.live.len(), self.machine.faulted());
+            events.add_if(self.machine.done(), "x ended by the program's end");
+            let answer = self.machine.advance();
+            events.add_if(!faulted && self.machine.faulted(), "fault by x");
+            events.add_if(self.machine.window.live.len() + 1 < live, "x squashed");
+            events.add_if(answer.is_some() && round as usize == MANY, "x of more than 64 commits");
+            self.reached = self.reached.max(self.machine.next);
+            let Some(commit) = answer else { return };
+            self.committed(events, commit);
         }
+        let left = self.machine.window.live.iter().any(|entry| !entry.waits());
+        events.add_if(limit > 0, "x ended by its limit");
+        events.add_if(limit > 0 && left, "x left live ones executed");
     }
-}
 
-/// Whether an address has marks on both sides of position `k`.
-fn mixed(window: &Window, k: usize) -> bool {
-    let younger = |address| window.live[k + 1..].iter().any(|entry| entry.mark() == Some(address));
-    window.live[..k].iter().filter_map(|entry| entry.mark()).any(younger)
+    fn end(&self, events: &mut Events) {
+        let Machine { program, window, memory, next, .. } = &self.machine;
+        events.add_if(program.is_empty(), "program empty");
+        events.add_if(program.len() == MOST_INSTRUCTIONS, "256 instructions");
+        events.add_if(!self.stepped, "no steps");
+        events.add_if(memory[0] != 0, "m line of word 0");
+        events.add_if(memory.get(4095).is_some_and(|word| *word != 0), "m line of word 4095");
+        let all_issued = *next == program.len();
+        events.add_if(self.machine.done() && program.len() == MOST_INSTRUCTIONS, "256 commits");
+        let Some(oldest) = window.live.first() else {
+            let fate = if all_issued { "end done" } else { "end open" };
+            events.add(fate);
+            events.add_if(!all_issued, "end open, none live");
+            events.add_if(!all_issued && self.check.ahead().is_none(), "end open, the next would fault");
+            return;
+        };
+        if self.machine.faulted() {
+            return events.add(if oldest.is(Code::L) {
+                "end fault of a load"
+            } else {
+                "end fault of a store"
+            });
+        }
+        events.add("end open");
+        events.add_if(all_issued, "end open, all issued");
+        let would = oldest.waits() && self.check.ahead().is_none();
+        events.add_if(would, "end open, the oldest waits and would fault");
+        let past = |address| address >= window.sizes.words;
+        let younger = window.live[1..].iter().filter_map(|entry| entry.mark()).any(past);
+        events.add_if(younger, "end open, a younger one is past the end");
+    }
 }

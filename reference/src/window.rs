@@ -1,4 +1,4 @@
-//! The live instructions as a plain list, oldest first, and the buffer's rules as questions to that list.
+//! The live instructions as a plain list, oldest first.
 
 #[derive(Clone, Copy, PartialEq, Eq, Debug)]
 pub struct Sizes {
@@ -118,44 +118,3 @@ impl Window {
         rows
     }
 }
-
-/// The buffer's rules. A trait, so that the tests can put a wrong rule in the place of a right one.
-pub trait Rules: Clone {
-    /// The store whose word a load at position `k` takes: the youngest older one to this address.
-    fn forward(&self, window: &Window, k: usize, address: u32) -> Option<usize> {
-        let stores = |p: &usize| window.live[*p].is(Code::S) && window.live[*p].mark() == Some(address);
-        (0..k).rev().find(stores)
-    }
-
-    /// Where a store at position `k` squashes from. The value plays no part.
-    fn violation(&self, window: &Window, k: usize, address: u32, _value: u32) -> Option<usize> {
-        let first = (k + 1..window.live.len()).find(|&p| window.live[p].mark() == Some(address))?;
-        window.live[first].is(Code::L).then_some(first)
-    }
-
-    /// A row for position `k`: had or free (nothing to squash), by eviction (where to squash from), or none.
-    fn room(&self, window: &Window, k: usize, address: u32) -> Result<Option<usize>, u32> {
-        let rows = window.rows(window.sizes.bank(address));
-        if rows.iter().any(|row| row.address == address) || rows.len() < window.sizes.rows as usize {
-            return Ok(None);
-        }
-        match rows.iter().map(|row| row.oldest).filter(|&oldest| oldest > k).max() {
-            Some(oldest) => Ok(Some(oldest)),
-            None => Err(10),
-        }
-    }
-
-    fn squash(&mut self, window: &mut Window, from: usize) {
-        window.live.truncate(from);
-    }
-
-    fn fresh(&mut self, _index: usize) -> Fate {
-        Fate::Waiting
-    }
-}
-
-/// The rules as the scope states them.
-#[derive(Clone)]
-pub struct Stated;
-
-impl Rules for Stated {}
