@@ -1,6 +1,8 @@
 //! Wrong programs: the generated scripts must tell each of them from the right one.
 
 mod buffers;
+mod commits;
+mod limits;
 mod machines;
 mod texts;
 

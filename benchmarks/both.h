@@ -1,0 +1,37 @@
+// A mix of calls played in Rattle and in C, each on a memory and a list of its own, and compared.
+#ifndef BOTH_H
+#define BOTH_H
+
+#include "inplace.h"
+
+enum { MOST_WORDS = 4100, MOST_NUMBERS = 1040, MOST_PLACES = 1040, NEVER = -1 };
+
+enum mix { BUFFER, MACHINE, FINISH };
+
+// A mix to run: `calls` turns, or as many runs of a finish. Memory, program and list are lent with these
+// lengths, whatever the sizes say.
+struct job {
+    enum mix mix;
+    struct sizes sizes;
+    uint32_t calls, seed, limit;
+    struct spoiling spoiling;
+    size_t length, numbers, places;
+};
+
+extern const char *const mix_names[];
+extern uint32_t program[MOST_NUMBERS];
+
+// A program of A, P, L and S in equal parts: register 0 stays 0, register 1 is at most 10, the others take
+// sums and words. Loads and stores are of sixteen words, half of them of three, or of those at register 1
+// from these. One instruction in `wild` is any other with good registers; 0: none is.
+void write_program(size_t instructions, uint32_t seed, uint32_t wild);
+
+// Fills both memories and lists alike, also where a job before made them differ.
+void fill_both(uint32_t seed);
+
+// One run of each, with its time in nanoseconds; whether checksum, memory and list are the same.
+bool play_both(const struct job *j, double *c, double *r);
+
+double now(void);
+
+#endif

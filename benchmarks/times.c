@@ -1,0 +1,63 @@
+// The times of the mixes in Rattle and in C. A round is one run of a mix in each; the least time of many rounds
+// counts. Exit status 1: a checksum, a memory or a list differed.
+#include "both.h"
+
+#include <stdio.h>
+
+enum { WORDS = 96, SECONDS = 15, LINES = 18 };
+
+// A line of the table: a job, and the least time of a round in each.
+struct line {
+    struct job job;
+    double c, r;
+};
+
+static int differences;
+
+// Rounds of every line in turn for SECONDS, so that what else the machine does meets all lines alike.
+static void measure(struct line *lines)
+{
+    double stop = now() + SECONDS * 1e9;
+    while (now() < stop)
+        for (struct line *line = lines; line < lines + LINES; line++) {
+            write_program(line->job.numbers / 4, line->job.seed, 0);
+            fill_both(0);
+            for (int round = 0; round < 4; round++) {
+                double c, r;
+                differences += !play_both(&line->job, &c, &r);
+                line->c = c < line->c ? c : line->c;
+                line->r = r < line->r ? r : line->r;
+            }
+        }
+}
+
+static void print(const struct line *line)
+{
+    const struct job *j = &line->job;
+    double calls = j->mix == FINISH ? j->calls * j->numbers / 4 : j->calls;
+    printf("%-8s %3zu %5zux%zu %12.0f %12.0f %8.1f\n", mix_names[j->mix], j->sizes.stages, j->sizes.banks,
+           j->sizes.rows, line->c / calls, line->r / calls, line->r / line->c);
+}
+
+int main(void)
+{
+    static const struct sizes tables[] = {{1, 1, 0, WORDS}, {1, 8, 0, WORDS}, {8, 8, 0, WORDS}};
+    struct line lines[LINES];
+    for (size_t i = 0; i < LINES; i++) {
+        struct job j = {.mix = i / 6, .sizes = tables[i % 3], .seed = 11, .spoiling.when = NEVER};
+        j.sizes.stages = i / 3 % 2 ? 16 : 4;
+        j.calls = j.mix == FINISH ? 1 : 1000;
+        j.limit = 256;
+        j.length = WORDS;
+        j.numbers = (j.mix == FINISH ? 256 : 64) * 4;
+        j.places = 1024;
+        lines[i] = (struct line){j, 1e18, 1e18};
+    }
+    measure(lines);
+    printf("%-8s %3s %7s %12s %12s %8s\n", "mix", "n", "B x R", "C, ns", "Rattle, ns", "ratio");
+    for (size_t i = 0; i < LINES; i++)
+        print(&lines[i]);
+    if (differences)
+        fprintf(stderr, "%d rounds in which C and Rattle differ\n", differences);
+    return differences != 0;
+}
