@@ -3,8 +3,9 @@
 #include "both.h"
 
 #include <stdio.h>
+#include <string.h>
 
-enum { SHOWN = 3, SPOILED_CALLS = 60, WHOLE_CALLS = 600 };
+enum { SHOWN = 3, SPOILED_CALLS = 60, WHOLE_CALLS = 600, LONG_CALLS = 2000 };
 
 static const size_t memories[] = {96, 40, 41, 75, 76, 36};
 static size_t runs, differing, passed, failed;
@@ -17,10 +18,12 @@ static void run(const struct job *j)
     runs++;
     if (play_both(j, &c, &r) || differing++ >= SHOWN)
         return;
-    printf("%s, B %zu R %zu n %zu W %zu, memory of %zu, program of %zu, list of %zu, limit %u, seed %u, part %zu "
-           "spoiled by %zu with %u left: other answers\n",
+    printf("%s, B %zu R %zu n %zu W %zu, memory of %zu, program of %zu, list of %zu, limit %u, seed %u",
            mix_names[j->mix], j->sizes.banks, j->sizes.rows, j->sizes.stages, j->sizes.words, j->length,
-           j->numbers, j->places, j->limit, j->seed, j->spoiling.part, j->spoiling.by, j->spoiling.when);
+           j->numbers, j->places, j->limit, j->seed);
+    if (j->spoiling.when < j->calls)
+        printf(", part %zu spoiled by %zu with %u left", j->spoiling.part, j->spoiling.by, j->spoiling.when);
+    printf(": other answers\n");
 }
 
 static void close_batch(const char *name)
@@ -49,14 +52,26 @@ static void every_table(void (*each)(struct sizes sizes, size_t part), size_t pa
 {
     for (size_t banks = 1; banks <= 8; banks *= 2)
         for (size_t rows = 1; rows <= 8; rows++)
-            for (size_t stages = 1; stages <= 16; stages++)
-                each((struct sizes){banks, rows, stages, memories[seed % 6]}, part);
+            for (size_t stages = 1; stages <= 16; stages++) {
+                size_t words = memories[(seed * UINT32_C(2654435761) >> 20) % 6];
+                each((struct sizes){banks, rows, stages, words}, part);
+            }
 }
 
 static void whole(struct sizes sizes, size_t mix)
 {
     for (int times = 0; times < 2; times++) {
         struct job j = prepared(mix, sizes);
+        run(&j);
+    }
+}
+
+// Runs in which windows of sixteen stages are full now and then, so that far references meet.
+static void long_windows(enum mix mix)
+{
+    for (uint32_t times = 0; times < 2000; times++) {
+        struct job j = prepared(mix, (struct sizes){1 << times % 4, 8 - times / 4 % 3, 16, 96});
+        j.calls = LONG_CALLS;
         run(&j);
     }
 }
@@ -68,7 +83,16 @@ static void spoiled(enum mix mix, struct sizes sizes, size_t part)
     for (int times = 0; times < 6; times++) {
         struct job j = prepared(mix, sizes);
         j.calls = SPOILED_CALLS;
-        j.spoiling = (struct spoiling){left[times % 3], part, j.seed * UINT32_C(2654435761) >> 17};
+        size_t by = j.seed * UINT32_C(2654435761) >> 17;
+        j.spoiling = (struct spoiling){left[times % 3], part, by};
+        // words wrap: W becomes smaller than the memory
+        if (part == 3 && times % 2)
+            j.spoiling.by = 0 - (1 + by % 40);
+        // a short program, after which its last instruction stands once more
+        if (part >= 10 && times % 2) {
+            j.numbers = 32;
+            memcpy(program + 32, program + 28, 4 * sizeof *program);
+        }
         run(&j);
     }
 }
@@ -129,17 +153,19 @@ static void programs(enum mix mix)
             write_program(260, j.seed, 0);
             run(&j);
         }
-    for (size_t place = 0; place < 32; place++)
+    // the first eight instructions, and the last one
+    for (size_t place = 0; place < 36; place++)
         for (size_t value = 0; value < 10; value++)
             for (size_t code = 1; code <= 4; code++)
                 for (size_t more = 0; more < 2; more++) {
                     struct job j = prepared(mix, sizes);
-                    uint32_t *instruction = program + place / 4 * 4;
+                    size_t at = place < 32 ? place : j.numbers - 36 + place;
+                    uint32_t *instruction = program + at / 4 * 4;
                     j.calls = mix == FINISH ? 1 : 100;
                     j.length += more;
                     instruction[0] = code;
                     instruction[3] %= 8;
-                    program[place] = values[value];
+                    program[at] = values[value];
                     run(&j);
                 }
 }
@@ -157,11 +183,16 @@ int main(void)
         snprintf(name, sizeof name, "%s, openings", mix_names[mix]);
         openings(mix);
         close_batch(name);
-        if (mix == BUFFER)
-            continue;
-        snprintf(name, sizeof name, "%s, programs", mix_names[mix]);
-        programs(mix);
-        close_batch(name);
+        if (mix != BUFFER) {
+            snprintf(name, sizeof name, "%s, programs", mix_names[mix]);
+            programs(mix);
+            close_batch(name);
+        }
+        if (mix != FINISH) {
+            snprintf(name, sizeof name, "%s, long windows", mix_names[mix]);
+            long_windows(mix);
+            close_batch(name);
+        }
     }
     for (size_t part = 0; part < 12; part++) {
         if (part < 10) {

@@ -36,7 +36,8 @@ void write_program(size_t instructions, uint32_t seed, uint32_t wild)
         to[1] = code == 1 && base ? 1 : d;
         to[2] = code == 1 && base ? 0 : code >= 3 ? base : s;
         to[3] = code == 1 ? (base ? word % 15 : word) : code == 2 ? x / 262144 % 8 : word;
-        if (wild && x / 16384 % wild == 0) {
+        // not the first: an entry that was never issued is blank in a way of its own on each side, and unlike it
+        if (i > 0 && wild && x / 16384 % wild == 0) {
             to[1] = x / 64 % 8;
             to[2] = s;
             to[3] = code == 2 ? x / 512 % 8 : x / 1024 % 2 ? 0 - word : word;

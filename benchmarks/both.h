@@ -23,7 +23,7 @@ extern uint32_t program[MOST_NUMBERS];
 
 // A program of A, P, L and S in equal parts: register 0 stays 0, register 1 is at most 10, the others take
 // sums and words. Loads and stores are of sixteen words, half of them of three, or of those at register 1
-// from these. One instruction in `wild` is any other with good registers; 0: none is.
+// from these. One instruction in `wild` after the first has any registers; 0: none has.
 void write_program(size_t instructions, uint32_t seed, uint32_t wild);
 
 // Fills both memories and lists alike, also where a job before made them differ.
