@@ -27,3 +27,5 @@ pub mod Beginnings
 pub mod Pieces
 pub mod Truth
 pub mod Examples
+pub mod Flaws
+pub mod MessageExamples

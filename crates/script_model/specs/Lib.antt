@@ -3,4 +3,6 @@ pub mod Language
 pub mod Output
 pub mod Playing
 pub mod Truth
+pub mod Flaw
+pub mod Message
 pub mod computed

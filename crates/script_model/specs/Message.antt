@@ -1,0 +1,115 @@
+-- The message that says why a script is bad: `arb: line N: `, what is wrong, found and expected, and a line feed.
+-- proofs/MessageExamples.antt has a script for each reason with its message.
+-- Assumes nothing.
+use mathlib.Core.Path.{_≡_}
+use mathlib.Core.Bool.{Bool, true, false, cond, _&&_}
+use mathlib.Core.List.{List, _++_, [] as nothing, _∷_ as _then_}
+use Prim.Native.Nat.{ℕ, _+_}
+use Prim.Native.Char.{code}
+use Prim.Native.String.{String, [], _∷_}
+use lib.Dec.{eqb, leb, ltb}
+use lib.ListN.{length}
+use lib.Seq.{sets}
+use Rattle.text.specs.Decimal.{decimal}
+use Rattle.script_model.specs.declared.Defect.{Defect}
+use Rattle.script_model.specs.declared.Defect.the-variants.{Sound, Missing, Zero, Stray, Large, Beyond}
+use Rattle.script_model.specs.declared.Reason.{Reason}
+use Rattle.script_model.specs.declared.Reason.the-variants.{Fine, TooLong, NoInput, Blank, Unended, CarriageReturn, NoSizes}
+use Rattle.script_model.specs.declared.Reason.the-variants.{SizesAgain, Letter, Glued, Count, Field, Full, Late}
+use Rattle.script_model.specs.declared.Flaw.{Flaw}
+use Rattle.script_model.specs.Flaw.{arity, isFine}
+
+-- the bytes of a text of ASCII characters
+unfoldable pub ascii : String → List ℕ
+ascii [] = nothing
+ascii (c ∷ s) = code c then ascii s
+
+-- a byte: itself between quotes, or its number where it is no printable character
+abbrev pub byteText : ℕ → List ℕ
+byteText b = cond (leb 32 b && leb b 126) (39 then b then 39 then nothing) (ascii "byte " ++ decimal b)
+
+-- the form of the lines with this letter, between quotes
+abbrev pub formText : ℕ → List ℕ
+formText b =
+    (39 then b then nothing)
+    ++ cond (eqb (arity b) 5) (ascii ",banks,rows,stages,words'")
+    (cond (eqb (arity b) 4) (ascii ",d,s,imm'") (cond (eqb (arity b) 2) (ascii ",k'") (ascii "'")))
+
+-- one of four, for the fields 2 to 5 of the sizes
+abbrev pub ofFour : ℕ → List ℕ → List ℕ → List ℕ → List ℕ → List ℕ
+ofFour k a b c d = cond (eqb k 2) a (cond (eqb k 3) b (cond (eqb k 4) c d))
+
+-- the name of field k of such lines
+abbrev pub nameText : ℕ → ℕ → List ℕ
+nameText b k =
+    cond (eqb (arity b) 5) (ofFour k (ascii "banks") (ascii "rows") (ascii "stages") (ascii "words"))
+    (cond (eqb (arity b) 4) (cond (eqb k 2) (ascii "d") (cond (eqb k 3) (ascii "s") (ascii "imm"))) (ascii "k"))
+
+-- the limits of its number
+abbrev pub limitText : ℕ → ℕ → List ℕ
+limitText b k =
+    cond (eqb (arity b) 5) (ofFour k (ascii "1, 2, 4 or 8") (ascii "1 to 8") (ascii "1 to 16") (ascii "1 to 4096"))
+    (ascii "a register from 0 to 7")
+
+abbrev pub numberText : List ℕ
+numberText = ascii "a number from 0 to 4294967295 without extra leading zeros"
+
+-- what a field is, and what it should be
+abbrev pub foundText : Defect → List ℕ
+foundText Sound = nothing
+foundText Missing = ascii "nothing"
+foundText Zero = ascii "an extra leading zero"
+foundText (Stray b) = byteText b
+foundText Large = ascii "a number above 4294967295"
+foundText (Beyond v) = decimal v
+
+abbrev pub expectedText : ℕ → ℕ → Defect → List ℕ
+expectedText b k Sound = numberText
+expectedText b k Missing = numberText
+expectedText b k Zero = numberText
+expectedText b k (Stray c) = numberText
+expectedText b k Large = numberText
+expectedText b k (Beyond v) = limitText b k
+
+abbrev pub fieldText : ℕ → ℕ → Defect → List ℕ
+fieldText b k d =
+    ascii "field " ++ decimal k ++ ascii " (" ++ nameText b k ++ ascii ") of " ++ formText b ++ ascii ": found " ++ foundText d
+    ++ ascii ", expected " ++ expectedText b k d
+
+abbrev pub countText : ℕ → ℕ → List ℕ
+countText b n =
+    ascii "fields: found " ++ decimal n ++ ascii ", expected " ++ decimal (arity b) ++ ascii " as in " ++ formText b
+
+abbrev pub reasonText : Reason → List ℕ
+reasonText Fine = nothing
+reasonText TooLong = ascii "found more than 65536 bytes of input, expected at most 65536"
+reasonText NoInput = ascii "found no input, expected 'N,banks,rows,stages,words'"
+reasonText Blank = ascii "found an empty line, expected a letter"
+reasonText Unended = ascii "found the end of the input, expected a line feed at the end of the line"
+reasonText CarriageReturn = ascii "found a carriage return (byte 13) at the end of the line, expected a line feed alone"
+reasonText (NoSizes b) = ascii "found " ++ byteText b ++ ascii " first, expected 'N,banks,rows,stages,words'"
+reasonText SizesAgain = ascii "found a second line of sizes, expected an instruction or a step"
+reasonText (Letter b) = ascii "found " ++ byteText b ++ ascii ", expected A, P, L, S, i, e, q, c or x"
+reasonText (Glued b c) = ascii "found " ++ byteText c ++ ascii " behind the letter, expected " ++ formText b
+reasonText (Count b n) = countText b n
+reasonText (Field b k d) = fieldText b k d
+reasonText Full = ascii "found a 257th instruction, expected at most 256"
+reasonText Late = ascii "found an instruction after a step, expected a step"
+
+abbrev pub messageText : Flaw → List ℕ
+messageText f = ascii "arb: line " ++ decimal (f .line) ++ ascii ": " ++ reasonText (f .reason) ++ (10 then nothing)
+
+-- ---- writing it
+
+-- these bytes were put at `at` into `out`, which is now `into`; they end at `end`, and all else stays
+pub record Puts (out : List ℕ) (at : ℕ) (bytes into : List ℕ) (end : ℕ) : Type 0 where
+  pub ended : end ≡ at + length bytes
+  pub put : into ≡ sets out at bytes
+
+-- the room that a message needs
+abbrev pub messageRoom : ℕ
+messageRoom = 256
+
+-- what is written of a flaw: nothing where there is none, or where there may be no room
+abbrev pub written : List ℕ → Flaw → List ℕ
+written out f = cond (isFine (f .reason)) nothing (cond (ltb (length out) messageRoom) nothing (messageText f))
