@@ -14,7 +14,8 @@ ghost use lib.ListN.{length, getD};
 ghost use lib.Seq.{slice};
 ghost use Rattle.text.specs.Fields.{empty};
 ghost use Rattle.script_model.specs.Flaw.{arity, commas, digitTook, took, noNumber, malformed, noSizes, unfit, unformed};
-ghost use Rattle.script_model.specs.Flaw.{ofMalformed, ofSizes, ofOperation, ofStep, reasonIn, isFine, nextPart, ofEnd, flawOf};
+ghost use Rattle.script_model.specs.Flaw.{ofMalformed, ofSizes, ofOperation, ofStep, reasonIn, isFine};
+ghost use Rattle.script_model.specs.Flaw.{afterOperation, afterOther, nextPart, ofEnd, flawOf};
 ghost use Rattle.script_model.specs.computed.Looking.{openOf, Looks};
 
 // How many fields a line with this letter has, the letter among them; 0 where there is no such letter.
@@ -152,4 +153,253 @@ fn find_malformed(s: &[u8], from: usize, to: usize) -> Reason
         return Reason::Count(b, found);
     }
     find_defect(s, b, from + 2, to)
+}
+
+// What is wrong with the first line, which is none of the forms.
+fn find_first(s: &[u8], from: usize, to: usize) -> Reason
+    requires { ⌜ (from ≤ to) × (to < length (now s)) ⌝ }
+    ensures { λ r. ⌜ r ≡ noSizes (slice from to (now (s .entry))) ⌝ }
+{
+    if to <= from {
+        return Reason::Blank;
+    }
+    let b = s[from];
+    if b == b'N' {
+        return find_malformed(s, from, to);
+    }
+    Reason::NoSizes(b)
+}
+
+// What is wrong with a malformed line at its place.
+fn of_malformed(s: &[u8], from: usize, to: usize, part: Part) -> Reason
+    requires { ⌜ (from ≤ to) × (to < length (now s)) ⌝ }
+    ensures { λ r. ⌜ r ≡ ofMalformed part (slice from to (now (s .entry))) ⌝ }
+{
+    match part {
+        Part::First => find_first(s, from, to),
+        Part::Program(_) => find_malformed(s, from, to),
+        Part::Steps => find_malformed(s, from, to),
+    }
+}
+
+// The leftmost of the sizes outside its limits.
+fn find_unfit(banks: u32, rows: u32, stages: u32, words: u32) -> Reason
+    ensures { λ r. ⌜ r ≡ unfit banks rows stages words ⌝ }
+{
+    if !((banks == 1) | (banks == 2) | (banks == 4) | (banks == 8)) {
+        return Reason::Field(b'N', 2, Defect::Beyond(banks));
+    }
+    if !((1 <= rows) & (rows <= 8)) {
+        return Reason::Field(b'N', 3, Defect::Beyond(rows));
+    }
+    if !((1 <= stages) & (stages <= 16)) {
+        return Reason::Field(b'N', 4, Defect::Beyond(stages));
+    }
+    if !((1 <= words) & (words <= 4096)) {
+        return Reason::Field(b'N', 5, Defect::Beyond(words));
+    }
+    Reason::Fine
+}
+
+// What is wrong with a line of sizes at its place.
+fn of_sizes(part: Part, banks: u32, rows: u32, stages: u32, words: u32) -> Reason
+    ensures { λ r. ⌜ r ≡ ofSizes part banks rows stages words ⌝ }
+{
+    match part {
+        Part::First => find_unfit(banks, rows, stages, words),
+        Part::Program(_) => Reason::SizesAgain,
+        Part::Steps => Reason::SizesAgain,
+    }
+}
+
+// The leftmost register above 7.
+fn find_unformed(letter: u8, code: u32, d: u32, s: u32, imm: u32) -> Reason
+    ensures { λ r. ⌜ r ≡ unformed letter code d s imm ⌝ }
+{
+    if machine_isa::well_formed(code, d, s, imm) {
+        return Reason::Fine;
+    }
+    if 7 < d {
+        return Reason::Field(letter, 2, Defect::Beyond(d));
+    }
+    if 7 < s {
+        return Reason::Field(letter, 3, Defect::Beyond(s));
+    }
+    Reason::Field(letter, 4, Defect::Beyond(imm))
+}
+
+// What is wrong with an instruction at its place.
+fn of_operation(part: Part, letter: u8, code: u32, d: u32, s: u32, imm: u32) -> Reason
+    ensures { λ r. ⌜ r ≡ ofOperation part letter code d s imm ⌝ }
+{
+    match part {
+        Part::First => Reason::NoSizes(letter),
+        Part::Program(room) => {
+            if 0 < room {
+                return find_unformed(letter, code, d, s, imm);
+            }
+            Reason::Full
+        }
+        Part::Steps => Reason::Late,
+    }
+}
+
+// What is wrong with a step at its place.
+fn of_step(part: Part, letter: u8) -> Reason
+    ensures { λ r. ⌜ r ≡ ofStep part letter ⌝ }
+{
+    match part {
+        Part::First => Reason::NoSizes(letter),
+        Part::Program(_) => Reason::Fine,
+        Part::Steps => Reason::Fine,
+    }
+}
+
+// The first byte of a line; 0 where it is empty.
+fn first_byte(s: &[u8], from: usize, to: usize) -> u8
+    requires { ⌜ to ≤ length (now s) ⌝ }
+    ensures { λ r. ⌜ r ≡ getD (slice from to (now (s .entry))) 0 0 ⌝ }
+{
+    if from < to {
+        return s[from];
+    }
+    0
+}
+
+// What is wrong with the line from `from` up to `to`, which is this item, in this part.
+fn reason_in(s: &[u8], from: usize, to: usize, part: Part, item: Item) -> Reason
+    requires { ⌜ (from ≤ to) × (to < length (now s)) ⌝ }
+    ensures { λ r. ⌜ r ≡ reasonIn part item (slice from to (now (s .entry))) ⌝ }
+{
+    let letter = first_byte(s, from, to);
+    match item {
+        Item::Malformed => of_malformed(s, from, to, part),
+        Item::Sizes(banks, rows, stages, words) => of_sizes(part, banks, rows, stages, words),
+        Item::Operation(code, d, r, imm) => of_operation(part, letter, code, d, r, imm),
+        Item::Issue => of_step(part, letter),
+        Item::Execute(_) => of_step(part, letter),
+        Item::Squash(_) => of_step(part, letter),
+        Item::Commit => of_step(part, letter),
+        Item::Finish(_) => of_step(part, letter),
+    }
+}
+
+// Whether nothing is wrong.
+pub fn is_fine(r: Reason) -> bool
+    ensures { λ b. ⌜ b ≡ isFine r ⌝ }
+{
+    match r {
+        Reason::Fine => true,
+        Reason::TooLong => false,
+        Reason::NoInput => false,
+        Reason::Blank => false,
+        Reason::Unended => false,
+        Reason::CarriageReturn => false,
+        Reason::NoSizes(_) => false,
+        Reason::SizesAgain => false,
+        Reason::Letter(_) => false,
+        Reason::Glued(_, _) => false,
+        Reason::Count(_, _) => false,
+        Reason::Field(_, _, _) => false,
+        Reason::Full => false,
+        Reason::Late => false,
+    }
+}
+
+// The part of the line after an instruction.
+fn after_operation(part: Part) -> Part
+    ensures { λ r. ⌜ r ≡ afterOperation part ⌝ }
+{
+    match part {
+        Part::First => Part::Program(256),
+        Part::Program(room) => {
+            if 0 < room {
+                return Part::Program(room - 1);
+            }
+            Part::Program(0)
+        }
+        Part::Steps => Part::Steps,
+    }
+}
+
+// The part of the line after any other.
+fn after_other(part: Part) -> Part
+    ensures { λ r. ⌜ r ≡ afterOther part ⌝ }
+{
+    match part {
+        Part::First => Part::Program(256),
+        Part::Program(_) => Part::Steps,
+        Part::Steps => Part::Steps,
+    }
+}
+
+// The part of the next line.
+fn next_part(part: Part, item: Item) -> Part
+    ensures { λ r. ⌜ r ≡ nextPart part item ⌝ }
+{
+    match item {
+        Item::Malformed => after_other(part),
+        Item::Sizes(_, _, _, _) => after_other(part),
+        Item::Operation(_, _, _, _) => after_operation(part),
+        Item::Issue => after_other(part),
+        Item::Execute(_) => after_other(part),
+        Item::Squash(_) => after_other(part),
+        Item::Commit => after_other(part),
+        Item::Finish(_) => after_other(part),
+    }
+}
+
+// What is wrong where no line is left.
+fn at_end(part: Part) -> Reason
+    ensures { λ r. ⌜ r ≡ ofEnd part ⌝ }
+{
+    match part {
+        Part::First => Reason::NoInput,
+        Part::Program(_) => Reason::Fine,
+        Part::Steps => Reason::Fine,
+    }
+}
+
+// What the line that begins at `at` leads to.
+fn look(s: &[u8], at: usize, part: Part) -> Outlook
+    ensures { λ r. ⌜ Looks (now (s .entry)) at part r ⌝ }
+{
+    let line = text::line_at(s, at);
+    match line {
+        Line::End => Outlook::Ends(at_end(part)),
+        Line::Unended(_) => Outlook::Ends(Reason::Unended),
+        Line::Whole(from, to) => {
+            let item = script_reading::read_item(s, from, to);
+            let reason = reason_in(s, from, to, part, item);
+            if is_fine(reason) {
+                return Outlook::Goes(next_part(part, item), to + 1);
+            }
+            Outlook::Ends(reason)
+        }
+    }
+}
+
+// The first bad line of a script and what is wrong with it.
+pub fn flaw_of(s: &[u8]) -> Flaw
+    ensures { λ r. ⌜ r ≡ flawOf (now (s .entry)) ⌝ }
+{
+    if MOST < s.len() {
+        return Flaw { line: 0, reason: Reason::TooLong };
+    }
+    let mut at: usize = 0;
+    let mut line: u64 = 1;
+    let mut part = Part::First;
+    loop {
+        let outlook = look(s, at, part);
+        match outlook {
+            Outlook::Ends(reason) => {
+                return Flaw { line, reason };
+            }
+            Outlook::Goes(next, to) => {
+                part = next;
+                at = to;
+                line += 1;
+            }
+        }
+    }
 }

@@ -28,4 +28,5 @@ pub mod Pieces
 pub mod Truth
 pub mod Examples
 pub mod Flaws
+pub mod Looking
 pub mod MessageExamples

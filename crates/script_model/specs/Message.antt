@@ -1,15 +1,13 @@
 -- The message that says why a script is bad: `arb: line N: `, what is wrong, found and expected, and a line feed.
 -- proofs/MessageExamples.antt has a script for each reason with its message.
 -- Assumes nothing.
-use mathlib.Core.Path.{_≡_}
-use mathlib.Core.Bool.{Bool, true, false, cond, _&&_}
+use mathlib.Core.Bool.{cond, _&&_}
 use mathlib.Core.List.{List, _++_, [] as nothing, _∷_ as _then_}
-use Prim.Native.Nat.{ℕ, _+_}
+use Prim.Native.Nat.{ℕ}
 use Prim.Native.Char.{code}
 use Prim.Native.String.{String, [], _∷_}
 use lib.Dec.{eqb, leb, ltb}
 use lib.ListN.{length}
-use lib.Seq.{sets}
 use Rattle.text.specs.Decimal.{decimal}
 use Rattle.script_model.specs.declared.Defect.{Defect}
 use Rattle.script_model.specs.declared.Defect.the-variants.{Sound, Missing, Zero, Stray, Large, Beyond}
@@ -100,11 +98,6 @@ abbrev pub messageText : Flaw → List ℕ
 messageText f = ascii "arb: line " ++ decimal (f .line) ++ ascii ": " ++ reasonText (f .reason) ++ (10 then nothing)
 
 -- ---- writing it
-
--- these bytes were put at `at` into `out`, which is now `into`; they end at `end`, and all else stays
-pub record Puts (out : List ℕ) (at : ℕ) (bytes into : List ℕ) (end : ℕ) : Type 0 where
-  pub ended : end ≡ at + length bytes
-  pub put : into ≡ sets out at bytes
 
 -- the room that a message needs
 abbrev pub messageRoom : ℕ

@@ -1,53 +1,71 @@
+-- `script_flaw::count_commas` meets its contract. The loop's invariant: the commas so far and those that are left are all.
+-- Assumes nothing.
+use mathlib.Core.Path.{_≡_}
+use Prim.Native.Nat.{_+_, _-_, _≤_}
+use native.Mathlib.Omega.{arith}
+use lib.Seq.{slice}
+use Rattle.script_model.specs.Flaw.{commas}
+use Rattle.script_model.proofs.Looking.{commas-here, commas-later, commas-none}
 use Rattle.script_flaw.proofs.count_commas.Statement.{statement}
 use Rattle.script_flaw.proofs.count_commas.Tie as tie
-use Rattle.script_flaw.proofs.count_commas.Reads as reads
-use Rattle.script_flaw.proofs.count_commas.Lts as lts
 
 abbrev Inv-loop : tie.InvT-loop
-Inv-loop s from to n₀ i₀ n i = ?
+Inv-loop s from to n₀ i₀ n i = (n + commas (slice i to s) ≡ commas (slice from to s)) × (n + from ≤ i) × (i ≤ to)
 
 abbrev μ-loop : tie.MeasureT-loop
-μ-loop s from to n₀ i₀ n i = ?
+μ-loop s from to n₀ i₀ n i = to - i
 
 -- src/lib.rt:116:5
 loop-holds : tie.Need-loop-holds Inv-loop μ-loop
-loop-holds c = ?
+loop-holds c = (omega arith, omega arith, c .pre .0)
 
 -- src/lib.rt:117:12
 shared-slice-read-if1 : tie.Need-shared-slice-read-if1 Inv-loop μ-loop
-shared-slice-read-if1 c = ?
+shared-slice-read-if1 c = omega (arith, c .before .before .before .pre .1)
 
 -- src/lib.rt:118:13
 add-n : tie.Need-add-n Inv-loop μ-loop
-add-n c = ?
+add-n c = omega (arith, c .before .before .before .loop .inv)
 
 -- src/lib.rt:119:13
 add-i : tie.Need-add-i Inv-loop μ-loop
-add-i c = ?
+add-i c = omega (arith, c .before .before .before .loop .inv)
 
 -- src/lib.rt:116:5
 loop-less : tie.Need-loop-less Inv-loop μ-loop
-loop-less c = ?
+loop-less c = omega arith
 
 -- src/lib.rt:116:5
 loop-again : tie.Need-loop-again Inv-loop μ-loop
-loop-again c = ?
+loop-again c =
+    let a = c .before .before .before .before .args in
+    let l = c .before .before .before .loop in
+    (omega (arith, l .inv .0, commas-here (a .s .now) (l .i) (a .to) (omega arith) (c .before .before .before .before .pre .1) (c .if1 .taken)),
+      omega (arith, l .inv .1), omega arith)
 
 -- src/lib.rt:121:13
 add-i-2 : tie.Need-add-i-2 Inv-loop μ-loop
-add-i-2 c = ?
+add-i-2 c = omega (arith, c .before .before .before .loop .inv)
 
 -- src/lib.rt:116:5
 loop-less-2 : tie.Need-loop-less-2 Inv-loop μ-loop
-loop-less-2 c = ?
+loop-less-2 c = omega arith
 
 -- src/lib.rt:116:5
 loop-again-2 : tie.Need-loop-again-2 Inv-loop μ-loop
-loop-again-2 c = ?
+loop-again-2 c =
+    let a = c .before .before .before .before .args in
+    let l = c .before .before .before .loop in
+    (omega (arith, l .inv .0, commas-later (a .s .now) (l .i) (a .to) (omega arith) (c .before .before .before .before .pre .1) (c .if1 .left)),
+      omega (arith, l .inv .1), omega arith)
 
 -- src/lib.rt:109:1
 returns : tie.Need-returns Inv-loop μ-loop
-returns c = ?
+returns c =
+    let a = c .before .before .args in
+    let l = c .before .loop in
+    (omega (arith, l .inv .0, commas-none (a .s .now) (l .i) (a .to) (omega arith) (c .before .before .pre .1)),
+      omega (arith, l .inv .1, l .inv .2))
 
 pub count-commas-spec : {M : Type 1} → statement M
 count-commas-spec =

@@ -1,78 +1,109 @@
+-- `script_flaw::find_defect` meets its contract. The loop's invariant: what the bytes that are left say of the field now open
+-- is what the whole line says. Assumes nothing.
+use mathlib.Core.Path.{_≡_, refl, sym, _∙_}
+use Prim.Native.Nat.{_-_, _≤_}
+use native.Mathlib.Omega.{arith}
+use lib.Seq.{slice}
+use Rattle.text.specs.Fields.{empty}
+use Rattle.script_model.specs.Flaw.{noNumber}
+use Rattle.script_model.specs.computed.Looking.{openOf}
+use Rattle.script_model.proofs.Looking.{number-ends, number-grows, number-wrong, number-last, number-missing}
+use borrow.Author.Needs.{needs}
 use Rattle.script_flaw.proofs.find_defect.Statement.{statement}
 use Rattle.script_flaw.proofs.find_defect.Tie as tie
-use Rattle.script_flaw.proofs.find_defect.Reads as reads
-use Rattle.script_flaw.proofs.find_defect.Lts as lts
-use Rattle.script_flaw.proofs.take_byte.Reads as take-byte-reads
 
 abbrev Inv-loop : tie.InvT-loop
-Inv-loop s letter from to k₀ begun₀ x₀ i₀ k begun x i = ?
+Inv-loop s letter from to k₀ begun₀ x₀ i₀ k begun x i = (noNumber letter k (openOf begun x) (slice i to s) ≡ noNumber letter 2 empty (slice from to s)) × (k ≤ i)
 
 abbrev μ-loop : tie.MeasureT-loop
-μ-loop s letter from to k₀ begun₀ x₀ i₀ k begun x i = ?
+μ-loop s letter from to k₀ begun₀ x₀ i₀ k begun x i = to - i
 
 -- src/lib.rt:84:5
 loop-holds : tie.Need-loop-holds Inv-loop μ-loop
-loop-holds c = ?
+loop-holds c = (refl, c .before .pre .0)
 
 -- src/lib.rt:85:37
 shared-slice-read-take-byte : tie.Need-shared-slice-read-take-byte Inv-loop μ-loop
-shared-slice-read-take-byte c = ?
+shared-slice-read-take-byte c = omega (arith, c .before .before .before .before .pre .1)
 
 -- src/lib.rt:85:13
 take-byte-requires : tie.Need-take-byte-requires Inv-loop μ-loop
-take-byte-requires c κs = ?
+take-byte-requires c κs = search needs
 
 -- src/lib.rt:88:17
 enum-told : tie.Need-enum-told Inv-loop μ-loop
-enum-told c = ?
+enum-told c = search needs
 
 -- src/lib.rt:88:17
 add-k : tie.Need-add-k Inv-loop μ-loop
-add-k c = ?
+add-k c = omega (arith, c .before .before .before .before .before .loop .inv .1)
 
 -- src/lib.rt:90:17
 add-i : tie.Need-add-i Inv-loop μ-loop
-add-i c = ?
+add-i c = omega arith
 
 -- src/lib.rt:84:5
 loop-less : tie.Need-loop-less Inv-loop μ-loop
-loop-less c = ?
+loop-less c = omega arith
 
 -- src/lib.rt:84:5
 loop-again : tie.Need-loop-again Inv-loop μ-loop
-loop-again c = ?
+loop-again c =
+    let a = c .before .before .before .before .before .before .before .args in
+    let l = c .before .before .before .before .before .loop in
+    let does = sym (c .before .before .take-byte .ensures) ∙ c .enum-told .given .1 in
+    (number-ends (a .s .now) (a .letter) (l .k) (openOf (l .begun) (l .x)) (l .i) (a .to) (omega arith) (c .before .before .before .before .before .before .before .pre .1) does
+      ∙ l .inv .0, omega (arith, l .inv .1))
 
 -- src/lib.rt:92:25
 enum-known-t : tie.Need-enum-known-t Inv-loop μ-loop
-enum-known-t c = ?
+enum-known-t c = search needs
 
 -- src/lib.rt:95:17
 add-i-2 : tie.Need-add-i-2 Inv-loop μ-loop
-add-i-2 c = ?
+add-i-2 c = omega arith
 
 -- src/lib.rt:84:5
 loop-less-2 : tie.Need-loop-less-2 Inv-loop μ-loop
-loop-less-2 c = ?
+loop-less-2 c = omega arith
 
 -- src/lib.rt:84:5
 loop-again-2 : tie.Need-loop-again-2 Inv-loop μ-loop
-loop-again-2 c = ?
+loop-again-2 c =
+    let a = c .before .before .before .before .before .before .before .before .args in
+    let l = c .before .before .before .before .before .before .loop in
+    let does = sym (c .before .before .before .take-byte .ensures) ∙ c .before .t .given .1 in
+    (number-grows (a .s .now) (a .letter) (l .k) (openOf (l .begun) (l .x)) (l .i) (a .to) (omega arith) (c .before .before .before .before .before .before .before .before .pre .1) _ does
+      ∙ l .inv .0, omega (arith, l .inv .1))
 
 -- src/lib.rt:97:25
 enum-known-t-2 : tie.Need-enum-known-t-2 Inv-loop μ-loop
-enum-known-t-2 c = ?
+enum-known-t-2 c = search needs
 
 -- src/lib.rt:98:17
 returns : tie.Need-returns Inv-loop μ-loop
-returns c = ?
+returns c =
+    let a = c .before .before .before .before .before .before .before .before .args in
+    let l = c .before .before .before .before .before .before .loop in
+    let does = sym (c .before .before .before .take-byte .ensures) ∙ c .before .t2 .given .1 in
+    number-wrong (a .s .now) (a .letter) (l .k) (openOf (l .begun) (l .x)) (l .i) (a .to) (omega arith) (c .before .before .before .before .before .before .before .before .pre .1) _ does
+      ∙ l .inv .0
 
 -- src/lib.rt:103:9
 returns-2 : tie.Need-returns-2 Inv-loop μ-loop
-returns-2 c = ?
+returns-2 c =
+    let a = c .before .before .before .before .args in
+    let l = c .before .before .loop in
+    number-last (a .s .now) (a .letter) (l .k) (l .x) (l .i) (a .to) (l .begun) (omega arith) (c .before .before .before .before .pre .1) (c .if1 .taken)
+    ∙ l .inv .0
 
 -- src/lib.rt:76:1
 returns-3 : tie.Need-returns-3 Inv-loop μ-loop
-returns-3 c = ?
+returns-3 c =
+    let a = c .before .before .before .before .args in
+    let l = c .before .before .loop in
+    number-missing (a .s .now) (a .letter) (l .k) (l .x) (l .i) (a .to) (l .begun) (omega arith) (c .before .before .before .before .pre .1) (c .if1 .left)
+    ∙ l .inv .0
 
 pub find-defect-spec : {M : Type 1} → statement M
 find-defect-spec =

@@ -1,16 +1,23 @@
+-- `script_flaw::take_digit` meets its contract: a first digit, one after a zero, one that fits and one that does not.
+-- Assumes nothing.
+use native.Mathlib.Omega.{arith}
+use Prim.Native.Nat.{_+_, _*_}
+use borrow.Author.Tests.{not-true, not-false, lt-ltb, le-ltb, le-leb, lt-leb}
 use borrow.Author.Needs.{needs}
 use Rattle.script_flaw.proofs.take_digit.Statement.{statement}
 use Rattle.script_flaw.proofs.take_digit.Tie as tie
-use Rattle.script_flaw.proofs.take_digit.Reads as reads
-use Rattle.script_flaw.proofs.take_digit.Lts as lts
 
 -- src/lib.rt:45:9
 returns : tie.Need-returns
-returns c = ?
+returns c =
+    let a = c .before .args in
+    rw (not-true (a .begun) (c .if1 .taken))
 
 -- src/lib.rt:48:9
 returns-2 : tie.Need-returns-2
-returns-2 c = ?
+returns-2 c =
+    let a = c .before .before .args in
+    rw (not-false (a .begun) (c .before .if1 .left), le-ltb 0 (a .x) (omega arith))
 
 -- src/lib.rt:50:8
 mul-if3 : tie.Need-mul-if3
@@ -30,11 +37,15 @@ add-t11 c = search needs
 
 -- src/lib.rt:51:9
 returns-3 : tie.Need-returns-3
-returns-3 c = ?
+returns-3 c =
+    let a = c .before .before .before .args in
+    rw (not-false (a .begun) (c .before .before .if1 .left), lt-ltb 0 (a .x) (omega arith), le-leb (a .x * 10 + a .d) 4294967295 (c .if3 .taken))
 
 -- src/lib.rt:40:1
 returns-4 : tie.Need-returns-4
-returns-4 c = ?
+returns-4 c =
+    let a = c .before .before .before .args in
+    rw (not-false (a .begun) (c .before .before .if1 .left), lt-ltb 0 (a .x) (omega arith), lt-leb (a .x * 10 + a .d) 4294967295 (c .if3 .left))
 
 pub take-digit-spec : {M : Type 1} → statement M
 take-digit-spec =

@@ -1,0 +1,114 @@
+-- `script_flaw::look` meets its contract: no line, an unended one, a whole line that is fine or not. Assumes nothing.
+use mathlib.Core.Path.{_≡_, sym, subst, _∙_}
+use Prim.Native.Nat.{_+_}
+use native.Mathlib.Omega.{arith}
+use Rattle.text.specs.Lines.{lineAt}
+use Rattle.text.specs.declared.Line.the-variants.{Whole}
+use Rattle.text.proofs.Splits.{LineIs, line-is}
+use Rattle.script_model.specs.declared.Part.{Part}
+use Rattle.script_model.specs.declared.Reason.{Reason}
+use Rattle.script_model.specs.declared.Outlook.the-variants.{Ends, Goes}
+use Rattle.script_model.specs.computed.Looking.{Looks}
+use Rattle.script_model.proofs.Looking.{looks-on, looks-end, looks-unended, looks-bad}
+use borrow.Author.Needs.{needs}
+use Rattle.script_flaw.proofs.look.Statement.{statement}
+use Rattle.script_flaw.proofs.look.Tie as tie
+
+-- the whole line that was found
+found : (c : tie.After-known-told)
+    → lineAt (c .before .before .before .before .before .args .s .now) (c .before .before .before .before .before .args .at) ≡ Whole (c .before .line .given .0 .0) (c .before .line .given .0 .1 .0)
+found c = sym (c .before .before .before .line-at .ensures) ∙ c .before .line .given .1
+
+found-is : (c : tie.After-known-told)
+    → LineIs (c .before .before .before .before .before .args .s .now) (c .before .before .before .before .before .args .at) (Whole (c .before .line .given .0 .0) (c .before .line .given .0 .1 .0))
+found-is c = line-is (c .before .before .before .before .before .args .s .now) (c .before .before .before .before .before .args .at) _ (found c)
+
+-- src/lib.rt:367:9
+line-at-requires : tie.Need-line-at-requires
+line-at-requires c κs = search needs
+
+-- src/lib.rt:369:36
+enum-told : tie.Need-enum-told
+enum-told c = search needs
+
+-- src/lib.rt:369:36
+at-end-requires : tie.Need-at-end-requires
+at-end-requires c κs = search needs
+
+-- src/lib.rt:370:43
+enum-told-2 : tie.Need-enum-told-2
+enum-told-2 c = search needs
+
+-- src/lib.rt:371:21
+enum-known-line : tie.Need-enum-known-line
+enum-known-line c = search needs
+
+-- src/lib.rt:372:17
+read-item-requires : tie.Need-read-item-requires
+read-item-requires c κs = omega (arith, found-is c .2)
+
+-- src/lib.rt:373:17
+reason-in-requires : tie.Need-reason-in-requires
+reason-in-requires c κs =
+    let is = found-is (c .before) in
+    (omega (arith, is .0, is .1), omega (arith, is .2))
+
+-- src/lib.rt:374:16
+is-fine-requires : tie.Need-is-fine-requires
+is-fine-requires c κs = search needs
+
+-- src/lib.rt:375:38
+next-part-requires : tie.Need-next-part-requires
+next-part-requires c κs = search needs
+
+-- src/lib.rt:375:61
+add-t14 : tie.Need-add-t14
+add-t14 c = omega (arith, found-is (c .before .before .before .before .before) .2)
+
+-- src/lib.rt:375:17
+returns : tie.Need-returns
+returns c =
+    let a = c .before .before .before .before .before .before .before .before .before .before .args in
+    let is = found (c .before .before .before .before .before) in
+    subst (λ (p : Part). Looks (a .s .now) (a .at) (a .part) (Goes p (c .before .before .before .before .before .before .line .given .0 .1 .0 + 1))) (sym (c .next-part .ensures))
+    (looks-on (a .s .now) (a .at) _ _ (a .part) (c .before .before .before .before .read-item .result) (c .before .before .before .reason-in .result) is (c .before .before .before .before .read-item .ensures)
+    (c .before .before .before .reason-in .ensures) (sym (c .before .before .is-fine .ensures) ∙ c .before .if1 .taken))
+
+-- src/lib.rt:364:1
+returns-2 : tie.Need-returns-2
+returns-2 c =
+    let a = c .before .before .before .before .before .args in
+    subst (λ (r : Reason). Looks (a .s .now) (a .at) (a .part) (Ends r)) (sym (c .at-end .ensures))
+    (looks-end (a .s .now) (a .at) (a .part) (sym (c .before .before .before .line-at .ensures) ∙ c .before .enum-told .given .1))
+
+-- src/lib.rt:364:1
+returns-3 : tie.Need-returns-3
+returns-3 c =
+    let a = c .before .before .before .before .args in
+    looks-unended (a .s .now) (a .at) _ (a .part) (sym (c .before .before .line-at .ensures) ∙ c .enum-told2 .given .1)
+
+-- src/lib.rt:364:1
+returns-4 : tie.Need-returns-4
+returns-4 c =
+    let a = c .before .before .before .before .before .before .before .before .before .args in
+    looks-bad (a .s .now) (a .at) _ _ (a .part) (c .before .before .before .read-item .result) (c .before .before .reason-in .result) (found (c .before .before .before .before))
+    (c .before .before .before .read-item .ensures) (c .before .before .reason-in .ensures) (sym (c .before .is-fine .ensures) ∙ c .if1 .left)
+
+pub look-spec : {M : Type 1} → statement M
+look-spec =
+    tie.close
+    (tie.spec
+    line-at-requires
+    enum-told
+    at-end-requires
+    enum-told-2
+    enum-known-line
+    read-item-requires
+    reason-in-requires
+    is-fine-requires
+    next-part-requires
+    add-t14
+    returns
+    returns-2
+    returns-3
+    returns-4)

@@ -1,0 +1,31 @@
+-- `script_flaw::of_step` meets its contract, part by part. Assumes nothing.
+use borrow.Author.Needs.{needs}
+use Rattle.script_flaw.proofs.of_step.Statement.{statement}
+use Rattle.script_flaw.proofs.of_step.Tie as tie
+
+-- src/lib.rt:252:24
+enum-told : tie.Need-enum-told
+enum-told c = search needs
+
+-- src/lib.rt:253:29
+enum-told-2 : tie.Need-enum-told-2
+enum-told-2 c = search needs
+
+-- src/lib.rt:254:24
+enum-told-3 : tie.Need-enum-told-3
+enum-told-3 c = search needs
+
+-- src/lib.rt:248:1
+returns : tie.Need-returns
+returns c = rw (c .enum-told .given .1)
+
+-- src/lib.rt:248:1
+returns-2 : tie.Need-returns-2
+returns-2 c = search needs
+
+-- src/lib.rt:248:1
+returns-3 : tie.Need-returns-3
+returns-3 c = search needs
+
+pub of-step-spec : {M : Type 1} → statement M
+of-step-spec = tie.close (tie.spec enum-told enum-told-2 enum-told-3 returns returns-2 returns-3)
