@@ -1,37 +1,110 @@
-// Plays the script on standard input. All that matters is in crate script: this reads, lends and writes.
+// Plays the script on standard input. All that matters is in the crates below: this reads, lends and writes, and tells what came of
+// it by a digit on descriptor 3, if that is open (a program has no exit status): 0 played to its end line, 1 a bad line, 3 the
+// input was not read to its end, 4 the output was not written.
+use libc::STDERR_FILENO;
 use libc::STDIN_FILENO;
 use libc::STDOUT_FILENO;
+use script_model::MOST;
 ghost use Prim.Native.Nat.{_≤_};
 ghost use lib.ListN.{length};
 ghost use Rattle.script_model.specs.Playing.{longest};
 
+const TELL: i32 = 3;
+
+// How many bytes were read, and whether they are the whole input.
+struct Input {
+    count: usize,
+    whole: bool,
+}
+
+// What came of it: nothing was printed, all was, or a write failed.
+enum Outcome {
+    Nothing,
+    All,
+    Lost,
+}
+
+// Reads until the input ends, which a read of no bytes tells, a read fails or the buffer is full.
+fn read_all(buf: &mut [u8]) -> Input
+    ensures { λ r. ⌜ r .count ≤ length (now (buf .exit)) ⌝ }
+{
+    let mut done: usize = 0;
+    while done < buf.len() {
+        let got = libc::read(STDIN_FILENO, &mut buf[done..]);
+        let more = io::count(got, &buf[done..]);
+        if more == 0 {
+            let whole = got == 0;
+            return Input { count: done, whole };
+        }
+        done += more;
+    }
+    Input {
+        count: done,
+        whole: false,
+    }
+}
+
 // Plays on, and writes each piece, until all is printed or a write fails.
-fn play(s: &[u8], program: &mut [u32], memory: &mut [u32], out: &mut [u8])
+fn play(s: &[u8], whole: bool, program: &mut [u32], memory: &mut [u32], out: &mut [u8]) -> Outcome
     requires { ⌜ longest ≤ length (now out) ⌝ }
 {
+    if !whole & (s.len() <= MOST) {
+        return Outcome::Nothing;
+    }
     let begun = script::begin(s, program, memory);
     let used = begun.used;
     let mut player = begun.player;
     loop {
         let phase = player.phase;
         if script::is_over(phase) {
-            return;
+            return Outcome::All;
         }
         let piece = script::fill(player, s, &program[0..used], memory, out);
         let end = piece.end;
         if !io::write_all(STDOUT_FILENO, &out[0..end]) {
-            return;
+            return Outcome::Lost;
         }
         player = piece.player;
     }
 }
 
+// Says why a script that was played is bad, if it is.
+fn explain(s: &[u8], out: &mut [u8]) {
+    let flaw = script_flaw::flaw_of(s);
+    let reason = flaw.reason;
+    if script_flaw::is_fine(reason) {
+        io::write_all(TELL, b"0\n");
+        return;
+    }
+    let end = script_message::put_message(out, flaw);
+    io::write_all(STDERR_FILENO, &out[0..end]);
+    io::write_all(TELL, b"1\n");
+}
+
+// Says what came of it.
+fn report(outcome: Outcome, s: &[u8], out: &mut [u8]) {
+    match outcome {
+        Outcome::Nothing => {
+            io::write_all(STDERR_FILENO, b"arb: standard input could not be read to its end\n");
+            io::write_all(TELL, b"3\n");
+        }
+        Outcome::All => explain(s, out),
+        Outcome::Lost => {
+            io::write_all(STDERR_FILENO, b"arb: standard output could not be written\n");
+            io::write_all(TELL, b"4\n");
+        }
+    }
+}
+
 fn main() {
     let mut text = [0u8; 65537];
-    let n = io::read_full(STDIN_FILENO, &mut text);
+    let input = read_all(&mut text);
+    let n = input.count;
+    let whole = input.whole;
     let mut program = [0u32; 1024];
     let mut memory = [0u32; 4096];
     let mut out = [0u8; 4096];
     let words = script::words_of(&text[..n]);
-    play(&text[..n], &mut program, &mut memory[0..words], &mut out);
+    let outcome = play(&text[..n], whole, &mut program, &mut memory[0..words], &mut out);
+    report(outcome, &text[..n], &mut out);
 }

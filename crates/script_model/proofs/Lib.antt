@@ -29,4 +29,5 @@ pub mod Truth
 pub mod Examples
 pub mod Flaws
 pub mod Looking
+pub mod Messages
 pub mod MessageExamples

@@ -26,11 +26,11 @@ rows =
     ("" gives "arb: line 1: found no input, expected 'N,banks,rows,stages,words'\n")
     ∷ ("\n" gives "arb: line 1: found an empty line, expected a letter\n")
     ∷ ("N,1,1,1,1\ni\n\nc\n" gives "arb: line 3: found an empty line, expected a letter\n")
-    ∷ ("N,1,1,1,1\ni" gives "arb: line 2: found the end of the input, expected a line feed at the end of the line\n")
+    ∷ ("N,1,1,1,1\ni" gives "arb: line 2: found the end of input, expected a line feed first\n")
     ∷ ("N,1,1,1,1\r\ni\r\n"
-      gives "arb: line 1: found a carriage return (byte 13) at the end of the line, expected a line feed alone\n")
+      gives "arb: line 1: found a carriage return, expected a line feed\n")
     ∷ ("A,1,0,5\n" gives "arb: line 1: found 'A' first, expected 'N,banks,rows,stages,words'\n")
-    ∷ ("N,1,1,1,1\nN,1,1,1,1\n" gives "arb: line 2: found a second line of sizes, expected an instruction or a step\n")
+    ∷ ("N,1,1,1,1\nN,1,1,1,1\n" gives "arb: line 2: found a second 'N' line, expected another letter\n")
     ∷ ("N,1,1,1,1\nI\n" gives "arb: line 2: found 'I', expected A, P, L, S, i, e, q, c or x\n")
     ∷ ("N,1,1,1,1\n\ti\n" gives "arb: line 2: found byte 9, expected A, P, L, S, i, e, q, c or x\n")
     ∷ ("N,1,1,1,1\ni \n" gives "arb: line 2: found ' ' behind the letter, expected 'i'\n")
@@ -57,7 +57,7 @@ rows =
     ∷ ("N,1,1,1,1\nP,1,0,8\n"
       gives "arb: line 2: field 4 (imm) of 'P,d,s,imm': found 8, expected a register from 0 to 7\n")
     ∷ ("N,1,1,1,1\ni\nA,1,0,5\n" gives "arb: line 3: found an instruction after a step, expected a step\n")
-    ∷ (record { found = flawAt 0 TooLong; says = "arb: line 0: found more than 65536 bytes of input, expected at most 65536\n" })
+    ∷ (record { found = flawAt 0 TooLong; says = "arb: line 0: found over 65536 bytes of input, expected at most 65536\n" })
     ∷ (record { found = flawAt 258 Full; says = "arb: line 258: found a 257th instruction, expected at most 256\n" })
     ∷ []
 

@@ -33,7 +33,7 @@ formText b =
     ++ cond (eqb (arity b) 5) (ascii ",banks,rows,stages,words'")
     (cond (eqb (arity b) 4) (ascii ",d,s,imm'") (cond (eqb (arity b) 2) (ascii ",k'") (ascii "'")))
 
--- one of four, for the fields 2 to 5 of the sizes
+-- one of four, by the number of the field
 abbrev pub ofFour : ℕ → List ℕ → List ℕ → List ℕ → List ℕ → List ℕ
 ofFour k a b c d = cond (eqb k 2) a (cond (eqb k 3) b (cond (eqb k 4) c d))
 
@@ -41,7 +41,7 @@ ofFour k a b c d = cond (eqb k 2) a (cond (eqb k 3) b (cond (eqb k 4) c d))
 abbrev pub nameText : ℕ → ℕ → List ℕ
 nameText b k =
     cond (eqb (arity b) 5) (ofFour k (ascii "banks") (ascii "rows") (ascii "stages") (ascii "words"))
-    (cond (eqb (arity b) 4) (cond (eqb k 2) (ascii "d") (cond (eqb k 3) (ascii "s") (ascii "imm"))) (ascii "k"))
+    (cond (eqb (arity b) 4) (ofFour k (ascii "d") (ascii "s") (ascii "imm") (ascii "imm")) (ascii "k"))
 
 -- the limits of its number
 abbrev pub limitText : ℕ → ℕ → List ℕ
@@ -69,10 +69,11 @@ expectedText b k (Stray c) = numberText
 expectedText b k Large = numberText
 expectedText b k (Beyond v) = limitText b k
 
+abbrev pub placeText : ℕ → ℕ → List ℕ
+placeText b k = ascii "field " ++ decimal k ++ ascii " (" ++ nameText b k ++ ascii ") of " ++ formText b
+
 abbrev pub fieldText : ℕ → ℕ → Defect → List ℕ
-fieldText b k d =
-    ascii "field " ++ decimal k ++ ascii " (" ++ nameText b k ++ ascii ") of " ++ formText b ++ ascii ": found " ++ foundText d
-    ++ ascii ", expected " ++ expectedText b k d
+fieldText b k d = placeText b k ++ ascii ": found " ++ foundText d ++ ascii ", expected " ++ expectedText b k d
 
 abbrev pub countText : ℕ → ℕ → List ℕ
 countText b n =
@@ -80,13 +81,13 @@ countText b n =
 
 abbrev pub reasonText : Reason → List ℕ
 reasonText Fine = nothing
-reasonText TooLong = ascii "found more than 65536 bytes of input, expected at most 65536"
+reasonText TooLong = ascii "found over 65536 bytes of input, expected at most 65536"
 reasonText NoInput = ascii "found no input, expected 'N,banks,rows,stages,words'"
 reasonText Blank = ascii "found an empty line, expected a letter"
-reasonText Unended = ascii "found the end of the input, expected a line feed at the end of the line"
-reasonText CarriageReturn = ascii "found a carriage return (byte 13) at the end of the line, expected a line feed alone"
+reasonText Unended = ascii "found the end of input, expected a line feed first"
+reasonText CarriageReturn = ascii "found a carriage return, expected a line feed"
 reasonText (NoSizes b) = ascii "found " ++ byteText b ++ ascii " first, expected 'N,banks,rows,stages,words'"
-reasonText SizesAgain = ascii "found a second line of sizes, expected an instruction or a step"
+reasonText SizesAgain = ascii "found a second 'N' line, expected another letter"
 reasonText (Letter b) = ascii "found " ++ byteText b ++ ascii ", expected A, P, L, S, i, e, q, c or x"
 reasonText (Glued b c) = ascii "found " ++ byteText c ++ ascii " behind the letter, expected " ++ formText b
 reasonText (Count b n) = countText b n

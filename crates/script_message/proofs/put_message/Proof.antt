@@ -1,0 +1,80 @@
+-- `script_message::put_message` meets its contract: no flaw, no room, or five parts.
+-- Assumes nothing.
+use mathlib.Core.Path.{sym, _∙_}
+use native.Mathlib.Omega.{arith}
+use lib.ListN.{length}
+use borrow.Author.Tests.{lt-ltb, le-ltb}
+use Rattle.script_model.specs.Message.{ascii}
+use Rattle.script_model.proofs.Writing.{writes-then, writes-none}
+use borrow.Author.Needs.{needs}
+use Rattle.script_message.proofs.put_message.Statement.{statement}
+use Rattle.script_message.proofs.put_message.Tie as tie
+
+is-fine-requires : tie.Need-is-fine-requires
+is-fine-requires c κs = search needs
+
+returns : tie.Need-returns
+returns c =
+    let a = c .before .before .before .args in
+    (rw (sym (c .before .is-fine .ensures) ∙ c .if1 .taken) (writes-none (a .out .now) 0), omega arith)
+
+returns-2 : tie.Need-returns-2
+returns-2 c =
+    let a = c .before .before .before .before .args in
+    (rw (sym (c .before .before .is-fine .ensures) ∙ c .before .if1 .left, lt-ltb (length (a .out .now)) 256 (c .if2 .taken)) (writes-none (a .out .now) 0), omega arith)
+
+slice-aggregate-put : tie.Need-slice-aggregate-put
+slice-aggregate-put c = search needs
+
+put-requires : tie.Need-put-requires
+put-requires c κs = search needs
+
+put-value-requires : tie.Need-put-value-requires
+put-value-requires c κs = search needs
+
+slice-aggregate-put-2 : tie.Need-slice-aggregate-put-2
+slice-aggregate-put-2 c = search needs
+
+put-requires-2 : tie.Need-put-requires-2
+put-requires-2 c κs = search needs
+
+put-reason-requires : tie.Need-put-reason-requires
+put-reason-requires c κs = search needs
+
+slice-aggregate-put-3 : tie.Need-slice-aggregate-put-3
+slice-aggregate-put-3 c = search needs
+
+put-requires-3 : tie.Need-put-requires-3
+put-requires-3 c κs = search needs
+
+same-length : tie.Need-same-length
+same-length c = search needs
+
+returns-3 : tie.Need-returns-3
+unfolding ascii
+returns-3 c =
+    let p0 = c .before .before .before .before .before .before .before .before .before .before .before .before .before .before .before .before .before .before .before .before .put .ensures in
+    let p1 = c .before .before .before .before .before .before .before .before .before .before .before .before .before .before .before .before .put-value .ensures in
+    let p2 = c .before .before .before .before .before .before .before .before .before .before .before .put2 .ensures in
+    let p3 = c .before .before .before .before .before .before .before .put-reason .ensures in
+    let p4 = c .before .before .put3 .ensures in
+    let a = c .before .before .before .before .before .before .before .before .before .before .before .before .before .before .before .before .before .before .before .before .before .before .before .before .before .before .before .args in
+    (rw (sym (c .before .before .before .before .before .before .before .before .before .before .before .before .before .before .before .before .before .before .before .before .before .before .before .before .before .is-fine .ensures) ∙ c .before .before .before .before .before .before .before .before .before .before .before .before .before .before .before .before .before .before .before .before .before .before .before .before .if1 .left, le-ltb (length (a .out .now)) 256 (c .before .before .before .before .before .before .before .before .before .before .before .before .before .before .before .before .before .before .before .before .before .before .before .if2 .left)) (writes-then (writes-then (writes-then (writes-then (p0 .0) (p1 .0)) (p2 .0)) (p3 .0)) (p4 .0)), omega (arith, p0 .1, p1 .1, p2 .1, p3 .1, p4 .1, c .before .before .before .before .before .before .before .before .before .before .before .before .before .before .before .before .before .before .before .before .before .before .before .if2 .left))
+
+pub put-message-spec : {M : Type 1} → statement M
+put-message-spec =
+    tie.close
+    (tie.spec
+    is-fine-requires
+    returns
+    returns-2
+    slice-aggregate-put
+    put-requires
+    put-value-requires
+    slice-aggregate-put-2
+    put-requires-2
+    put-reason-requires
+    slice-aggregate-put-3
+    put-requires-3
+    same-length
+    returns-3)
