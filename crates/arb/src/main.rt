@@ -85,12 +85,18 @@ fn explain(s: &[u8], out: &mut [u8]) {
 fn report(outcome: Outcome, s: &[u8], out: &mut [u8]) {
     match outcome {
         Outcome::Nothing => {
-            io::write_all(STDERR_FILENO, b"arb: standard input could not be read to its end\n");
+            io::write_all(
+                STDERR_FILENO,
+                b"arb: standard input could not be read to its end\n",
+            );
             io::write_all(TELL, b"3\n");
         }
         Outcome::All => explain(s, out),
         Outcome::Lost => {
-            io::write_all(STDERR_FILENO, b"arb: standard output could not be written\n");
+            io::write_all(
+                STDERR_FILENO,
+                b"arb: standard output could not be written\n",
+            );
             io::write_all(TELL, b"4\n");
         }
     }
@@ -104,7 +110,13 @@ fn main() {
     let mut program = [0u32; 1024];
     let mut memory = [0u32; 4096];
     let mut out = [0u8; 4096];
-    let words = script::words_of(&text[..n]);
-    let outcome = play(&text[..n], whole, &mut program, &mut memory[0..words], &mut out);
-    report(outcome, &text[..n], &mut out);
+    let words = script::words_of(&text[0..n]);
+    let outcome = play(
+        &text[0..n],
+        whole,
+        &mut program,
+        &mut memory[0..words],
+        &mut out,
+    );
+    report(outcome, &text[0..n], &mut out);
 }

@@ -384,7 +384,10 @@ pub fn flaw_of(s: &[u8]) -> Flaw
     ensures { λ r. ⌜ r ≡ flawOf (now (s .entry)) ⌝ }
 {
     if MOST < s.len() {
-        return Flaw { line: 0, reason: Reason::TooLong };
+        return Flaw {
+            line: 0,
+            reason: Reason::TooLong,
+        };
     }
     let mut at: usize = 0;
     let mut line: u64 = 1;

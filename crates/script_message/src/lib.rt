@@ -114,7 +114,15 @@ fn put_limit(out: &mut [u8], at: usize, b: u8, k: usize) -> usize
 {
     let fields = script_flaw::arity_of(b);
     if fields == 5 {
-        return put_of_four(out, at, k, b"1, 2, 4 or 8", b"1 to 8", b"1 to 16", b"1 to 4096");
+        return put_of_four(
+            out,
+            at,
+            k,
+            b"1, 2, 4 or 8",
+            b"1 to 8",
+            b"1 to 16",
+            b"1 to 4096",
+        );
     }
     put(out, at, b"a register from 0 to 7")
 }
@@ -139,7 +147,11 @@ fn put_any(out: &mut [u8], at: usize) -> usize
     requires { ⌜ at + 57 ≤ length (now out) ⌝ }
     ensures { λ r. ⌜ Writes (now (out .entry)) at numberText (now (out .exit)) r × (r ≤ at + 57) ⌝ }
 {
-    put(out, at, b"a number from 0 to 4294967295 without extra leading zeros")
+    put(
+        out,
+        at,
+        b"a number from 0 to 4294967295 without extra leading zeros",
+    )
 }
 
 // What a field should be.
@@ -222,10 +234,22 @@ fn put_reason(out: &mut [u8], at: usize, r: Reason) -> usize
 {
     match r {
         Reason::Fine => at,
-        Reason::TooLong => put(out, at, b"found over 65536 bytes of input, expected at most 65536"),
-        Reason::NoInput => put(out, at, b"found no input, expected 'N,banks,rows,stages,words'"),
+        Reason::TooLong => put(
+            out,
+            at,
+            b"found over 65536 bytes of input, expected at most 65536",
+        ),
+        Reason::NoInput => put(
+            out,
+            at,
+            b"found no input, expected 'N,banks,rows,stages,words'",
+        ),
         Reason::Blank => put(out, at, b"found an empty line, expected a letter"),
-        Reason::Unended => put(out, at, b"found the end of input, expected a line feed first"),
+        Reason::Unended => put(
+            out,
+            at,
+            b"found the end of input, expected a line feed first",
+        ),
         Reason::CarriageReturn => put(out, at, b"found a carriage return, expected a line feed"),
         Reason::NoSizes(b) => {
             put_other(out, at, b, b" first, expected 'N,banks,rows,stages,words'")
@@ -236,7 +260,11 @@ fn put_reason(out: &mut [u8], at: usize, r: Reason) -> usize
         Reason::Count(b, n) => put_count(out, at, b, n),
         Reason::Field(b, k, d) => put_field(out, at, b, k, d),
         Reason::Full => put(out, at, b"found a 257th instruction, expected at most 256"),
-        Reason::Late => put(out, at, b"found an instruction after a step, expected a step"),
+        Reason::Late => put(
+            out,
+            at,
+            b"found an instruction after a step, expected a step",
+        ),
     }
 }
 

@@ -145,15 +145,20 @@ module _ (s : List ℕ) (from to : ℕ) (h : from < to) (k : to ≤ length s) wh
               → why.Count (getD s from 0) (n + 2) ≡ malformed (slice from to s)
           malformed-count e =
               rw⁻¹ behind-more
-              (rw (eq-eqb (getD s (from + 1) 0) 44 parted, counts,
-              ne-eqb (commas (slice (from + 2) to s) + 2) (arity (getD s from 0)) (λ q. e (ap (λ (m : ℕ). m + 2) counts ∙ q))))
+              (rw (
+                eq-eqb (getD s (from + 1) 0) 44 parted,
+                counts,
+                ne-eqb (commas (slice (from + 2) to s) + 2) (arity (getD s from 0)) (λ q. e (ap (λ (m : ℕ). m + 2) counts ∙ q)),
+              ))
 
           pub malformed-fields : n + 2 ≡ arity (getD s from 0)
               → noNumber (getD s from 0) 2 empty (slice (from + 2) to s) ≡ malformed (slice from to s)
           malformed-fields e =
               rw⁻¹ behind-more
-              (rw (eq-eqb (getD s (from + 1) 0) 44 parted,
-              eq-eqb (commas (slice (from + 2) to s) + 2) (arity (getD s from 0)) (ap (λ (m : ℕ). m + 2) (sym counts) ∙ e)))
+              (rw (
+                eq-eqb (getD s (from + 1) 0) 44 parted,
+                eq-eqb (commas (slice (from + 2) to s) + 2) (arity (getD s from 0)) (ap (λ (m : ℕ). m + 2) (sym counts) ∙ e),
+              ))
 
 -- ---- the first line
 
@@ -207,10 +212,12 @@ module _ (s : List ℕ) (at from to : ℕ) (part : Part) (item : Item) (r : Reas
 
   pub looks-on : isFine r ≡ true → Looks s at part (Goes (nextPart part item) (to + 1))
   looks-on fine =
-      let is = line-is s at (Whole from to) e in
-      (λ n. line-looked n
-          ∙ ap (λ (t : Bool). cond t (flawOn s (to + 1) (suc n) (nextPart part item)) (flawAt n r)) fine,
-        omega (arith, is .0, is .1), omega (arith, is .2))
+      let is = line-is s at (Whole from to) e in (
+        λ n. line-looked n
+            ∙ ap (λ (t : Bool). cond t (flawOn s (to + 1) (suc n) (nextPart part item)) (flawAt n r)) fine,
+        omega (arith, is .0, is .1),
+        omega (arith, is .2),
+      )
 
   pub looks-bad : isFine r ≡ false → Looks s at part (outlook.Ends r)
   looks-bad wrong n =

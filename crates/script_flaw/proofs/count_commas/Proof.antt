@@ -39,9 +39,11 @@ loop-less c = omega arith
 loop-again : tie.Need-loop-again Inv-loop μ-loop
 loop-again c =
     let a = c .before .before .before .before .args in
-    let l = c .before .before .before .loop in
-    (omega (arith, l .inv .0, commas-here (a .s .now) (l .i) (a .to) (omega arith) (c .before .before .before .before .pre .1) (c .if1 .taken)),
-      omega (arith, l .inv .1), omega arith)
+    let l = c .before .before .before .loop in (
+      omega (arith, l .inv .0, commas-here (a .s .now) (l .i) (a .to) (omega arith) (c .before .before .before .before .pre .1) (c .if1 .taken)),
+      omega (arith, l .inv .1),
+      omega arith,
+    )
 
 -- src/lib.rt:121:13
 add-i-2 : tie.Need-add-i-2 Inv-loop μ-loop
@@ -55,17 +57,20 @@ loop-less-2 c = omega arith
 loop-again-2 : tie.Need-loop-again-2 Inv-loop μ-loop
 loop-again-2 c =
     let a = c .before .before .before .before .args in
-    let l = c .before .before .before .loop in
-    (omega (arith, l .inv .0, commas-later (a .s .now) (l .i) (a .to) (omega arith) (c .before .before .before .before .pre .1) (c .if1 .left)),
-      omega (arith, l .inv .1), omega arith)
+    let l = c .before .before .before .loop in (
+      omega (arith, l .inv .0, commas-later (a .s .now) (l .i) (a .to) (omega arith) (c .before .before .before .before .pre .1) (c .if1 .left)),
+      omega (arith, l .inv .1),
+      omega arith,
+    )
 
 -- src/lib.rt:109:1
 returns : tie.Need-returns Inv-loop μ-loop
 returns c =
     let a = c .before .before .args in
-    let l = c .before .loop in
-    (omega (arith, l .inv .0, commas-none (a .s .now) (l .i) (a .to) (omega arith) (c .before .before .pre .1)),
-      omega (arith, l .inv .1, l .inv .2))
+    let l = c .before .loop in (
+      omega (arith, l .inv .0, commas-none (a .s .now) (l .i) (a .to) (omega arith) (c .before .before .pre .1)),
+      omega (arith, l .inv .1, l .inv .2),
+    )
 
 pub count-commas-spec : {M : Type 1} → statement M
 count-commas-spec =

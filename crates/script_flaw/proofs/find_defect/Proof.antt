@@ -51,9 +51,11 @@ loop-again : tie.Need-loop-again Inv-loop μ-loop
 loop-again c =
     let a = c .before .before .before .before .before .before .before .args in
     let l = c .before .before .before .before .before .loop in
-    let does = sym (c .before .before .take-byte .ensures) ∙ c .enum-told .given .1 in
-    (number-ends (a .s .now) (a .letter) (l .k) (openOf (l .begun) (l .x)) (l .i) (a .to) (omega arith) (c .before .before .before .before .before .before .before .pre .1) does
-      ∙ l .inv .0, omega (arith, l .inv .1))
+    let does = sym (c .before .before .take-byte .ensures) ∙ c .enum-told .given .1 in (
+      number-ends (a .s .now) (a .letter) (l .k) (openOf (l .begun) (l .x)) (l .i) (a .to) (omega arith) (c .before .before .before .before .before .before .before .pre .1) does
+          ∙ l .inv .0,
+      omega (arith, l .inv .1),
+    )
 
 -- src/lib.rt:92:25
 enum-known-t : tie.Need-enum-known-t Inv-loop μ-loop
@@ -72,9 +74,11 @@ loop-again-2 : tie.Need-loop-again-2 Inv-loop μ-loop
 loop-again-2 c =
     let a = c .before .before .before .before .before .before .before .before .args in
     let l = c .before .before .before .before .before .before .loop in
-    let does = sym (c .before .before .before .take-byte .ensures) ∙ c .before .t .given .1 in
-    (number-grows (a .s .now) (a .letter) (l .k) (openOf (l .begun) (l .x)) (l .i) (a .to) (omega arith) (c .before .before .before .before .before .before .before .before .pre .1) _ does
-      ∙ l .inv .0, omega (arith, l .inv .1))
+    let does = sym (c .before .before .before .take-byte .ensures) ∙ c .before .t .given .1 in (
+      number-grows (a .s .now) (a .letter) (l .k) (openOf (l .begun) (l .x)) (l .i) (a .to) (omega arith) (c .before .before .before .before .before .before .before .before .pre .1) _ does
+          ∙ l .inv .0,
+      omega (arith, l .inv .1),
+    )
 
 -- src/lib.rt:97:25
 enum-known-t-2 : tie.Need-enum-known-t-2 Inv-loop μ-loop
@@ -87,7 +91,7 @@ returns c =
     let l = c .before .before .before .before .before .before .loop in
     let does = sym (c .before .before .before .take-byte .ensures) ∙ c .before .t2 .given .1 in
     number-wrong (a .s .now) (a .letter) (l .k) (openOf (l .begun) (l .x)) (l .i) (a .to) (omega arith) (c .before .before .before .before .before .before .before .before .pre .1) _ does
-      ∙ l .inv .0
+    ∙ l .inv .0
 
 -- src/lib.rt:103:9
 returns-2 : tie.Need-returns-2 Inv-loop μ-loop

@@ -28,22 +28,33 @@ returns-2 c =
 returns-3 : tie.Need-returns-3
 returns-3 c =
     let a = c .before .before .before .args in
-    rw (not-false (banksFit (a .banks)) (c .before .before .if1 .left), not-false (within 8 (a .rows)) (c .before .if2 .left),
-      not-true (within 16 (a .stages)) (c .if3 .taken))
+    rw (
+      not-false (banksFit (a .banks)) (c .before .before .if1 .left),
+      not-false (within 8 (a .rows)) (c .before .if2 .left),
+      not-true (within 16 (a .stages)) (c .if3 .taken),
+    )
 
 -- src/lib.rt:199:9
 returns-4 : tie.Need-returns-4
 returns-4 c =
     let a = c .before .before .before .before .args in
-    rw (not-false (banksFit (a .banks)) (c .before .before .before .if1 .left), not-false (within 8 (a .rows)) (c .before .before .if2 .left),
-      not-false (within 16 (a .stages)) (c .before .if3 .left), not-true (within 4096 (a .words)) (c .if4 .taken))
+    rw (
+      not-false (banksFit (a .banks)) (c .before .before .before .if1 .left),
+      not-false (within 8 (a .rows)) (c .before .before .if2 .left),
+      not-false (within 16 (a .stages)) (c .before .if3 .left),
+      not-true (within 4096 (a .words)) (c .if4 .taken),
+    )
 
 -- src/lib.rt:186:1
 returns-5 : tie.Need-returns-5
 returns-5 c =
     let a = c .before .before .before .before .args in
-    rw (not-false (banksFit (a .banks)) (c .before .before .before .if1 .left), not-false (within 8 (a .rows)) (c .before .before .if2 .left),
-      not-false (within 16 (a .stages)) (c .before .if3 .left), not-false (within 4096 (a .words)) (c .if4 .left))
+    rw (
+      not-false (banksFit (a .banks)) (c .before .before .before .if1 .left),
+      not-false (within 8 (a .rows)) (c .before .before .if2 .left),
+      not-false (within 16 (a .stages)) (c .before .if3 .left),
+      not-false (within 4096 (a .words)) (c .if4 .left),
+    )
 
 pub find-unfit-spec : {M : Type 1} → statement M
 find-unfit-spec = tie.close (tie.spec returns returns-2 returns-3 returns-4 returns-5)

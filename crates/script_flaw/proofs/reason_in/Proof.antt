@@ -7,7 +7,6 @@ use borrow.Author.Needs.{needs}
 use Rattle.script_flaw.proofs.reason_in.Statement.{statement}
 use Rattle.script_flaw.proofs.reason_in.Tie as tie
 
-
 -- src/lib.rt:274:9
 first-byte-requires : tie.Need-first-byte-requires
 first-byte-requires c κs = omega (arith, c .before .pre .1)

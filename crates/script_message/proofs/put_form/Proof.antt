@@ -100,9 +100,11 @@ returns-4 c =
     let a = c .before .before .before .before .before .before .before .before .before .before .before .before .before .before .before .before .before .before .args in
     let p0 = c .before .before .before .before .before .before .before .before .before .before .before .before .before .before .put-one .ensures in
     let p1 = c .before .before .before .before .before .before .before .before .before .before .put-one2 .ensures in
-    let p2 = c .before .before .put4 .ensures in
-    (writes-as (ap (formBy (a .b)) (sym (c .before .before .before .before .before .before .before .before .before .before .before .before .before .before .before .before .arity-of .ensures))
-    ∙ form-short (a .b) _ (c .before .before .before .before .before .before .before .if1 .left) (c .before .before .before .before .before .before .if2 .left) (c .before .before .before .before .before .if3 .left)) (writes-then (writes-then (p0 .0) (p1 .0)) (p2 .0)), omega (arith, p0 .1, p1 .1, p2 .1))
+    let p2 = c .before .before .put4 .ensures in (
+      writes-as (ap (formBy (a .b)) (sym (c .before .before .before .before .before .before .before .before .before .before .before .before .before .before .before .before .arity-of .ensures))
+          ∙ form-short (a .b) _ (c .before .before .before .before .before .before .before .if1 .left) (c .before .before .before .before .before .before .if2 .left) (c .before .before .before .before .before .if3 .left)) (writes-then (writes-then (p0 .0) (p1 .0)) (p2 .0)),
+      omega (arith, p0 .1, p1 .1, p2 .1),
+    )
 
 pub put-form-spec : {M : Type 1} → statement M
 put-form-spec =
