@@ -1,6 +1,6 @@
-// Plays the script on standard input. All that matters is in the crates below: this reads, lends and writes, and tells what came of
-// it by a digit on descriptor 3, if that is open (a program has no exit status): 0 played to its end line, 1 a bad line, 3 the
-// input was not read to its end, 4 the output was not written.
+// Plays the script on standard input. All that matters is in the crates below: this reads, lends and writes. A program has no
+// exit status, so it tells what came of it by a digit on descriptor 3, if that is open: 0 played to its end line, 1 a bad line, 3
+// the input was not read to its end, 4 the output was not written.
 use libc::STDERR_FILENO;
 use libc::STDIN_FILENO;
 use libc::STDOUT_FILENO;

@@ -28,12 +28,14 @@ use Rattle.script_model.specs.declared.Took.the-variants.{Ends, Grows, W
 use Rattle.script_model.specs.declared.Reason.{Reason}
 use Rattle.script_model.specs.declared.Reason.the-variants as why
 use Rattle.script_model.specs.declared.Flaw.{Flaw}
-use Rattle.script_model.specs.Language.{withOne, withThree, withFour, lettered, parsedLine, stepOf, Steps, flawed, stepping, steps}
+use Rattle.script_model.specs.Language.{withOne, withThree, withFour, lettered, parsedLine}
+use Rattle.script_model.specs.Language.{stepOf, Steps, flawed, stepping, steps}
 use Rattle.script_model.specs.Language.{numbersOf, joining, Body, body, unread, headed, scriptBy, script}
 use Rattle.theorem.specs.Play.{Played, play}
 use Rattle.script_model.specs.Output.{commitLines, badLine, closing, scriptOpening, output, most, printed}
 use Rattle.script_model.specs.Flaw.{arity, commas, commaTook, digitTook, took, following, noNumber, behind, malformed}
-use Rattle.script_model.specs.Flaw.{noSizes, unfit, unformed, ofOperation, reasonIn, nextPart, isFine, flawAt, flawFrom, flawIn, flawOf, badNumber}
+use Rattle.script_model.specs.Flaw.{noSizes, unfit, unformed, ofOperation, reasonIn, nextPart}
+use Rattle.script_model.specs.Flaw.{isFine, flawAt, flawFrom, flawIn, flawOf, badNumber}
 
 -- ---- fields that are no numbers
 
@@ -78,7 +80,8 @@ module _ (letter b : ℕ) (bs : List ℕ)
   comma-alike : (k : ℕ) (o : Open) (ns : List ℕ) → Alike k ns (comma o ns) (commaTook o) (suc (commas bs))
   comma-alike k empty ns = stopped bs false (length ns + suc (suc (commas bs))) refl
   comma-alike k (value x) ns =
-      subst (λ (n : ℕ). Agree (closed (bytes largest (reading (ns ++ (x ∷ [])) empty) bs)) (isFine (noNumber letter (suc k) empty bs)) n)
+      subst (λ (n : ℕ). Agree (closed (bytes largest (reading (ns ++ (x ∷ [])) empty) bs))
+      (isFine (noNumber letter (suc k) empty bs)) n)
       (counted ns x (suc (commas bs)))
       (more (suc k) empty (ns ++ (x ∷ [])))
 
@@ -141,7 +144,8 @@ arity-some false false false false n e = (λ h. omega arith, omega arith)
 
 impossible : (b n : ℕ) → arity b ≡ n → (n ≡ 3 → ⊥) × (n ≤ 5)
 impossible b n =
-    arity-some (eqb b 105 || eqb b 99) (eqb b 101 || eqb b 113 || eqb b 120) (eqb b 65 || eqb b 80 || eqb b 76 || eqb b 83) (eqb b 78) n
+    arity-some (eqb b 105 || eqb b 99) (eqb b 101 || eqb b 113 || eqb b 120) (eqb b 65 || eqb b 80 || eqb b 76 || eqb b 83)
+    (eqb b 78) n
 
 differ : {i : Item} {A : Type 0} → (isMalformed i ≡ false) → i ≡ Malformed → A
 differ h e = never (sym h ∙ ap isMalformed e)
@@ -181,12 +185,15 @@ four-heard false false false false banks rows stages words n h = omega arith
 heard : (b : ℕ) (ns : List ℕ) → 1 ≤ length ns → arity b ≡ suc (length ns) → lettered b (some ns) ≡ Malformed → ⊥
 heard b [] h n e = omega arith
 heard b (k ∷ []) h n e =
-    one-heard (eqb b 105 || eqb b 99) (eqb b 101) (eqb b 113) (eqb b 120) (eqb b 65 || eqb b 80 || eqb b 76 || eqb b 83) (eqb b 78) k n e
+    one-heard (eqb b 105 || eqb b 99) (eqb b 101) (eqb b 113) (eqb b 120) (eqb b 65 || eqb b 80 || eqb b 76 || eqb b 83)
+    (eqb b 78) k n e
 heard b (k ∷ l ∷ []) h n e = impossible b 3 n .0 refl
 heard b (d ∷ s ∷ imm ∷ []) h n e =
-    three-heard (eqb b 105 || eqb b 99) (eqb b 101 || eqb b 113 || eqb b 120) (eqb b 65) (eqb b 80) (eqb b 76) (eqb b 83) (eqb b 78) d s imm n e
+    three-heard (eqb b 105 || eqb b 99) (eqb b 101 || eqb b 113 || eqb b 120) (eqb b 65) (eqb b 80) (eqb b 76) (eqb b 83)
+    (eqb b 78) d s imm n e
 heard b (banks ∷ rows ∷ stages ∷ words ∷ []) h n e =
-    four-heard (eqb b 105 || eqb b 99) (eqb b 101 || eqb b 113 || eqb b 120) (eqb b 65 || eqb b 80 || eqb b 76 || eqb b 83) (eqb b 78) banks rows stages words n e
+    four-heard (eqb b 105 || eqb b 99) (eqb b 101 || eqb b 113 || eqb b 120) (eqb b 65 || eqb b 80 || eqb b 76 || eqb b 83)
+    (eqb b 78) banks rows stages words n e
 heard b (k ∷ l ∷ m ∷ o ∷ p ∷ ns) h n e = omega (arith, impossible b _ n .1)
 
 -- ---- the reason of a malformed line
@@ -257,7 +264,8 @@ unformed-wrong : (letter code d s imm : ℕ) → wellFormed code d s imm ≡ fal
 unformed-wrong letter code d s imm h = rw h (go (leb d 7) (leb s 7))
   where
     go : (t u : Bool)
-        → isFine (cond t (cond u (why.Field letter 4 (Beyond imm)) (why.Field letter 3 (Beyond s))) (why.Field letter 2 (Beyond d)))
+        → isFine (cond t (cond u (why.Field letter 4 (Beyond imm)) (why.Field letter 3 (Beyond s)))
+        (why.Field letter 2 (Beyond d)))
         ≡ false
     go true true = refl
     go true false = refl
@@ -274,7 +282,8 @@ module _ (n room : ℕ) (program line : List ℕ) (lines : List (List ℕ)) (res
   operation-number : (letter code d s imm : ℕ) → length program + room * 4 ≡ 1024
       → ((grown : List ℕ) → length grown + (room - 1) * 4 ≡ 1024
       → badNumber (flawFrom (suc n) (part.Program (room - 1)) lines rest) ≡ body (suc n) grown lines rest .steps .flaw)
-      → SameBy (Operation code d s imm) (ofOperation (part.Program room) letter code d s imm) (numbersOf program (Operation code d s imm))
+      → SameBy (Operation code d s imm) (ofOperation (part.Program room) letter code d s imm)
+      (numbersOf program (Operation code d s imm))
   operation-number letter code d s imm h more =
       rw (room-same room (length program) h) (go (ltb 0 room) refl (wellFormed code d s imm) refl)
     where

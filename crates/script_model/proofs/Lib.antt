@@ -1,11 +1,14 @@
 -- Reading. Items: what a line says, by its numbers in an array and by its bytes in a slice. Heads: what the first line asks for.
--- Founds: the four numbers of a line. Programs: the program's lines, as the loop reads them. Fitting: the program read is well formed. Zeros: a list made zeros.
+-- Founds: the four numbers of a line. Programs: the program's lines, as the loop reads them. Fitting: the program read is well
+-- formed. Zeros: a list made zeros.
 -- Printing. Writing: texts written one after another. Endings: how a script ends, by the machine that it left. Closings: the
 -- words of memory and the end line.
 -- Playing. Telling: a call's commits are printed before what the calls after it print. CallOnPlayer: what one call records and
 -- counts, from the machine's contract. Phases: a step that reads no line. Limits: a finish as finishes with a list of one
 -- commit. StepContract: what a line asks for, the player's steps from their parts, and steps in a row. Openings: a script with a
 -- good first line opens the machine. Beginnings: what `begin` answers.
+-- Bad lines. Flaws: there is a reason exactly where a script prints its bad line, and for that line. Looking: how the reason is
+-- found. Messages: how it is written. MessageExamples: a script for each reason, and its message.
 -- The theorems. Pieces: the pieces together are what the script prints. Truth: the commits printed are the sequential run's.
 -- Examples: 01's sample, computed.
 pub mod Items

@@ -174,10 +174,12 @@ module _ (s : List ℕ) (from to : ℕ) (h : from < to) (k : to ≤ length s) wh
       (sym (slice-more s from to h k))
 
   pub first-sizes : getD s from 0 ≡ 78 → malformed (slice from to s) ≡ noSizes (slice from to s)
-  first-sizes e = sym (first-more ∙ ap (λ (t : Bool). cond t (malformed (slice from to s)) (why.NoSizes (getD s from 0))) (eq-eqb _ 78 e))
+  first-sizes e = sym
+      (first-more ∙ ap (λ (t : Bool). cond t (malformed (slice from to s)) (why.NoSizes (getD s from 0))) (eq-eqb _ 78 e))
 
   pub first-other : (getD s from 0 ≡ 78 → ⊥) → why.NoSizes (getD s from 0) ≡ noSizes (slice from to s)
-  first-other e = sym (first-more ∙ ap (λ (t : Bool). cond t (malformed (slice from to s)) (why.NoSizes (getD s from 0))) (ne-eqb _ 78 e))
+  first-other e = sym
+      (first-more ∙ ap (λ (t : Bool). cond t (malformed (slice from to s)) (why.NoSizes (getD s from 0))) (ne-eqb _ 78 e))
 
   pub head-is : getD s from 0 ≡ getD (slice from to s) 0 0
   head-is = ap (λ (l : List ℕ). getD l 0 0) (sym (slice-more s from to h k))
@@ -194,7 +196,8 @@ pub looks-end : (s : List ℕ) (at : ℕ) (part : Part) → lineAt s at ≡ End 
 unfolding flawFrom
 looks-end s at part e n = ap (flawBy n part) (line-end s at (line-is s at End e))
 
-pub looks-unended : (s : List ℕ) (at from : ℕ) (part : Part) → lineAt s at ≡ Unended from → Looks s at part (outlook.Ends why.Unended)
+pub looks-unended : (s : List ℕ) (at from : ℕ) (part : Part) → lineAt s at ≡ Unended from → Looks s at part
+    (outlook.Ends why.Unended)
 unfolding flawFrom
 looks-unended s at from part e n =
     let is = line-is s at (Unended from) e in

@@ -3,7 +3,7 @@
 use mathlib.Core.Path.{_≡_, refl}
 use mathlib.Core.List.{List, [], _∷_}
 use Prim.Native.Nat.{ℕ}
-use Prim.Native.String.{String}
+use Prim.Native.String.{String, _++_ as _&_}
 use Rattle.text.specs.Decimal.{digits}
 use Rattle.text.specs.Fields.{bytes}
 use Rattle.text.specs.Lines.{linesFrom}
@@ -17,6 +17,10 @@ record Row : Type 0 where
   found : Flaw
   says : String
 
+-- a message that ends so
+abbrev number : String
+number = "expected a number from 0 to 4294967295 without extra leading zeros\n"
+
 infix 30 _gives_
 abbrev _gives_ : String → String → Row
 script gives message = record { found = flawOf (ascii script); says = message }
@@ -27,8 +31,7 @@ rows =
     ∷ ("\n" gives "arb: line 1: found an empty line, expected a letter\n")
     ∷ ("N,1,1,1,1\ni\n\nc\n" gives "arb: line 3: found an empty line, expected a letter\n")
     ∷ ("N,1,1,1,1\ni" gives "arb: line 2: found the end of input, expected a line feed first\n")
-    ∷ ("N,1,1,1,1\r\ni\r\n"
-    gives "arb: line 1: found a carriage return, expected a line feed\n")
+    ∷ ("N,1,1,1,1\r\ni\r\n" gives "arb: line 1: found a carriage return, expected a line feed\n")
     ∷ ("A,1,0,5\n" gives "arb: line 1: found 'A' first, expected 'N,banks,rows,stages,words'\n")
     ∷ ("N,1,1,1,1\nN,1,1,1,1\n" gives "arb: line 2: found a second 'N' line, expected another letter\n")
     ∷ ("N,1,1,1,1\nI\n" gives "arb: line 2: found 'I', expected A, P, L, S, i, e, q, c or x\n")
@@ -37,25 +40,19 @@ rows =
     ∷ ("N,1,1,1,1\nA\n" gives "arb: line 2: fields: found 1, expected 4 as in 'A,d,s,imm'\n")
     ∷ ("N,1,1,1,1\ni,1\n" gives "arb: line 2: fields: found 2, expected 1 as in 'i'\n")
     ∷ ("N,1,1,1,1,\n" gives "arb: line 1: fields: found 6, expected 5 as in 'N,banks,rows,stages,words'\n")
-    ∷ ("N,1,1,1,1\ne,x\n"
-    gives "arb: line 2: field 2 (k) of 'e,k': found 'x', expected a number from 0 to 4294967295 without extra leading zeros\n")
-    ∷ ("N,1,1,1,1\nx,\n"
-    gives "arb: line 2: field 2 (k) of 'x,k': found nothing, expected a number from 0 to 4294967295 without extra leading zeros\n")
-    ∷ ("N,1,1,1,1\nA,1,01,5\n"
-    gives "arb: line 2: field 3 (s) of 'A,d,s,imm': found an extra leading zero, expected a number from 0 to 4294967295 without extra leading zeros\n")
+    ∷ ("N,1,1,1,1\ne,x\n" gives ("arb: line 2: field 2 (k) of 'e,k': found 'x', " & number))
+    ∷ ("N,1,1,1,1\nx,\n" gives ("arb: line 2: field 2 (k) of 'x,k': found nothing, " & number))
+    ∷ ("N,1,1,1,1\nA,1,01,5\n" gives ("arb: line 2: field 3 (s) of 'A,d,s,imm': found an extra leading zero, " & number))
     ∷ ("N,1,1,1,1\nS,1,0,4294967296\n"
-    gives "arb: line 2: field 4 (imm) of 'S,d,s,imm': found a number above 4294967295, expected a number from 0 to 4294967295 without extra leading zeros\n")
-    ∷ ("N,1,1,1,1\nL,1,+1,9\n"
-    gives "arb: line 2: field 3 (s) of 'L,d,s,imm': found '+', expected a number from 0 to 4294967295 without extra leading zeros\n")
+    gives ("arb: line 2: field 4 (imm) of 'S,d,s,imm': found a number above 4294967295, " & number))
+    ∷ ("N,1,1,1,1\nL,1,+1,9\n" gives ("arb: line 2: field 3 (s) of 'L,d,s,imm': found '+', " & number))
     ∷ ("N,3,1,1,1\n" gives "arb: line 1: field 2 (banks) of 'N,banks,rows,stages,words': found 3, expected 1, 2, 4 or 8\n")
     ∷ ("N,8,0,1,1\n" gives "arb: line 1: field 3 (rows) of 'N,banks,rows,stages,words': found 0, expected 1 to 8\n")
     ∷ ("N,4,8,17,0\n" gives "arb: line 1: field 4 (stages) of 'N,banks,rows,stages,words': found 17, expected 1 to 16\n")
-    ∷ ("N,2,1,16,4097\n"
-    gives "arb: line 1: field 5 (words) of 'N,banks,rows,stages,words': found 4097, expected 1 to 4096\n")
+    ∷ ("N,2,1,16,4097\n" gives "arb: line 1: field 5 (words) of 'N,banks,rows,stages,words': found 4097, expected 1 to 4096\n")
     ∷ ("N,1,1,1,1\nA,8,9,5\n" gives "arb: line 2: field 2 (d) of 'A,d,s,imm': found 8, expected a register from 0 to 7\n")
     ∷ ("N,1,1,1,1\nS,7,9,5\n" gives "arb: line 2: field 3 (s) of 'S,d,s,imm': found 9, expected a register from 0 to 7\n")
-    ∷ ("N,1,1,1,1\nP,1,0,8\n"
-    gives "arb: line 2: field 4 (imm) of 'P,d,s,imm': found 8, expected a register from 0 to 7\n")
+    ∷ ("N,1,1,1,1\nP,1,0,8\n" gives "arb: line 2: field 4 (imm) of 'P,d,s,imm': found 8, expected a register from 0 to 7\n")
     ∷ ("N,1,1,1,1\ni\nA,1,0,5\n" gives "arb: line 3: found an instruction after a step, expected a step\n")
     ∷ (record { found = flawAt 0 TooLong; says = "arb: line 0: found over 65536 bytes of input, expected at most 65536\n" })
     ∷ (record { found = flawAt 258 Full; says = "arb: line 258: found a 257th instruction, expected at most 256\n" })
@@ -66,6 +63,13 @@ abbrev Hold : List Row → Type 0
 Hold [] = Unit {0}
 Hold (r ∷ rs) = (messageText (r .found) ≡ ascii (r .says)) × Hold rs
 
+infixr 20 _also_
+abbrev _also_ : {A B : Type 0} → A → B → A × B
+a also b = (a, b)
+
 messages-are : Hold rows
 unfolding flawOf linesFrom bytes commas noNumber flawFrom ascii digits
-messages-are = (refl, (refl, (refl, (refl, (refl, (refl, (refl, (refl, (refl, (refl, (refl, (refl, (refl, (refl, (refl, (refl, (refl, (refl, (refl, (refl, (refl, (refl, (refl, (refl, (refl, (refl, (refl, (refl, tt))))))))))))))))))))))))))))
+messages-are =
+    refl also refl also refl also refl also refl also refl also refl also refl also refl also refl also
+    refl also refl also refl also refl also refl also refl also refl also refl also refl also refl also
+    refl also refl also refl also refl also refl also refl also refl also refl also tt

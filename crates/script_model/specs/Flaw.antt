@@ -1,6 +1,7 @@
 -- Why a script is bad: its first bad line, with what is wrong there. Where a line has several faults the first of these is told:
--- it is empty; it ends with a carriage return; its letter is unknown or (on line 1) not N; no comma follows the letter; the
--- number of its fields; the leftmost field that is no number; its place in the script; the leftmost number outside its limits.
+-- it is empty; it is line 1 and does not begin with N; it ends with a carriage return; its letter is unknown; no comma follows
+-- the letter; the number of its fields; the leftmost field that is no number; its place in the script; the leftmost number
+-- outside its limits.
 -- proofs/Flaws.antt: there is a reason exactly where a script prints `bad,N`, and for that N.
 -- Assumes nothing.
 use mathlib.Core.Bool.{Bool, true, false, cond, _&&_, _||_}

@@ -10,7 +10,8 @@ use Rattle.arb.proofs.play.Statement.{statement}
 use Rattle.arb.proofs.play.Tie as tie
 
 abbrev Inv-loop : tie.InvT-loop
-Inv-loop s whole program memory₀ out₀ used player₀ memory out player = (used ≤ length program) × (longest ≤ length out) × (length memory ≡ length memory₀) × (length out ≡ length out₀)
+Inv-loop s whole program memory₀ out₀ used player₀ memory out player = (used ≤ length program) × (longest ≤ length out) ×
+    (length memory ≡ length memory₀) × (length out ≡ length out₀)
 
 abbrev μ-loop : tie.MeasureT-loop
 μ-loop s whole program memory₀ out₀ used player₀ memory out player = weight s player memory
@@ -99,7 +100,8 @@ returns-3 c = search needs
 loop-less : tie.Need-loop-less Inv-loop μ-loop
 loop-less c =
     let turn = c .before .before .before .before .before .before .before .before .before in
-    let start = c .before .before .before .before .before .before .before .before .before .before .before .before .before .before in
+    let start =
+    c .before .before .before .before .before .before .before .before .before .before .before .before .before .before in
     turn .fill .ensures .falls (sym (start .before .is-over .ensures) ∙ start .if2 .left) (start .before .before .loop .inv .1)
 
 -- src/main.rt:57:5

@@ -40,7 +40,12 @@ loop-again : tie.Need-loop-again Inv-loop μ-loop
 loop-again c =
     let a = c .before .before .before .before .args in
     let l = c .before .before .before .loop in (
-      omega (arith, l .inv .0, commas-here (a .s .now) (l .i) (a .to) (omega arith) (c .before .before .before .before .pre .1) (c .if1 .taken)),
+      omega (
+        arith,
+        l .inv .0,
+        commas-here (a .s .now) (l .i) (a .to) (omega arith)
+            (c .before .before .before .before .pre .1) (c .if1 .taken),
+      ),
       omega (arith, l .inv .1),
       omega arith,
     )
@@ -58,7 +63,12 @@ loop-again-2 : tie.Need-loop-again-2 Inv-loop μ-loop
 loop-again-2 c =
     let a = c .before .before .before .before .args in
     let l = c .before .before .before .loop in (
-      omega (arith, l .inv .0, commas-later (a .s .now) (l .i) (a .to) (omega arith) (c .before .before .before .before .pre .1) (c .if1 .left)),
+      omega (
+        arith,
+        l .inv .0,
+        commas-later (a .s .now) (l .i) (a .to) (omega arith)
+            (c .before .before .before .before .pre .1) (c .if1 .left),
+      ),
       omega (arith, l .inv .1),
       omega arith,
     )

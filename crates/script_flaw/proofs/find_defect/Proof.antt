@@ -13,7 +13,8 @@ use Rattle.script_flaw.proofs.find_defect.Statement.{statement}
 use Rattle.script_flaw.proofs.find_defect.Tie as tie
 
 abbrev Inv-loop : tie.InvT-loop
-Inv-loop s letter from to k₀ begun₀ x₀ i₀ k begun x i = (noNumber letter k (openOf begun x) (slice i to s) ≡ noNumber letter 2 empty (slice from to s)) × (k ≤ i)
+Inv-loop s letter from to k₀ begun₀ x₀ i₀ k begun x i =
+    (noNumber letter k (openOf begun x) (slice i to s) ≡ noNumber letter 2 empty (slice from to s)) × (k ≤ i)
 
 abbrev μ-loop : tie.MeasureT-loop
 μ-loop s letter from to k₀ begun₀ x₀ i₀ k begun x i = to - i
@@ -52,7 +53,8 @@ loop-again c =
     let a = c .before .before .before .before .before .before .before .args in
     let l = c .before .before .before .before .before .loop in
     let does = sym (c .before .before .take-byte .ensures) ∙ c .enum-told .given .1 in (
-      number-ends (a .s .now) (a .letter) (l .k) (openOf (l .begun) (l .x)) (l .i) (a .to) (omega arith) (c .before .before .before .before .before .before .before .pre .1) does
+      number-ends (a .s .now) (a .letter) (l .k) (openOf (l .begun) (l .x)) (l .i) (a .to) (omega arith)
+          (c .before .before .before .before .before .before .before .pre .1) does
           ∙ l .inv .0,
       omega (arith, l .inv .1),
     )
@@ -75,7 +77,8 @@ loop-again-2 c =
     let a = c .before .before .before .before .before .before .before .before .args in
     let l = c .before .before .before .before .before .before .loop in
     let does = sym (c .before .before .before .take-byte .ensures) ∙ c .before .t .given .1 in (
-      number-grows (a .s .now) (a .letter) (l .k) (openOf (l .begun) (l .x)) (l .i) (a .to) (omega arith) (c .before .before .before .before .before .before .before .before .pre .1) _ does
+      number-grows (a .s .now) (a .letter) (l .k) (openOf (l .begun) (l .x)) (l .i) (a .to) (omega arith)
+          (c .before .before .before .before .before .before .before .before .pre .1) _ does
           ∙ l .inv .0,
       omega (arith, l .inv .1),
     )
@@ -90,7 +93,8 @@ returns c =
     let a = c .before .before .before .before .before .before .before .before .args in
     let l = c .before .before .before .before .before .before .loop in
     let does = sym (c .before .before .before .take-byte .ensures) ∙ c .before .t2 .given .1 in
-    number-wrong (a .s .now) (a .letter) (l .k) (openOf (l .begun) (l .x)) (l .i) (a .to) (omega arith) (c .before .before .before .before .before .before .before .before .pre .1) _ does
+    number-wrong (a .s .now) (a .letter) (l .k) (openOf (l .begun) (l .x)) (l .i) (a .to) (omega arith)
+    (c .before .before .before .before .before .before .before .before .pre .1) _ does
     ∙ l .inv .0
 
 -- src/lib.rt:103:9
@@ -98,7 +102,8 @@ returns-2 : tie.Need-returns-2 Inv-loop μ-loop
 returns-2 c =
     let a = c .before .before .before .before .args in
     let l = c .before .before .loop in
-    number-last (a .s .now) (a .letter) (l .k) (l .x) (l .i) (a .to) (l .begun) (omega arith) (c .before .before .before .before .pre .1) (c .if1 .taken)
+    number-last (a .s .now) (a .letter) (l .k) (l .x) (l .i) (a .to) (l .begun) (omega arith)
+    (c .before .before .before .before .pre .1) (c .if1 .taken)
     ∙ l .inv .0
 
 -- src/lib.rt:76:1
@@ -106,7 +111,8 @@ returns-3 : tie.Need-returns-3 Inv-loop μ-loop
 returns-3 c =
     let a = c .before .before .before .before .args in
     let l = c .before .before .loop in
-    number-missing (a .s .now) (a .letter) (l .k) (l .x) (l .i) (a .to) (l .begun) (omega arith) (c .before .before .before .before .pre .1) (c .if1 .left)
+    number-missing (a .s .now) (a .letter) (l .k) (l .x) (l .i) (a .to) (l .begun) (omega arith)
+    (c .before .before .before .before .pre .1) (c .if1 .left)
     ∙ l .inv .0
 
 pub find-defect-spec : {M : Type 1} → statement M

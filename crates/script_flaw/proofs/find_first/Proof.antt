@@ -25,13 +25,15 @@ returns-2 : tie.Need-returns-2
 returns-2 c =
     let a = c .before .before .before .before .before .args in
     c .find-malformed .ensures
-    ∙ first-sizes (a .s .now) (a .from) (a .to) (c .before .before .before .if1 .left) (omega (arith, c .before .before .before .before .before .pre .1)) (c .before .if2 .taken)
+    ∙ first-sizes (a .s .now) (a .from) (a .to) (c .before .before .before .if1 .left)
+    (omega (arith, c .before .before .before .before .before .pre .1)) (c .before .if2 .taken)
 
 -- src/lib.rt:159:1
 returns-3 : tie.Need-returns-3
 returns-3 c =
     let a = c .before .before .before .before .args in
-    first-other (a .s .now) (a .from) (a .to) (c .before .before .if1 .left) (omega (arith, c .before .before .before .before .pre .1)) (c .if2 .left)
+    first-other (a .s .now) (a .from) (a .to) (c .before .before .if1 .left)
+    (omega (arith, c .before .before .before .before .pre .1)) (c .if2 .left)
 
 pub find-first-spec : {M : Type 1} → statement M
 find-first-spec =

@@ -30,7 +30,8 @@ shared-slice-read-if2 c = omega (arith, c .before .before .before .before .pre .
 returns-2 : tie.Need-returns-2
 returns-2 c =
     let a = c .before .before .before .before .before .args in
-    malformed-return (a .s .now) (a .from) (a .to) (c .before .before .before .if1 .left) (omega (arith, c .before .before .before .before .before .pre .1)) (c .if2 .taken)
+    malformed-return (a .s .now) (a .from) (a .to) (c .before .before .before .if1 .left)
+    (omega (arith, c .before .before .before .before .before .pre .1)) (c .if2 .taken)
 
 -- src/lib.rt:139:9
 arity-of-requires : tie.Need-arity-of-requires
@@ -40,7 +41,8 @@ arity-of-requires c κs = search needs
 returns-3 : tie.Need-returns-3
 returns-3 c =
     let a = c .before .before .before .before .before .before .before .args in
-    malformed-letter (a .s .now) (a .from) (a .to) (c .before .before .before .before .before .if1 .left) (omega (arith, c .before .before .before .before .before .before .before .pre .1)) (c .before .before .if2 .left)
+    malformed-letter (a .s .now) (a .from) (a .to) (c .before .before .before .before .before .if1 .left)
+    (omega (arith, c .before .before .before .before .before .before .before .pre .1)) (c .before .before .if2 .left)
     (sym (c .before .arity-of .ensures) ∙ c .if3 .taken)
 
 -- src/lib.rt:143:8
@@ -51,7 +53,9 @@ sub-if4 c = omega arith
 returns-4 : tie.Need-returns-4
 returns-4 c =
     let a = c .before .before .before .before .before .before .before .before .args in
-    malformed-alone (a .s .now) (a .from) (a .to) (c .before .before .before .before .before .before .if1 .left) (omega (arith, c .before .before .before .before .before .before .before .before .pre .1)) (c .before .before .before .if2 .left)
+    malformed-alone (a .s .now) (a .from) (a .to) (c .before .before .before .before .before .before .if1 .left)
+    (omega (arith, c .before .before .before .before .before .before .before .before .pre .1))
+    (c .before .before .before .if2 .left)
     (λ e. c .before .if3 .left (c .before .before .arity-of .ensures ∙ e)) (c .if4 .taken)
 
 -- src/lib.rt:146:15
@@ -60,22 +64,40 @@ add-c c = omega (arith, c .before .before .before .before .before .before .if1 .
 
 -- src/lib.rt:146:13
 shared-slice-read-c : tie.Need-shared-slice-read-c
-shared-slice-read-c c = omega (arith, c .before .before .before .before .before .before .before .before .before .pre .1, c .before .before .before .before .before .before .before .if1 .left)
+shared-slice-read-c c = omega (
+  arith,
+  c .before .before .before .before .before .before .before .before .before .pre .1,
+  c .before .before .before .before .before .before .before .if1 .left,
+)
 
 -- src/lib.rt:148:9
 returns-5 : tie.Need-returns-5
 returns-5 c =
     let a = c .before .before .before .before .before .before .before .before .before .before .args in
-    malformed-glued (a .s .now) (a .from) (a .to) (c .before .before .before .before .before .before .before .before .if1 .left) (omega (arith, c .before .before .before .before .before .before .before .before .before .before .pre .1)) (c .before .before .before .before .before .if2 .left)
-    (λ e. c .before .before .before .if3 .left (c .before .before .before .before .arity-of .ensures ∙ e)) (omega (arith, c .before .before .if4 .left, c .before .before .before .before .before .before .before .before .if1 .left)) (c .if5 .taken)
+    malformed-glued (a .s .now) (a .from) (a .to)
+    (c .before .before .before .before .before .before .before .before .if1 .left)
+    (omega (arith, c .before .before .before .before .before .before .before .before .before .before .pre .1))
+    (c .before .before .before .before .before .if2 .left)
+    (λ e. c .before .before .before .if3 .left (c .before .before .before .before .arity-of .ensures ∙ e))
+    (omega (
+      arith,
+      c .before .before .if4 .left,
+      c .before .before .before .before .before .before .before .before .if1 .left,
+    )) (c .if5 .taken)
 
 -- src/lib.rt:150:33
 add-count-commas : tie.Need-add-count-commas
-add-count-commas c = omega (arith, c .before .before .if4 .left, c .before .before .before .before .before .before .before .before .if1 .left)
+add-count-commas c = omega
+    (arith, c .before .before .if4 .left, c .before .before .before .before .before .before .before .before .if1 .left)
 
 -- src/lib.rt:150:17
 count-commas-requires : tie.Need-count-commas-requires
-count-commas-requires c κs = (omega (arith, c .before .before .if4 .left, c .before .before .before .before .before .before .before .before .if1 .left), omega (arith, c .before .before .before .before .before .before .before .before .before .before .pre .1))
+count-commas-requires c κs = (
+  omega
+      (arith, c .before .before .if4 .left, c .before .before .before .before .before .before .before .before .if1 .left),
+  omega
+      (arith, c .before .before .before .before .before .before .before .before .before .before .pre .1),
+)
 
 -- src/lib.rt:150:17
 add-found : tie.Need-add-found
@@ -85,26 +107,58 @@ add-found c = omega (arith, c .count-commas .ensures .1)
 returns-6 : tie.Need-returns-6
 returns-6 c =
     let a = c .before .before .before .before .before .before .before .before .before .before .before .before .args in
-    malformed-count (a .s .now) (a .from) (a .to) (c .before .before .before .before .before .before .before .before .before .before .if1 .left) (omega (arith, c .before .before .before .before .before .before .before .before .before .before .before .before .pre .1)) (c .before .before .before .before .before .before .before .if2 .left)
-    (λ e. c .before .before .before .before .before .if3 .left (c .before .before .before .before .before .before .arity-of .ensures ∙ e)) (omega (arith, c .before .before .before .before .if4 .left, c .before .before .before .before .before .before .before .before .before .before .if1 .left)) (c .before .before .if5 .left)
-    (c .before .count-commas .result) (c .before .count-commas .ensures .0) (λ e. c .if6 .taken (e ∙ sym (c .before .before .before .before .before .before .arity-of .ensures)))
+    malformed-count (a .s .now) (a .from) (a .to)
+    (c .before .before .before .before .before .before .before .before .before .before .if1 .left)
+    (omega (arith, c .before .before .before .before .before .before .before .before .before .before .before .before .pre .1))
+    (c .before .before .before .before .before .before .before .if2 .left)
+    (λ e. c .before .before .before .before .before .if3 .left
+    (c .before .before .before .before .before .before .arity-of .ensures ∙ e))
+    (omega (
+      arith,
+      c .before .before .before .before .if4 .left,
+      c .before .before .before .before .before .before .before .before .before .before .if1 .left,
+    )) (c .before .before .if5 .left)
+    (c .before .count-commas .result) (c .before .count-commas .ensures .0)
+    (λ e. c .if6 .taken (e ∙ sym (c .before .before .before .before .before .before .arity-of .ensures)))
 
 -- src/lib.rt:154:23
 add-find-defect : tie.Need-add-find-defect
-add-find-defect c = omega (arith, c .before .before .before .before .if4 .left, c .before .before .before .before .before .before .before .before .before .before .if1 .left)
+add-find-defect c = omega (
+  arith,
+  c .before .before .before .before .if4 .left,
+  c .before .before .before .before .before .before .before .before .before .before .if1 .left,
+)
 
 -- src/lib.rt:154:5
 find-defect-requires : tie.Need-find-defect-requires
-find-defect-requires c κs = (omega arith, omega (arith, c .before .before .before .before .before .before .before .before .before .before .before .before .pre .1))
+find-defect-requires c κs = (
+  omega arith,
+  omega
+      (arith, c .before .before .before .before .before .before .before .before .before .before .before .before .pre .1),
+)
 
 -- src/lib.rt:128:1
 returns-7 : tie.Need-returns-7
 returns-7 c =
     let a = c .before .before .before .before .before .before .before .before .before .before .before .before .before .args in
     c .find-defect .ensures
-    ∙ malformed-fields (a .s .now) (a .from) (a .to) (c .before .before .before .before .before .before .before .before .before .before .before .if1 .left) (omega (arith, c .before .before .before .before .before .before .before .before .before .before .before .before .before .pre .1)) (c .before .before .before .before .before .before .before .before .if2 .left)
-    (λ e. c .before .before .before .before .before .before .if3 .left (c .before .before .before .before .before .before .before .arity-of .ensures ∙ e)) (omega (arith, c .before .before .before .before .before .if4 .left, c .before .before .before .before .before .before .before .before .before .before .before .if1 .left)) (c .before .before .before .if5 .left)
-    (c .before .before .count-commas .result) (c .before .before .count-commas .ensures .0) (c .before .if6 .left ∙ c .before .before .before .before .before .before .before .arity-of .ensures)
+    ∙ malformed-fields (a .s .now) (a .from) (a .to)
+    (c .before .before .before .before .before .before .before .before .before .before .before .if1 .left)
+    (omega (
+      arith,
+      c .before .before .before .before .before .before .before .before .before .before .before .before .before .pre .1,
+    ))
+    (c .before .before .before .before .before .before .before .before .if2 .left)
+    (λ e. c .before .before .before .before .before .before .if3 .left
+    (c .before .before .before .before .before .before .before .arity-of .ensures ∙ e))
+    (omega (
+      arith,
+      c .before .before .before .before .before .if4 .left,
+      c .before .before .before .before .before .before .before .before .before .before .before .if1 .left,
+    ))
+    (c .before .before .before .if5 .left)
+    (c .before .before .count-commas .result) (c .before .before .count-commas .ensures .0)
+    (c .before .if6 .left ∙ c .before .before .before .before .before .before .before .arity-of .ensures)
 
 pub find-malformed-spec : {M : Type 1} → statement M
 find-malformed-spec =

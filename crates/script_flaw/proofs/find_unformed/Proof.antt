@@ -15,19 +15,33 @@ returns c = rw (sym (c .before .well-formed .ensures) ∙ c .if1 .taken)
 
 -- src/lib.rt:223:9
 returns-2 : tie.Need-returns-2
-returns-2 c = rw (sym (c .before .before .well-formed .ensures) ∙ c .before .if1 .left, lt-leb (c .before .before .before .args .d) 7 (c .if2 .taken))
+returns-2 c = rw (
+  sym (c .before .before .well-formed .ensures) ∙ c .before .if1 .left,
+  lt-leb (c .before .before .before .args .d) 7
+      (c .if2 .taken),
+)
 
 -- src/lib.rt:226:9
 returns-3 : tie.Need-returns-3
 returns-3 c =
     let a = c .before .before .before .before .args in
-    rw (sym (c .before .before .before .well-formed .ensures) ∙ c .before .before .if1 .left, le-leb (a .d) 7 (c .before .if2 .left), lt-leb (a .s) 7 (c .if3 .taken))
+    rw (
+      sym (c .before .before .before .well-formed .ensures) ∙ c .before .before .if1 .left,
+      le-leb (a .d) 7
+          (c .before .if2 .left),
+      lt-leb (a .s) 7 (c .if3 .taken),
+    )
 
 -- src/lib.rt:216:1
 returns-4 : tie.Need-returns-4
 returns-4 c =
     let a = c .before .before .before .before .args in
-    rw (sym (c .before .before .before .well-formed .ensures) ∙ c .before .before .if1 .left, le-leb (a .d) 7 (c .before .if2 .left), le-leb (a .s) 7 (c .if3 .left))
+    rw (
+      sym (c .before .before .before .well-formed .ensures) ∙ c .before .before .if1 .left,
+      le-leb (a .d) 7
+          (c .before .if2 .left),
+      le-leb (a .s) 7 (c .if3 .left),
+    )
 
 pub find-unformed-spec : {M : Type 1} → statement M
 find-unformed-spec =

@@ -10,7 +10,8 @@ shared-slice-read-result c = search needs
 
 -- src/lib.rt:264:9
 returns : tie.Need-returns
-returns c = head-is (c .before .before .args .s .now) (c .before .before .args .from) (c .before .before .args .to) (c .before .if1 .taken) (c .before .before .pre)
+returns c = head-is (c .before .before .args .s .now) (c .before .before .args .from) (c .before .before .args .to)
+    (c .before .if1 .taken) (c .before .before .pre)
 
 -- src/lib.rt:259:1
 returns-2 : tie.Need-returns-2

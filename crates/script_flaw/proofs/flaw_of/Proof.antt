@@ -16,16 +16,21 @@ use Rattle.script_flaw.proofs.flaw_of.Statement.{statement}
 use Rattle.script_flaw.proofs.flaw_of.Tie as tie
 
 abbrev Inv-loop : tie.InvT-loop
-Inv-loop s at₀ line₀ part₀ at line part = (flawOn s at line part ≡ flawOf s) × (line ≤ at + 1) × (at ≤ length s) × (length s ≤ most)
+Inv-loop s at₀ line₀ part₀ at line part = (flawOn s at line part ≡ flawOf s) × (line ≤ at + 1) × (at ≤ length s) ×
+    (length s ≤ most)
 
 abbrev μ-loop : tie.MeasureT-loop
 μ-loop s at₀ line₀ part₀ at line part = length s - at
 
 -- what the line leads to
 ahead : (c : tie.After-known-told2 Inv-loop μ-loop)
-    → Looks (c .before .before .before .before .before .before .before .args .s .now) (c .before .before .before .before .loop .at) (c .before .before .before .before .loop .part) (Goes (c .before .outlook2 .given .0 .0) (c .before .outlook2 .given .0 .1 .0))
+    → Looks (c .before .before .before .before .before .before .before .args .s .now)
+    (c .before .before .before .before .loop .at) (c .before .before .before .before .loop .part)
+    (Goes (c .before .outlook2 .given .0 .0) (c .before .outlook2 .given .0 .1 .0))
 ahead c =
-    subst (λ (o : Outlook). Looks (c .before .before .before .before .before .before .before .args .s .now) (c .before .before .before .before .loop .at) (c .before .before .before .before .loop .part) o) (c .before .outlook2 .given .1) (c .before .before .before .look .ensures)
+    subst (λ (o : Outlook). Looks (c .before .before .before .before .before .before .before .args .s .now)
+    (c .before .before .before .before .loop .at) (c .before .before .before .before .loop .part) o)
+    (c .before .outlook2 .given .1) (c .before .before .before .look .ensures)
 
 -- src/lib.rt:387:9
 returns : tie.Need-returns Inv-loop μ-loop
@@ -47,7 +52,9 @@ enum-known-outlook c = search needs
 returns-2 : tie.Need-returns-2 Inv-loop μ-loop
 returns-2 c =
     let l = c .before .before .before .before .loop in
-    sym (subst (λ (o : Outlook). Looks (c .before .before .before .before .before .before .before .args .s .now) (l .at) (l .part) o) (c .before .outlook .given .1) (c .before .before .before .look .ensures) (l .line))
+    sym (subst
+    (λ (o : Outlook). Looks (c .before .before .before .before .before .before .before .args .s .now) (l .at) (l .part) o)
+    (c .before .outlook .given .1) (c .before .before .before .look .ensures) (l .line))
     ∙ l .inv .0
 
 -- src/lib.rt:398:27

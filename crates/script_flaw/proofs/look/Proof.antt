@@ -16,12 +16,15 @@ use Rattle.script_flaw.proofs.look.Tie as tie
 
 -- the whole line that was found
 found : (c : tie.After-known-told)
-    → lineAt (c .before .before .before .before .before .args .s .now) (c .before .before .before .before .before .args .at) ≡ Whole (c .before .line .given .0 .0) (c .before .line .given .0 .1 .0)
+    → lineAt (c .before .before .before .before .before .args .s .now) (c .before .before .before .before .before .args .at) ≡
+    Whole (c .before .line .given .0 .0) (c .before .line .given .0 .1 .0)
 found c = sym (c .before .before .before .line-at .ensures) ∙ c .before .line .given .1
 
 found-is : (c : tie.After-known-told)
-    → LineIs (c .before .before .before .before .before .args .s .now) (c .before .before .before .before .before .args .at) (Whole (c .before .line .given .0 .0) (c .before .line .given .0 .1 .0))
-found-is c = line-is (c .before .before .before .before .before .args .s .now) (c .before .before .before .before .before .args .at) _ (found c)
+    → LineIs (c .before .before .before .before .before .args .s .now) (c .before .before .before .before .before .args .at)
+    (Whole (c .before .line .given .0 .0) (c .before .line .given .0 .1 .0))
+found-is c = line-is (c .before .before .before .before .before .args .s .now)
+    (c .before .before .before .before .before .args .at) _ (found c)
 
 -- src/lib.rt:367:9
 line-at-requires : tie.Need-line-at-requires
@@ -70,8 +73,10 @@ returns : tie.Need-returns
 returns c =
     let a = c .before .before .before .before .before .before .before .before .before .before .args in
     let is = found (c .before .before .before .before .before) in
-    subst (λ (p : Part). Looks (a .s .now) (a .at) (a .part) (Goes p (c .before .before .before .before .before .before .line .given .0 .1 .0 + 1))) (sym (c .next-part .ensures))
-    (looks-on (a .s .now) (a .at) _ _ (a .part) (c .before .before .before .before .read-item .result) (c .before .before .before .reason-in .result) is (c .before .before .before .before .read-item .ensures)
+    subst (λ (p : Part). Looks (a .s .now) (a .at) (a .part)
+    (Goes p (c .before .before .before .before .before .before .line .given .0 .1 .0 + 1))) (sym (c .next-part .ensures))
+    (looks-on (a .s .now) (a .at) _ _ (a .part) (c .before .before .before .before .read-item .result)
+    (c .before .before .before .reason-in .result) is (c .before .before .before .before .read-item .ensures)
     (c .before .before .before .reason-in .ensures) (sym (c .before .before .is-fine .ensures) ∙ c .before .if1 .taken))
 
 -- src/lib.rt:364:1
@@ -91,8 +96,10 @@ returns-3 c =
 returns-4 : tie.Need-returns-4
 returns-4 c =
     let a = c .before .before .before .before .before .before .before .before .before .args in
-    looks-bad (a .s .now) (a .at) _ _ (a .part) (c .before .before .before .read-item .result) (c .before .before .reason-in .result) (found (c .before .before .before .before))
-    (c .before .before .before .read-item .ensures) (c .before .before .reason-in .ensures) (sym (c .before .is-fine .ensures) ∙ c .if1 .left)
+    looks-bad (a .s .now) (a .at) _ _ (a .part) (c .before .before .before .read-item .result)
+    (c .before .before .reason-in .result) (found (c .before .before .before .before))
+    (c .before .before .before .read-item .ensures) (c .before .before .reason-in .ensures)
+    (sym (c .before .is-fine .ensures) ∙ c .if1 .left)
 
 pub look-spec : {M : Type 1} → statement M
 look-spec =

@@ -90,27 +90,38 @@ returns-3 c =
     let four = c .before .before .item2 .given .0 in
     rw (c .before .before .item2 .given .1)
     (c .of-operation .ensures
-    ∙ ap (λ (b : ℕ). ofOperation (a .part) b (four .0) (four .1 .0) (four .1 .1 .0) (four .1 .1 .1 .0)) (c .before .before .before .before .first-byte .ensures))
+    ∙ ap (λ (b : ℕ). ofOperation (a .part) b (four .0) (four .1 .0) (four .1 .1 .0) (four .1 .1 .1 .0))
+    (c .before .before .before .before .first-byte .ensures))
 
 -- src/lib.rt:270:1
 returns-4 : tie.Need-returns-4
-returns-4 c = rw (c .before .enum-told2 .given .1) (c .of-step .ensures ∙ ap (ofStep (c .before .before .before .before .before .args .part)) (c .before .before .before .first-byte .ensures))
+returns-4 c = rw (c .before .enum-told2 .given .1)
+    (c .of-step .ensures ∙ ap (ofStep (c .before .before .before .before .before .args .part))
+    (c .before .before .before .first-byte .ensures))
 
 -- src/lib.rt:270:1
 returns-5 : tie.Need-returns-5
-returns-5 c = rw (c .before .enum-told3 .given .1) (c .of-step2 .ensures ∙ ap (ofStep (c .before .before .before .before .before .args .part)) (c .before .before .before .first-byte .ensures))
+returns-5 c = rw (c .before .enum-told3 .given .1)
+    (c .of-step2 .ensures ∙ ap (ofStep (c .before .before .before .before .before .args .part))
+    (c .before .before .before .first-byte .ensures))
 
 -- src/lib.rt:270:1
 returns-6 : tie.Need-returns-6
-returns-6 c = rw (c .before .enum-told4 .given .1) (c .of-step3 .ensures ∙ ap (ofStep (c .before .before .before .before .before .args .part)) (c .before .before .before .first-byte .ensures))
+returns-6 c = rw (c .before .enum-told4 .given .1)
+    (c .of-step3 .ensures ∙ ap (ofStep (c .before .before .before .before .before .args .part))
+    (c .before .before .before .first-byte .ensures))
 
 -- src/lib.rt:270:1
 returns-7 : tie.Need-returns-7
-returns-7 c = rw (c .before .enum-told5 .given .1) (c .of-step4 .ensures ∙ ap (ofStep (c .before .before .before .before .before .args .part)) (c .before .before .before .first-byte .ensures))
+returns-7 c = rw (c .before .enum-told5 .given .1)
+    (c .of-step4 .ensures ∙ ap (ofStep (c .before .before .before .before .before .args .part))
+    (c .before .before .before .first-byte .ensures))
 
 -- src/lib.rt:270:1
 returns-8 : tie.Need-returns-8
-returns-8 c = rw (c .before .enum-told6 .given .1) (c .of-step5 .ensures ∙ ap (ofStep (c .before .before .before .before .before .args .part)) (c .before .before .before .first-byte .ensures))
+returns-8 c = rw (c .before .enum-told6 .given .1)
+    (c .of-step5 .ensures ∙ ap (ofStep (c .before .before .before .before .before .args .part))
+    (c .before .before .before .first-byte .ensures))
 
 pub reason-in-spec : {M : Type 1} → statement M
 reason-in-spec =

@@ -39,13 +39,23 @@ add-t11 c = search needs
 returns-3 : tie.Need-returns-3
 returns-3 c =
     let a = c .before .before .before .args in
-    rw (not-false (a .begun) (c .before .before .if1 .left), lt-ltb 0 (a .x) (omega arith), le-leb (a .x * 10 + a .d) 4294967295 (c .if3 .taken))
+    rw (
+      not-false (a .begun) (c .before .before .if1 .left),
+      lt-ltb 0 (a .x) (omega arith),
+      le-leb (a .x * 10 + a .d)
+          4294967295 (c .if3 .taken),
+    )
 
 -- src/lib.rt:40:1
 returns-4 : tie.Need-returns-4
 returns-4 c =
     let a = c .before .before .before .args in
-    rw (not-false (a .begun) (c .before .before .if1 .left), lt-ltb 0 (a .x) (omega arith), lt-leb (a .x * 10 + a .d) 4294967295 (c .if3 .left))
+    rw (
+      not-false (a .begun) (c .before .before .if1 .left),
+      lt-ltb 0 (a .x) (omega arith),
+      lt-leb (a .x * 10 + a .d)
+          4294967295 (c .if3 .left),
+    )
 
 pub take-digit-spec : {M : Type 1} → statement M
 take-digit-spec =

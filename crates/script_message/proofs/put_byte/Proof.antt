@@ -22,8 +22,11 @@ returns : tie.Need-returns
 returns c =
     let p0 = c .before .before .before .before .before .before .before .before .before .before .put-one .ensures in
     let p1 = c .before .before .before .before .before .before .put-one2 .ensures in
-    let p2 = c .before .before .put-one3 .ensures in
-    (rw (c .before .before .before .before .before .before .before .before .before .before .before .before .if1 .taken) (writes-then (writes-then (p0 .0) (p1 .0)) (p2 .0)), omega (arith, p0 .1, p1 .1, p2 .1))
+    let p2 = c .before .before .put-one3 .ensures in (
+      rw (c .before .before .before .before .before .before .before .before .before .before .before .before .if1 .taken)
+          (writes-then (writes-then (p0 .0) (p1 .0)) (p2 .0)),
+      omega (arith, p0 .1, p1 .1, p2 .1),
+    )
 
 slice-aggregate-put : tie.Need-slice-aggregate-put
 slice-aggregate-put c = search needs
@@ -41,8 +44,10 @@ returns-2 : tie.Need-returns-2
 unfolding ascii
 returns-2 c =
     let p0 = c .before .before .before .before .before .before .put .ensures in
-    let p1 = c .before .before .put-value .ensures in
-    (rw (c .before .before .before .before .before .before .before .before .before .if1 .left) (writes-then (p0 .0) (p1 .0)), omega (arith, p0 .1, p1 .1))
+    let p1 = c .before .before .put-value .ensures in (
+      rw (c .before .before .before .before .before .before .before .before .before .if1 .left) (writes-then (p0 .0) (p1 .0)),
+      omega (arith, p0 .1, p1 .1),
+    )
 
 pub put-byte-spec : {M : Type 1} → statement M
 put-byte-spec =

@@ -50,8 +50,13 @@ same-length c = search needs
 returns : tie.Need-returns
 unfolding ascii
 returns c =
-    let p = c .before .before .put-any .ensures in
-    (writes-as (ap (expectedText (c .before .before .before .before .before .before .before .args .b) (c .before .before .before .before .before .before .before .args .k)) (c .before .before .before .before .enum-told .given .1)) (p .0), omega (arith, p .1))
+    let p = c .before .before .put-any .ensures in (
+      writes-as
+          (ap (expectedText (c .before .before .before .before .before .before .before .args .b)
+          (c .before .before .before .before .before .before .before .args .k))
+          (c .before .before .before .before .enum-told .given .1)) (p .0),
+      omega (arith, p .1),
+    )
 
 same-length-2 : tie.Need-same-length-2
 same-length-2 c = search needs
@@ -59,8 +64,13 @@ same-length-2 c = search needs
 returns-2 : tie.Need-returns-2
 unfolding ascii
 returns-2 c =
-    let p = c .before .before .put-any2 .ensures in
-    (writes-as (ap (expectedText (c .before .before .before .before .before .before .before .args .b) (c .before .before .before .before .before .before .before .args .k)) (c .before .before .before .before .enum-told2 .given .1)) (p .0), omega (arith, p .1))
+    let p = c .before .before .put-any2 .ensures in (
+      writes-as
+          (ap (expectedText (c .before .before .before .before .before .before .before .args .b)
+          (c .before .before .before .before .before .before .before .args .k))
+          (c .before .before .before .before .enum-told2 .given .1)) (p .0),
+      omega (arith, p .1),
+    )
 
 same-length-3 : tie.Need-same-length-3
 same-length-3 c = search needs
@@ -68,8 +78,13 @@ same-length-3 c = search needs
 returns-3 : tie.Need-returns-3
 unfolding ascii
 returns-3 c =
-    let p = c .before .before .put-any3 .ensures in
-    (writes-as (ap (expectedText (c .before .before .before .before .before .before .before .args .b) (c .before .before .before .before .before .before .before .args .k)) (c .before .before .before .before .enum-told3 .given .1)) (p .0), omega (arith, p .1))
+    let p = c .before .before .put-any3 .ensures in (
+      writes-as
+          (ap (expectedText (c .before .before .before .before .before .before .before .args .b)
+          (c .before .before .before .before .before .before .before .args .k))
+          (c .before .before .before .before .enum-told3 .given .1)) (p .0),
+      omega (arith, p .1),
+    )
 
 same-length-4 : tie.Need-same-length-4
 same-length-4 c = search needs
@@ -77,8 +92,13 @@ same-length-4 c = search needs
 returns-4 : tie.Need-returns-4
 unfolding ascii
 returns-4 c =
-    let p = c .before .before .put-any4 .ensures in
-    (writes-as (ap (expectedText (c .before .before .before .before .before .before .before .args .b) (c .before .before .before .before .before .before .before .args .k)) (c .before .before .before .before .enum-told4 .given .1)) (p .0), omega (arith, p .1))
+    let p = c .before .before .put-any4 .ensures in (
+      writes-as
+          (ap (expectedText (c .before .before .before .before .before .before .before .args .b)
+          (c .before .before .before .before .before .before .before .args .k))
+          (c .before .before .before .before .enum-told4 .given .1)) (p .0),
+      omega (arith, p .1),
+    )
 
 same-length-5 : tie.Need-same-length-5
 same-length-5 c = search needs
@@ -86,8 +106,13 @@ same-length-5 c = search needs
 returns-5 : tie.Need-returns-5
 unfolding ascii
 returns-5 c =
-    let p = c .before .before .put-any5 .ensures in
-    (writes-as (ap (expectedText (c .before .before .before .before .before .before .before .args .b) (c .before .before .before .before .before .before .before .args .k)) (c .before .before .before .before .enum-told5 .given .1)) (p .0), omega (arith, p .1))
+    let p = c .before .before .put-any5 .ensures in (
+      writes-as
+          (ap (expectedText (c .before .before .before .before .before .before .before .args .b)
+          (c .before .before .before .before .before .before .before .args .k))
+          (c .before .before .before .before .enum-told5 .given .1)) (p .0),
+      omega (arith, p .1),
+    )
 
 same-length-6 : tie.Need-same-length-6
 same-length-6 c = search needs
@@ -95,8 +120,13 @@ same-length-6 c = search needs
 returns-6 : tie.Need-returns-6
 unfolding ascii
 returns-6 c =
-    let p = c .before .before .put-limit .ensures in
-    (writes-as (ap (expectedText (c .before .before .before .before .before .before .before .args .b) (c .before .before .before .before .before .before .before .args .k)) (c .before .before .before .before .enum-told6 .given .1)) (p .0), omega (arith, p .1))
+    let p = c .before .before .put-limit .ensures in (
+      writes-as
+          (ap (expectedText (c .before .before .before .before .before .before .before .args .b)
+          (c .before .before .before .before .before .before .before .args .k))
+          (c .before .before .before .before .enum-told6 .given .1)) (p .0),
+      omega (arith, p .1),
+    )
 
 pub put-expected-spec : {M : Type 1} → statement M
 put-expected-spec =

@@ -34,12 +34,17 @@ same-length c = search needs
 returns : tie.Need-returns
 unfolding ascii
 returns c =
-    let p0 = c .before .before .before .before .before .before .before .before .before .before .before .before .before .before .before .before .before .before .before .before .put-place .ensures in
-    let p1 = c .before .before .before .before .before .before .before .before .before .before .before .before .before .before .before .put .ensures in
+    let p0 = c .before .before .before .before .before .before .before .before .before .before .before .before .before .before
+    .before .before .before .before .before .before .put-place .ensures in
+    let p1 = c .before .before .before .before .before .before .before .before .before .before .before .before .before .before
+    .before .put .ensures in
     let p2 = c .before .before .before .before .before .before .before .before .before .before .before .put-found .ensures in
     let p3 = c .before .before .before .before .before .before .put2 .ensures in
-    let p4 = c .before .before .put-expected .ensures in
-    (writes-then (writes-then (writes-then (writes-then (p0 .0) (p1 .0)) (p2 .0)) (p3 .0)) (p4 .0), omega (arith, p0 .1, p1 .1, p2 .1, p3 .1, p4 .1))
+    let p4 = c .before .before .put-expected .ensures in (
+      writes-then (writes-then (writes-then (writes-then (p0 .0) (p1 .0)) (p2 .0)) (p3 .0)) (p4 .0),
+      omega
+          (arith, p0 .1, p1 .1, p2 .1, p3 .1, p4 .1),
+    )
 
 pub put-field-spec : {M : Type 1} → statement M
 put-field-spec =

@@ -17,7 +17,8 @@ use Rattle.script_message.proofs.put_form.Tie as tie
 abbrev formBy : ℕ → ℕ → List ℕ
 formBy b n =
     (39 ∷ b ∷ [])
-    ++ cond (eqb n 5) (ascii ",banks,rows,stages,words'") (cond (eqb n 4) (ascii ",d,s,imm'") (cond (eqb n 2) (ascii ",k'") (ascii "'")))
+    ++ cond (eqb n 5) (ascii ",banks,rows,stages,words'")
+    (cond (eqb n 4) (ascii ",d,s,imm'") (cond (eqb n 2) (ascii ",k'") (ascii "'")))
 
 form-short : (b n : ℕ) → (n ≡ 5 → ⊥) → (n ≡ 4 → ⊥) → (n ≡ 2 → ⊥) → formBy b n ≡ (39 ∷ b ∷ []) ++ ascii "'"
 form-short b n h k l = rw (ne-eqb n 5 h, ne-eqb n 4 k, ne-eqb n 2 l)
@@ -43,11 +44,19 @@ same-length c = search needs
 returns : tie.Need-returns
 unfolding ascii
 returns c =
-    let a = c .before .before .before .before .before .before .before .before .before .before .before .before .before .before .before .before .args in
-    let p0 = c .before .before .before .before .before .before .before .before .before .before .before .before .put-one .ensures in
+    let a = c .before .before .before .before .before .before .before .before .before .before .before .before .before .before
+    .before .before .args in
+    let p0 = c .before .before .before .before .before .before .before .before .before .before .before .before .put-one
+    .ensures in
     let p1 = c .before .before .before .before .before .before .before .before .put-one2 .ensures in
-    let p2 = c .before .before .put .ensures in
-    (writes-as (ap (formBy (a .b)) (sym (c .before .before .before .before .before .before .before .before .before .before .before .before .before .before .arity-of .ensures) ∙ c .before .before .before .before .before .if1 .taken)) (writes-then (writes-then (p0 .0) (p1 .0)) (p2 .0)), omega (arith, p0 .1, p1 .1, p2 .1))
+    let p2 = c .before .before .put .ensures in (
+      writes-as
+          (ap (formBy (a .b))
+          (sym (c .before .before .before .before .before .before .before .before .before .before .before .before .before .before
+          .arity-of .ensures) ∙ c .before .before .before .before .before .if1 .taken))
+          (writes-then (writes-then (p0 .0) (p1 .0)) (p2 .0)),
+      omega (arith, p0 .1, p1 .1, p2 .1),
+    )
 
 slice-aggregate-put-2 : tie.Need-slice-aggregate-put-2
 slice-aggregate-put-2 c = search needs
@@ -61,11 +70,19 @@ same-length-2 c = search needs
 returns-2 : tie.Need-returns-2
 unfolding ascii
 returns-2 c =
-    let a = c .before .before .before .before .before .before .before .before .before .before .before .before .before .before .before .before .before .args in
-    let p0 = c .before .before .before .before .before .before .before .before .before .before .before .before .before .put-one .ensures in
+    let a = c .before .before .before .before .before .before .before .before .before .before .before .before .before .before
+    .before .before .before .args in
+    let p0 = c .before .before .before .before .before .before .before .before .before .before .before .before .before
+    .put-one .ensures in
     let p1 = c .before .before .before .before .before .before .before .before .before .put-one2 .ensures in
-    let p2 = c .before .before .put2 .ensures in
-    (writes-as (ap (formBy (a .b)) (sym (c .before .before .before .before .before .before .before .before .before .before .before .before .before .before .before .arity-of .ensures) ∙ c .before .before .before .before .before .if2 .taken)) (writes-then (writes-then (p0 .0) (p1 .0)) (p2 .0)), omega (arith, p0 .1, p1 .1, p2 .1))
+    let p2 = c .before .before .put2 .ensures in (
+      writes-as
+          (ap (formBy (a .b))
+          (sym (c .before .before .before .before .before .before .before .before .before .before .before .before .before .before
+          .before .arity-of .ensures) ∙ c .before .before .before .before .before .if2 .taken))
+          (writes-then (writes-then (p0 .0) (p1 .0)) (p2 .0)),
+      omega (arith, p0 .1, p1 .1, p2 .1),
+    )
 
 slice-aggregate-put-3 : tie.Need-slice-aggregate-put-3
 slice-aggregate-put-3 c = search needs
@@ -79,11 +96,19 @@ same-length-3 c = search needs
 returns-3 : tie.Need-returns-3
 unfolding ascii
 returns-3 c =
-    let a = c .before .before .before .before .before .before .before .before .before .before .before .before .before .before .before .before .before .before .args in
-    let p0 = c .before .before .before .before .before .before .before .before .before .before .before .before .before .before .put-one .ensures in
+    let a = c .before .before .before .before .before .before .before .before .before .before .before .before .before .before
+    .before .before .before .before .args in
+    let p0 = c .before .before .before .before .before .before .before .before .before .before .before .before .before .before
+    .put-one .ensures in
     let p1 = c .before .before .before .before .before .before .before .before .before .before .put-one2 .ensures in
-    let p2 = c .before .before .put3 .ensures in
-    (writes-as (ap (formBy (a .b)) (sym (c .before .before .before .before .before .before .before .before .before .before .before .before .before .before .before .before .arity-of .ensures) ∙ c .before .before .before .before .before .if3 .taken)) (writes-then (writes-then (p0 .0) (p1 .0)) (p2 .0)), omega (arith, p0 .1, p1 .1, p2 .1))
+    let p2 = c .before .before .put3 .ensures in (
+      writes-as
+          (ap (formBy (a .b))
+          (sym (c .before .before .before .before .before .before .before .before .before .before .before .before .before .before
+          .before .before .arity-of .ensures) ∙ c .before .before .before .before .before .if3 .taken))
+          (writes-then (writes-then (p0 .0) (p1 .0)) (p2 .0)),
+      omega (arith, p0 .1, p1 .1, p2 .1),
+    )
 
 slice-aggregate-put-4 : tie.Need-slice-aggregate-put-4
 slice-aggregate-put-4 c = search needs
@@ -97,12 +122,19 @@ same-length-4 c = search needs
 returns-4 : tie.Need-returns-4
 unfolding ascii
 returns-4 c =
-    let a = c .before .before .before .before .before .before .before .before .before .before .before .before .before .before .before .before .before .before .args in
-    let p0 = c .before .before .before .before .before .before .before .before .before .before .before .before .before .before .put-one .ensures in
+    let a = c .before .before .before .before .before .before .before .before .before .before .before .before .before .before
+    .before .before .before .before .args in
+    let p0 = c .before .before .before .before .before .before .before .before .before .before .before .before .before .before
+    .put-one .ensures in
     let p1 = c .before .before .before .before .before .before .before .before .before .before .put-one2 .ensures in
     let p2 = c .before .before .put4 .ensures in (
-      writes-as (ap (formBy (a .b)) (sym (c .before .before .before .before .before .before .before .before .before .before .before .before .before .before .before .before .arity-of .ensures))
-          ∙ form-short (a .b) _ (c .before .before .before .before .before .before .before .if1 .left) (c .before .before .before .before .before .before .if2 .left) (c .before .before .before .before .before .if3 .left)) (writes-then (writes-then (p0 .0) (p1 .0)) (p2 .0)),
+      writes-as
+          (ap (formBy (a .b))
+          (sym (c .before .before .before .before .before .before .before .before .before .before .before .before .before .before
+          .before .before .arity-of .ensures))
+          ∙ form-short (a .b) _ (c .before .before .before .before .before .before .before .if1 .left)
+          (c .before .before .before .before .before .before .if2 .left)
+          (c .before .before .before .before .before .if3 .left)) (writes-then (writes-then (p0 .0) (p1 .0)) (p2 .0)),
       omega (arith, p0 .1, p1 .1, p2 .1),
     )
 

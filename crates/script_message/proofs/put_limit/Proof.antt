@@ -47,8 +47,13 @@ returns : tie.Need-returns
 unfolding ascii
 returns c =
     let a = c .before .before .before .before .before .before .before .before .before .before .before .args in
-    let p = c .before .before .put-of-four .ensures in
-    (writes-as (ap (λ (n : ℕ). limitBy n (a .k)) (sym (c .before .before .before .before .before .before .before .before .before .arity-of .ensures) ∙ c .before .before .before .before .before .before .before .before .if1 .taken)) (p .0), omega (arith, p .1))
+    let p = c .before .before .put-of-four .ensures in (
+      writes-as
+          (ap (λ (n : ℕ). limitBy n (a .k))
+          (sym (c .before .before .before .before .before .before .before .before .before .arity-of .ensures) ∙
+          c .before .before .before .before .before .before .before .before .if1 .taken)) (p .0),
+      omega (arith, p .1),
+    )
 
 slice-aggregate-put : tie.Need-slice-aggregate-put
 slice-aggregate-put c = search needs
@@ -63,8 +68,12 @@ returns-2 : tie.Need-returns-2
 unfolding ascii
 returns-2 c =
     let a = c .before .before .before .before .before .before .before .before .args in
-    let p = c .before .before .put .ensures in
-    (writes-as (ap (λ (n : ℕ). limitBy n (a .k)) (sym (c .before .before .before .before .before .before .arity-of .ensures)) ∙ limitBy-other _ (a .k) (c .before .before .before .before .before .if1 .left)) (p .0), omega (arith, p .1))
+    let p = c .before .before .put .ensures in (
+      writes-as
+          (ap (λ (n : ℕ). limitBy n (a .k)) (sym (c .before .before .before .before .before .before .arity-of .ensures)) ∙
+          limitBy-other _ (a .k) (c .before .before .before .before .before .if1 .left)) (p .0),
+      omega (arith, p .1),
+    )
 
 pub put-limit-spec : {M : Type 1} → statement M
 put-limit-spec =

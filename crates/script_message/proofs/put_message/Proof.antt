@@ -20,8 +20,11 @@ returns c =
 
 returns-2 : tie.Need-returns-2
 returns-2 c =
-    let a = c .before .before .before .before .args in
-    (rw (sym (c .before .before .is-fine .ensures) ∙ c .before .if1 .left, lt-ltb (length (a .out .now)) 256 (c .if2 .taken)) (writes-none (a .out .now) 0), omega arith)
+    let a = c .before .before .before .before .args in (
+      rw (sym (c .before .before .is-fine .ensures) ∙ c .before .if1 .left, lt-ltb (length (a .out .now)) 256 (c .if2 .taken))
+          (writes-none (a .out .now) 0),
+      omega arith,
+    )
 
 slice-aggregate-put : tie.Need-slice-aggregate-put
 slice-aggregate-put c = search needs
@@ -53,13 +56,25 @@ same-length c = search needs
 returns-3 : tie.Need-returns-3
 unfolding ascii
 returns-3 c =
-    let p0 = c .before .before .before .before .before .before .before .before .before .before .before .before .before .before .before .before .before .before .before .before .put .ensures in
-    let p1 = c .before .before .before .before .before .before .before .before .before .before .before .before .before .before .before .before .put-value .ensures in
-    let p2 = c .before .before .before .before .before .before .before .before .before .before .before .put2 .ensures in
-    let p3 = c .before .before .before .before .before .before .before .put-reason .ensures in
-    let p4 = c .before .before .put3 .ensures in
-    let a = c .before .before .before .before .before .before .before .before .before .before .before .before .before .before .before .before .before .before .before .before .before .before .before .before .before .before .before .args in
-    (rw (sym (c .before .before .before .before .before .before .before .before .before .before .before .before .before .before .before .before .before .before .before .before .before .before .before .before .before .is-fine .ensures) ∙ c .before .before .before .before .before .before .before .before .before .before .before .before .before .before .before .before .before .before .before .before .before .before .before .before .if1 .left, le-ltb (length (a .out .now)) 256 (c .before .before .before .before .before .before .before .before .before .before .before .before .before .before .before .before .before .before .before .before .before .before .before .if2 .left)) (writes-then (writes-then (writes-then (writes-then (p0 .0) (p1 .0)) (p2 .0)) (p3 .0)) (p4 .0)), omega (arith, p0 .1, p1 .1, p2 .1, p3 .1, p4 .1, c .before .before .before .before .before .before .before .before .before .before .before .before .before .before .before .before .before .before .before .before .before .before .before .if2 .left))
+    let last = c .before .before in
+    let why = last .before .before .before .before .before in
+    let second = why .before .before .before .before in
+    let number = second .before .before .before .before .before in
+    let first = number .before .before .before .before in
+    let room = first .before .before .before in
+    let p0 = first .put .ensures in
+    let p1 = number .put-value .ensures in
+    let p2 = second .put2 .ensures in
+    let p3 = why .put-reason .ensures in
+    let p4 = last .put3 .ensures in
+    let a = room .before .before .before .before .args in (
+      rw (
+        sym (room .before .before .is-fine .ensures) ∙ room .before .if1 .left,
+        le-ltb (length (a .out .now)) 256 (room .if2 .left),
+      )
+          (writes-then (writes-then (writes-then (writes-then (p0 .0) (p1 .0)) (p2 .0)) (p3 .0)) (p4 .0)),
+      omega (arith, p0 .1, p1 .1, p2 .1, p3 .1, p4 .1, room .if2 .left),
+    )
 
 pub put-message-spec : {M : Type 1} → statement M
 put-message-spec =

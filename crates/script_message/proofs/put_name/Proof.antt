@@ -47,8 +47,13 @@ returns : tie.Need-returns
 unfolding ascii
 returns c =
     let a = c .before .before .before .before .before .before .before .before .before .before .before .args in
-    let p = c .before .before .put-of-four .ensures in
-    (writes-as (ap (λ (n : ℕ). nameBy n (a .k)) (sym (c .before .before .before .before .before .before .before .before .before .arity-of .ensures) ∙ c .before .before .before .before .before .before .before .before .if1 .taken)) (p .0), omega (arith, p .1))
+    let p = c .before .before .put-of-four .ensures in (
+      writes-as
+          (ap (λ (n : ℕ). nameBy n (a .k))
+          (sym (c .before .before .before .before .before .before .before .before .before .arity-of .ensures) ∙
+          c .before .before .before .before .before .before .before .before .if1 .taken)) (p .0),
+      omega (arith, p .1),
+    )
 
 slice-aggregate-put-of-four-5 : tie.Need-slice-aggregate-put-of-four-5
 slice-aggregate-put-of-four-5 c = search needs
@@ -72,8 +77,13 @@ returns-2 : tie.Need-returns-2
 unfolding ascii
 returns-2 c =
     let a = c .before .before .before .before .before .before .before .before .before .before .before .before .args in
-    let p = c .before .before .put-of-four2 .ensures in
-    (writes-as (ap (λ (n : ℕ). nameBy n (a .k)) (sym (c .before .before .before .before .before .before .before .before .before .before .arity-of .ensures) ∙ c .before .before .before .before .before .before .before .before .if2 .taken)) (p .0), omega (arith, p .1))
+    let p = c .before .before .put-of-four2 .ensures in (
+      writes-as
+          (ap (λ (n : ℕ). nameBy n (a .k))
+          (sym (c .before .before .before .before .before .before .before .before .before .before .arity-of .ensures) ∙
+          c .before .before .before .before .before .before .before .before .if2 .taken)) (p .0),
+      omega (arith, p .1),
+    )
 
 slice-aggregate-put : tie.Need-slice-aggregate-put
 slice-aggregate-put c = search needs
@@ -88,8 +98,13 @@ returns-3 : tie.Need-returns-3
 unfolding ascii
 returns-3 c =
     let a = c .before .before .before .before .before .before .before .before .before .args in
-    let p = c .before .before .put .ensures in
-    (writes-as (ap (λ (n : ℕ). nameBy n (a .k)) (sym (c .before .before .before .before .before .before .before .arity-of .ensures)) ∙ nameBy-other _ (a .k) (c .before .before .before .before .before .before .if1 .left) (c .before .before .before .before .before .if2 .left)) (p .0), omega (arith, p .1))
+    let p = c .before .before .put .ensures in (
+      writes-as
+          (ap (λ (n : ℕ). nameBy n (a .k)) (sym (c .before .before .before .before .before .before .before .arity-of .ensures)) ∙
+          nameBy-other _ (a .k) (c .before .before .before .before .before .before .if1 .left)
+          (c .before .before .before .before .before .if2 .left)) (p .0),
+      omega (arith, p .1),
+    )
 
 pub put-name-spec : {M : Type 1} → statement M
 put-name-spec =

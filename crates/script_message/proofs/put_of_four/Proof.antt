@@ -14,8 +14,11 @@ same-length c = search needs
 
 returns : tie.Need-returns
 returns c =
-    let p = c .before .before .put .ensures in
-    (rw (eq-eqb (c .before .before .before .before .before .before .before .before .before .before .args .k) 2 (c .before .before .before .before .if1 .taken)) (p .0), omega (arith, p .1))
+    let p = c .before .before .put .ensures in (
+      rw (eq-eqb (c .before .before .before .before .before .before .before .before .before .before .args .k) 2
+          (c .before .before .before .before .if1 .taken)) (p .0),
+      omega (arith, p .1),
+    )
 
 put-requires-2 : tie.Need-put-requires-2
 put-requires-2 c κs = search needs
@@ -25,8 +28,16 @@ same-length-2 c = search needs
 
 returns-2 : tie.Need-returns-2
 returns-2 c =
-    let p = c .before .before .put2 .ensures in
-    (rw (ne-eqb (c .before .before .before .before .before .before .before .before .before .before .before .args .k) 2 (c .before .before .before .before .before .if1 .left), eq-eqb (c .before .before .before .before .before .before .before .before .before .before .before .args .k) 3 (c .before .before .before .before .if2 .taken)) (p .0), omega (arith, p .1))
+    let p = c .before .before .put2 .ensures in (
+      rw (
+        ne-eqb (c .before .before .before .before .before .before .before .before .before .before .before .args .k) 2
+            (c .before .before .before .before .before .if1 .left),
+        eq-eqb
+            (c .before .before .before .before .before .before .before .before .before .before .before .args .k) 3
+            (c .before .before .before .before .if2 .taken),
+      ) (p .0),
+      omega (arith, p .1),
+    )
 
 put-requires-3 : tie.Need-put-requires-3
 put-requires-3 c κs = search needs
@@ -36,8 +47,19 @@ same-length-3 c = search needs
 
 returns-3 : tie.Need-returns-3
 returns-3 c =
-    let p = c .before .before .put3 .ensures in
-    (rw (ne-eqb (c .before .before .before .before .before .before .before .before .before .before .before .before .args .k) 2 (c .before .before .before .before .before .before .if1 .left), ne-eqb (c .before .before .before .before .before .before .before .before .before .before .before .before .args .k) 3 (c .before .before .before .before .before .if2 .left), eq-eqb (c .before .before .before .before .before .before .before .before .before .before .before .before .args .k) 4 (c .before .before .before .before .if3 .taken)) (p .0), omega (arith, p .1))
+    let p = c .before .before .put3 .ensures in (
+      rw (
+        ne-eqb (c .before .before .before .before .before .before .before .before .before .before .before .before .args .k) 2
+            (c .before .before .before .before .before .before .if1 .left),
+        ne-eqb
+            (c .before .before .before .before .before .before .before .before .before .before .before .before .args .k) 3
+            (c .before .before .before .before .before .if2 .left),
+        eq-eqb
+            (c .before .before .before .before .before .before .before .before .before .before .before .before .args .k) 4
+            (c .before .before .before .before .if3 .taken),
+      ) (p .0),
+      omega (arith, p .1),
+    )
 
 put-requires-4 : tie.Need-put-requires-4
 put-requires-4 c κs = search needs
@@ -47,8 +69,19 @@ same-length-4 c = search needs
 
 returns-4 : tie.Need-returns-4
 returns-4 c =
-    let p = c .before .before .put4 .ensures in
-    (rw (ne-eqb (c .before .before .before .before .before .before .before .before .before .before .before .before .args .k) 2 (c .before .before .before .before .before .before .if1 .left), ne-eqb (c .before .before .before .before .before .before .before .before .before .before .before .before .args .k) 3 (c .before .before .before .before .before .if2 .left), ne-eqb (c .before .before .before .before .before .before .before .before .before .before .before .before .args .k) 4 (c .before .before .before .before .if3 .left)) (p .0), omega (arith, p .1))
+    let p = c .before .before .put4 .ensures in (
+      rw (
+        ne-eqb (c .before .before .before .before .before .before .before .before .before .before .before .before .args .k) 2
+            (c .before .before .before .before .before .before .if1 .left),
+        ne-eqb
+            (c .before .before .before .before .before .before .before .before .before .before .before .before .args .k) 3
+            (c .before .before .before .before .before .if2 .left),
+        ne-eqb
+            (c .before .before .before .before .before .before .before .before .before .before .before .before .args .k) 4
+            (c .before .before .before .before .if3 .left),
+      ) (p .0),
+      omega (arith, p .1),
+    )
 
 pub put-of-four-spec : {M : Type 1} → statement M
 put-of-four-spec =
