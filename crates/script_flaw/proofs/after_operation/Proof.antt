@@ -6,35 +6,27 @@ use borrow.Author.Needs.{needs}
 use Rattle.script_flaw.proofs.after_operation.Statement.{statement}
 use Rattle.script_flaw.proofs.after_operation.Tie as tie
 
--- src/lib.rt:314:24
 enum-told : tie.Need-enum-told
 enum-told c = search needs
 
--- src/lib.rt:315:23
 enum-known-part : tie.Need-enum-known-part
 enum-known-part c = search needs
 
--- src/lib.rt:317:38
 sub-t5 : tie.Need-sub-t5
 sub-t5 c = search needs
 
--- src/lib.rt:317:17
 returns : tie.Need-returns
 returns c = rw (c .before .before .part .given .1)
 
--- src/lib.rt:321:24
 enum-told-2 : tie.Need-enum-told-2
 enum-told-2 c = search needs
 
--- src/lib.rt:310:1
 returns-2 : tie.Need-returns-2
 returns-2 c = search needs
 
--- src/lib.rt:310:1
 returns-3 : tie.Need-returns-3
 returns-3 c = rw (c .before .before .part .given .1) (ap Program (omega arith))
 
--- src/lib.rt:310:1
 returns-4 : tie.Need-returns-4
 returns-4 c = search needs
 

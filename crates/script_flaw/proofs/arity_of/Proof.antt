@@ -3,25 +3,20 @@ use borrow.Author.Tests.{eq-eqb, ne-eqb}
 use Rattle.script_flaw.proofs.arity_of.Statement.{statement}
 use Rattle.script_flaw.proofs.arity_of.Tie as tie
 
--- src/lib.rt:25:9
 returns : tie.Need-returns
 returns c = rw (c .if1 .taken)
 
--- src/lib.rt:28:9
 returns-2 : tie.Need-returns-2
 returns-2 c = rw (c .before .if1 .left, c .if2 .taken)
 
--- src/lib.rt:31:9
 returns-3 : tie.Need-returns-3
 returns-3 c = rw (c .before .before .if1 .left, c .before .if2 .left, c .if3 .taken)
 
--- src/lib.rt:34:9
 returns-4 : tie.Need-returns-4
 returns-4 c =
     let b = c .before .before .before .before .args .b in
     rw (c .before .before .before .if1 .left, c .before .before .if2 .left, c .before .if3 .left, eq-eqb b 78 (c .if4 .taken))
 
--- src/lib.rt:21:1
 returns-5 : tie.Need-returns-5
 returns-5 c =
     let b = c .before .before .before .before .args .b in

@@ -19,35 +19,27 @@ Inv-loop s letter from to k₀ begun₀ x₀ i₀ k begun x i =
 abbrev μ-loop : tie.MeasureT-loop
 μ-loop s letter from to k₀ begun₀ x₀ i₀ k begun x i = to - i
 
--- src/lib.rt:84:5
 loop-holds : tie.Need-loop-holds Inv-loop μ-loop
 loop-holds c = (refl, c .before .pre .0)
 
--- src/lib.rt:85:37
 shared-slice-read-take-byte : tie.Need-shared-slice-read-take-byte Inv-loop μ-loop
 shared-slice-read-take-byte c = omega (arith, c .before .before .before .before .pre .1)
 
--- src/lib.rt:85:13
 take-byte-requires : tie.Need-take-byte-requires Inv-loop μ-loop
 take-byte-requires c κs = search needs
 
--- src/lib.rt:88:17
 enum-told : tie.Need-enum-told Inv-loop μ-loop
 enum-told c = search needs
 
--- src/lib.rt:88:17
 add-k : tie.Need-add-k Inv-loop μ-loop
 add-k c = omega (arith, c .before .before .before .before .before .loop .inv .1)
 
--- src/lib.rt:90:17
 add-i : tie.Need-add-i Inv-loop μ-loop
 add-i c = omega arith
 
--- src/lib.rt:84:5
 loop-less : tie.Need-loop-less Inv-loop μ-loop
 loop-less c = omega arith
 
--- src/lib.rt:84:5
 loop-again : tie.Need-loop-again Inv-loop μ-loop
 loop-again c =
     let a = c .before .before .before .before .before .before .before .args in
@@ -59,19 +51,15 @@ loop-again c =
       omega (arith, l .inv .1),
     )
 
--- src/lib.rt:92:25
 enum-known-t : tie.Need-enum-known-t Inv-loop μ-loop
 enum-known-t c = search needs
 
--- src/lib.rt:95:17
 add-i-2 : tie.Need-add-i-2 Inv-loop μ-loop
 add-i-2 c = omega arith
 
--- src/lib.rt:84:5
 loop-less-2 : tie.Need-loop-less-2 Inv-loop μ-loop
 loop-less-2 c = omega arith
 
--- src/lib.rt:84:5
 loop-again-2 : tie.Need-loop-again-2 Inv-loop μ-loop
 loop-again-2 c =
     let a = c .before .before .before .before .before .before .before .before .args in
@@ -83,11 +71,9 @@ loop-again-2 c =
       omega (arith, l .inv .1),
     )
 
--- src/lib.rt:97:25
 enum-known-t-2 : tie.Need-enum-known-t-2 Inv-loop μ-loop
 enum-known-t-2 c = search needs
 
--- src/lib.rt:98:17
 returns : tie.Need-returns Inv-loop μ-loop
 returns c =
     let a = c .before .before .before .before .before .before .before .before .args in
@@ -97,7 +83,6 @@ returns c =
     (c .before .before .before .before .before .before .before .before .pre .1) _ does
     ∙ l .inv .0
 
--- src/lib.rt:103:9
 returns-2 : tie.Need-returns-2 Inv-loop μ-loop
 returns-2 c =
     let a = c .before .before .before .before .args in
@@ -106,7 +91,6 @@ returns-2 c =
     (c .before .before .before .before .pre .1) (c .if1 .taken)
     ∙ l .inv .0
 
--- src/lib.rt:76:1
 returns-3 : tie.Need-returns-3 Inv-loop μ-loop
 returns-3 c =
     let a = c .before .before .before .before .args in

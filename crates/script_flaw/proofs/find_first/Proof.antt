@@ -6,21 +6,17 @@ use borrow.Author.Needs.{needs}
 use Rattle.script_flaw.proofs.find_first.Statement.{statement}
 use Rattle.script_flaw.proofs.find_first.Tie as tie
 
--- src/lib.rt:164:9
 returns : tie.Need-returns
 returns c =
     let a = c .before .before .args in
     first-blank (a .s .now) (a .from) (a .to) (c .if1 .taken) (omega (arith, c .before .before .pre .1))
 
--- src/lib.rt:166:13
 shared-slice-read-b : tie.Need-shared-slice-read-b
 shared-slice-read-b c = omega (arith, c .before .before .before .pre .1)
 
--- src/lib.rt:168:9
 find-malformed-requires : tie.Need-find-malformed-requires
 find-malformed-requires c κs = c .before .before .before .before .pre
 
--- src/lib.rt:168:9
 returns-2 : tie.Need-returns-2
 returns-2 c =
     let a = c .before .before .before .before .before .args in
@@ -28,7 +24,6 @@ returns-2 c =
     ∙ first-sizes (a .s .now) (a .from) (a .to) (c .before .before .before .if1 .left)
     (omega (arith, c .before .before .before .before .before .pre .1)) (c .before .if2 .taken)
 
--- src/lib.rt:159:1
 returns-3 : tie.Need-returns-3
 returns-3 c =
     let a = c .before .before .before .before .args in

@@ -8,36 +8,29 @@ use borrow.Author.Needs.{needs}
 use Rattle.script_flaw.proofs.find_malformed.Statement.{statement}
 use Rattle.script_flaw.proofs.find_malformed.Tie as tie
 
--- src/lib.rt:133:9
 returns : tie.Need-returns
 returns c =
     let a = c .before .before .args in
     malformed-blank (a .s .now) (a .from) (a .to) (c .if1 .taken) (omega (arith, c .before .before .pre .1))
 
--- src/lib.rt:135:13
 shared-slice-read-b : tie.Need-shared-slice-read-b
 shared-slice-read-b c = omega (arith, c .before .before .before .pre .1)
 
--- src/lib.rt:136:10
 sub-if2 : tie.Need-sub-if2
 sub-if2 c = omega arith
 
--- src/lib.rt:136:8
 shared-slice-read-if2 : tie.Need-shared-slice-read-if2
 shared-slice-read-if2 c = omega (arith, c .before .before .before .before .pre .1)
 
--- src/lib.rt:137:9
 returns-2 : tie.Need-returns-2
 returns-2 c =
     let a = c .before .before .before .before .before .args in
     malformed-return (a .s .now) (a .from) (a .to) (c .before .before .before .if1 .left)
     (omega (arith, c .before .before .before .before .before .pre .1)) (c .if2 .taken)
 
--- src/lib.rt:139:9
 arity-of-requires : tie.Need-arity-of-requires
 arity-of-requires c κs = search needs
 
--- src/lib.rt:141:9
 returns-3 : tie.Need-returns-3
 returns-3 c =
     let a = c .before .before .before .before .before .before .before .args in
@@ -45,11 +38,9 @@ returns-3 c =
     (omega (arith, c .before .before .before .before .before .before .before .pre .1)) (c .before .before .if2 .left)
     (sym (c .before .arity-of .ensures) ∙ c .if3 .taken)
 
--- src/lib.rt:143:8
 sub-if4 : tie.Need-sub-if4
 sub-if4 c = omega arith
 
--- src/lib.rt:144:9
 returns-4 : tie.Need-returns-4
 returns-4 c =
     let a = c .before .before .before .before .before .before .before .before .args in
@@ -58,11 +49,9 @@ returns-4 c =
     (c .before .before .before .if2 .left)
     (λ e. c .before .if3 .left (c .before .before .arity-of .ensures ∙ e)) (c .if4 .taken)
 
--- src/lib.rt:146:15
 add-c : tie.Need-add-c
 add-c c = omega (arith, c .before .before .before .before .before .before .if1 .left)
 
--- src/lib.rt:146:13
 shared-slice-read-c : tie.Need-shared-slice-read-c
 shared-slice-read-c c = omega (
   arith,
@@ -70,7 +59,6 @@ shared-slice-read-c c = omega (
   c .before .before .before .before .before .before .before .if1 .left,
 )
 
--- src/lib.rt:148:9
 returns-5 : tie.Need-returns-5
 returns-5 c =
     let a = c .before .before .before .before .before .before .before .before .before .before .args in
@@ -85,12 +73,10 @@ returns-5 c =
       c .before .before .before .before .before .before .before .before .if1 .left,
     )) (c .if5 .taken)
 
--- src/lib.rt:150:33
 add-count-commas : tie.Need-add-count-commas
 add-count-commas c = omega
     (arith, c .before .before .if4 .left, c .before .before .before .before .before .before .before .before .if1 .left)
 
--- src/lib.rt:150:17
 count-commas-requires : tie.Need-count-commas-requires
 count-commas-requires c κs = (
   omega
@@ -99,11 +85,9 @@ count-commas-requires c κs = (
       (arith, c .before .before .before .before .before .before .before .before .before .before .pre .1),
 )
 
--- src/lib.rt:150:17
 add-found : tie.Need-add-found
 add-found c = omega (arith, c .count-commas .ensures .1)
 
--- src/lib.rt:152:9
 returns-6 : tie.Need-returns-6
 returns-6 c =
     let a = c .before .before .before .before .before .before .before .before .before .before .before .before .args in
@@ -121,7 +105,6 @@ returns-6 c =
     (c .before .count-commas .result) (c .before .count-commas .ensures .0)
     (λ e. c .if6 .taken (e ∙ sym (c .before .before .before .before .before .before .arity-of .ensures)))
 
--- src/lib.rt:154:23
 add-find-defect : tie.Need-add-find-defect
 add-find-defect c = omega (
   arith,
@@ -129,7 +112,6 @@ add-find-defect c = omega (
   c .before .before .before .before .before .before .before .before .before .before .if1 .left,
 )
 
--- src/lib.rt:154:5
 find-defect-requires : tie.Need-find-defect-requires
 find-defect-requires c κs = (
   omega arith,
@@ -137,7 +119,6 @@ find-defect-requires c κs = (
       (arith, c .before .before .before .before .before .before .before .before .before .before .before .before .pre .1),
 )
 
--- src/lib.rt:128:1
 returns-7 : tie.Need-returns-7
 returns-7 c =
     let a = c .before .before .before .before .before .before .before .before .before .before .before .before .before .args in

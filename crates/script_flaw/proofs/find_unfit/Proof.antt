@@ -12,19 +12,16 @@ banksFit b = eqb b 1 || eqb b 2 || eqb b 4 || eqb b 8
 abbrev within : ℕ → ℕ → Bool
 within most n = leb 1 n && leb n most
 
--- src/lib.rt:190:9
 returns : tie.Need-returns
 returns c =
     let a = c .before .args in
     rw (not-true (banksFit (a .banks)) (c .if1 .taken))
 
--- src/lib.rt:193:9
 returns-2 : tie.Need-returns-2
 returns-2 c =
     let a = c .before .before .args in
     rw (not-false (banksFit (a .banks)) (c .before .if1 .left), not-true (within 8 (a .rows)) (c .if2 .taken))
 
--- src/lib.rt:196:9
 returns-3 : tie.Need-returns-3
 returns-3 c =
     let a = c .before .before .before .args in
@@ -34,7 +31,6 @@ returns-3 c =
       not-true (within 16 (a .stages)) (c .if3 .taken),
     )
 
--- src/lib.rt:199:9
 returns-4 : tie.Need-returns-4
 returns-4 c =
     let a = c .before .before .before .before .args in
@@ -45,7 +41,6 @@ returns-4 c =
       not-true (within 4096 (a .words)) (c .if4 .taken),
     )
 
--- src/lib.rt:186:1
 returns-5 : tie.Need-returns-5
 returns-5 c =
     let a = c .before .before .before .before .args in

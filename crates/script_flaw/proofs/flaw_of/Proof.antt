@@ -32,23 +32,18 @@ ahead c =
     (c .before .before .before .before .loop .at) (c .before .before .before .before .loop .part) o)
     (c .before .outlook2 .given .1) (c .before .before .before .look .ensures)
 
--- src/lib.rt:387:9
 returns : tie.Need-returns Inv-loop μ-loop
 returns c = flaw-long (c .before .before .args .s .now) (c .if1 .taken)
 
--- src/lib.rt:392:5
 loop-holds : tie.Need-loop-holds Inv-loop μ-loop
 loop-holds c = (flaw-start (c .before .before .args .s .now) (c .if1 .left), omega arith, omega arith, c .if1 .left)
 
--- src/lib.rt:393:13
 look-requires : tie.Need-look-requires Inv-loop μ-loop
 look-requires c κs = search needs
 
--- src/lib.rt:395:27
 enum-known-outlook : tie.Need-enum-known-outlook Inv-loop μ-loop
 enum-known-outlook c = search needs
 
--- src/lib.rt:396:17
 returns-2 : tie.Need-returns-2 Inv-loop μ-loop
 returns-2 c =
     let l = c .before .before .before .before .loop in
@@ -57,19 +52,15 @@ returns-2 c =
     (c .before .outlook .given .1) (c .before .before .before .look .ensures) (l .line))
     ∙ l .inv .0
 
--- src/lib.rt:398:27
 enum-known-outlook-2 : tie.Need-enum-known-outlook-2 Inv-loop μ-loop
 enum-known-outlook-2 c = search needs
 
--- src/lib.rt:401:17
 add-line : tie.Need-add-line Inv-loop μ-loop
 add-line c = omega (arith, c .before .before .before .before .loop .inv .1, c .before .before .before .before .loop .inv .2)
 
--- src/lib.rt:392:5
 loop-less : tie.Need-loop-less Inv-loop μ-loop
 loop-less c = omega (arith, ahead c .1, ahead c .2)
 
--- src/lib.rt:392:5
 loop-again : tie.Need-loop-again Inv-loop μ-loop
 loop-again c =
     let l = c .before .before .before .before .loop in

@@ -26,49 +26,38 @@ found-is : (c : tie.After-known-told)
 found-is c = line-is (c .before .before .before .before .before .args .s .now)
     (c .before .before .before .before .before .args .at) _ (found c)
 
--- src/lib.rt:367:9
 line-at-requires : tie.Need-line-at-requires
 line-at-requires c κs = search needs
 
--- src/lib.rt:369:36
 enum-told : tie.Need-enum-told
 enum-told c = search needs
 
--- src/lib.rt:369:36
 at-end-requires : tie.Need-at-end-requires
 at-end-requires c κs = search needs
 
--- src/lib.rt:370:43
 enum-told-2 : tie.Need-enum-told-2
 enum-told-2 c = search needs
 
--- src/lib.rt:371:21
 enum-known-line : tie.Need-enum-known-line
 enum-known-line c = search needs
 
--- src/lib.rt:372:17
 read-item-requires : tie.Need-read-item-requires
 read-item-requires c κs = omega (arith, found-is c .2)
 
--- src/lib.rt:373:17
 reason-in-requires : tie.Need-reason-in-requires
 reason-in-requires c κs =
     let is = found-is (c .before) in
     (omega (arith, is .0, is .1), omega (arith, is .2))
 
--- src/lib.rt:374:16
 is-fine-requires : tie.Need-is-fine-requires
 is-fine-requires c κs = search needs
 
--- src/lib.rt:375:38
 next-part-requires : tie.Need-next-part-requires
 next-part-requires c κs = search needs
 
--- src/lib.rt:375:61
 add-t14 : tie.Need-add-t14
 add-t14 c = omega (arith, found-is (c .before .before .before .before .before) .2)
 
--- src/lib.rt:375:17
 returns : tie.Need-returns
 returns c =
     let a = c .before .before .before .before .before .before .before .before .before .before .args in
@@ -79,20 +68,17 @@ returns c =
     (c .before .before .before .reason-in .result) is (c .before .before .before .before .read-item .ensures)
     (c .before .before .before .reason-in .ensures) (sym (c .before .before .is-fine .ensures) ∙ c .before .if1 .taken))
 
--- src/lib.rt:364:1
 returns-2 : tie.Need-returns-2
 returns-2 c =
     let a = c .before .before .before .before .before .args in
     subst (λ (r : Reason). Looks (a .s .now) (a .at) (a .part) (Ends r)) (sym (c .at-end .ensures))
     (looks-end (a .s .now) (a .at) (a .part) (sym (c .before .before .before .line-at .ensures) ∙ c .before .enum-told .given .1))
 
--- src/lib.rt:364:1
 returns-3 : tie.Need-returns-3
 returns-3 c =
     let a = c .before .before .before .before .args in
     looks-unended (a .s .now) (a .at) _ (a .part) (sym (c .before .before .line-at .ensures) ∙ c .enum-told2 .given .1)
 
--- src/lib.rt:364:1
 returns-4 : tie.Need-returns-4
 returns-4 c =
     let a = c .before .before .before .before .before .before .before .before .before .args in

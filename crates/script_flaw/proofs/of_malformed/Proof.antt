@@ -3,39 +3,30 @@ use borrow.Author.Needs.{needs}
 use Rattle.script_flaw.proofs.of_malformed.Statement.{statement}
 use Rattle.script_flaw.proofs.of_malformed.Tie as tie
 
--- src/lib.rt:179:24
 enum-told : tie.Need-enum-told
 enum-told c = search needs
 
--- src/lib.rt:179:24
 find-first-requires : tie.Need-find-first-requires
 find-first-requires c κs = c .before .before .before .pre
 
--- src/lib.rt:180:29
 enum-told-2 : tie.Need-enum-told-2
 enum-told-2 c = search needs
 
--- src/lib.rt:180:29
 find-malformed-requires : tie.Need-find-malformed-requires
 find-malformed-requires c κs = c .before .before .before .pre
 
--- src/lib.rt:181:24
 enum-told-3 : tie.Need-enum-told-3
 enum-told-3 c = search needs
 
--- src/lib.rt:181:24
 find-malformed-requires-2 : tie.Need-find-malformed-requires-2
 find-malformed-requires-2 c κs = c .before .before .before .pre
 
--- src/lib.rt:174:1
 returns : tie.Need-returns
 returns c = rw (c .before .enum-told .given .1) (c .find-first .ensures)
 
--- src/lib.rt:174:1
 returns-2 : tie.Need-returns-2
 returns-2 c = rw (c .before .enum-told2 .given .1) (c .find-malformed .ensures)
 
--- src/lib.rt:174:1
 returns-3 : tie.Need-returns-3
 returns-3 c = rw (c .before .enum-told3 .given .1) (c .find-malformed2 .ensures)
 

@@ -4,35 +4,27 @@ use borrow.Author.Needs.{needs}
 use Rattle.script_flaw.proofs.of_operation.Statement.{statement}
 use Rattle.script_flaw.proofs.of_operation.Tie as tie
 
--- src/lib.rt:236:24
 enum-told : tie.Need-enum-told
 enum-told c = search needs
 
--- src/lib.rt:237:23
 enum-known-part : tie.Need-enum-known-part
 enum-known-part c = search needs
 
--- src/lib.rt:239:17
 find-unformed-requires : tie.Need-find-unformed-requires
 find-unformed-requires c κs = search needs
 
--- src/lib.rt:239:17
 returns : tie.Need-returns
 returns c = rw (c .before .before .before .part .given .1, lt-ltb 0 _ (c .before .if1 .taken)) (c .find-unformed .ensures)
 
--- src/lib.rt:243:24
 enum-told-2 : tie.Need-enum-told-2
 enum-told-2 c = search needs
 
--- src/lib.rt:232:1
 returns-2 : tie.Need-returns-2
 returns-2 c = rw (c .enum-told .given .1)
 
--- src/lib.rt:232:1
 returns-3 : tie.Need-returns-3
 returns-3 c = rw (c .before .before .part .given .1, le-ltb 0 _ (c .if1 .left))
 
--- src/lib.rt:232:1
 returns-4 : tie.Need-returns-4
 returns-4 c = search needs
 

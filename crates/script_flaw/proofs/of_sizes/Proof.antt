@@ -3,31 +3,24 @@ use borrow.Author.Needs.{needs}
 use Rattle.script_flaw.proofs.of_sizes.Statement.{statement}
 use Rattle.script_flaw.proofs.of_sizes.Tie as tie
 
--- src/lib.rt:209:24
 enum-told : tie.Need-enum-told
 enum-told c = search needs
 
--- src/lib.rt:209:24
 find-unfit-requires : tie.Need-find-unfit-requires
 find-unfit-requires c κs = search needs
 
--- src/lib.rt:210:29
 enum-told-2 : tie.Need-enum-told-2
 enum-told-2 c = search needs
 
--- src/lib.rt:211:24
 enum-told-3 : tie.Need-enum-told-3
 enum-told-3 c = search needs
 
--- src/lib.rt:205:1
 returns : tie.Need-returns
 returns c = rw (c .before .enum-told .given .1) (c .find-unfit .ensures)
 
--- src/lib.rt:205:1
 returns-2 : tie.Need-returns-2
 returns-2 c = search needs
 
--- src/lib.rt:205:1
 returns-3 : tie.Need-returns-3
 returns-3 c = search needs
 

@@ -3,27 +3,21 @@ use borrow.Author.Needs.{needs}
 use Rattle.script_flaw.proofs.of_step.Statement.{statement}
 use Rattle.script_flaw.proofs.of_step.Tie as tie
 
--- src/lib.rt:252:24
 enum-told : tie.Need-enum-told
 enum-told c = search needs
 
--- src/lib.rt:253:29
 enum-told-2 : tie.Need-enum-told-2
 enum-told-2 c = search needs
 
--- src/lib.rt:254:24
 enum-told-3 : tie.Need-enum-told-3
 enum-told-3 c = search needs
 
--- src/lib.rt:248:1
 returns : tie.Need-returns
 returns c = rw (c .enum-told .given .1)
 
--- src/lib.rt:248:1
 returns-2 : tie.Need-returns-2
 returns-2 c = search needs
 
--- src/lib.rt:248:1
 returns-3 : tie.Need-returns-3
 returns-3 c = search needs
 

@@ -7,83 +7,63 @@ use borrow.Author.Needs.{needs}
 use Rattle.script_flaw.proofs.reason_in.Statement.{statement}
 use Rattle.script_flaw.proofs.reason_in.Tie as tie
 
--- src/lib.rt:274:9
 first-byte-requires : tie.Need-first-byte-requires
 first-byte-requires c κs = omega (arith, c .before .pre .1)
 
--- src/lib.rt:276:28
 enum-told : tie.Need-enum-told
 enum-told c = search needs
 
--- src/lib.rt:276:28
 of-malformed-requires : tie.Need-of-malformed-requires
 of-malformed-requires c κs = c .before .before .before .before .pre
 
--- src/lib.rt:277:21
 enum-known-item : tie.Need-enum-known-item
 enum-known-item c = search needs
 
--- src/lib.rt:277:52
 of-sizes-requires : tie.Need-of-sizes-requires
 of-sizes-requires c κs = search needs
 
--- src/lib.rt:278:25
 enum-known-item-2 : tie.Need-enum-known-item-2
 enum-known-item-2 c = search needs
 
--- src/lib.rt:278:45
 of-operation-requires : tie.Need-of-operation-requires
 of-operation-requires c κs = search needs
 
--- src/lib.rt:279:24
 enum-told-2 : tie.Need-enum-told-2
 enum-told-2 c = search needs
 
--- src/lib.rt:279:24
 of-step-requires : tie.Need-of-step-requires
 of-step-requires c κs = search needs
 
--- src/lib.rt:280:29
 enum-told-3 : tie.Need-enum-told-3
 enum-told-3 c = search needs
 
--- src/lib.rt:280:29
 of-step-requires-2 : tie.Need-of-step-requires-2
 of-step-requires-2 c κs = search needs
 
--- src/lib.rt:281:28
 enum-told-4 : tie.Need-enum-told-4
 enum-told-4 c = search needs
 
--- src/lib.rt:281:28
 of-step-requires-3 : tie.Need-of-step-requires-3
 of-step-requires-3 c κs = search needs
 
--- src/lib.rt:282:25
 enum-told-5 : tie.Need-enum-told-5
 enum-told-5 c = search needs
 
--- src/lib.rt:282:25
 of-step-requires-4 : tie.Need-of-step-requires-4
 of-step-requires-4 c κs = search needs
 
--- src/lib.rt:283:28
 enum-told-6 : tie.Need-enum-told-6
 enum-told-6 c = search needs
 
--- src/lib.rt:283:28
 of-step-requires-5 : tie.Need-of-step-requires-5
 of-step-requires-5 c κs = search needs
 
--- src/lib.rt:270:1
 returns : tie.Need-returns
 returns c = rw (c .before .enum-told .given .1) (c .of-malformed .ensures)
 
--- src/lib.rt:270:1
 returns-2 : tie.Need-returns-2
 returns-2 c = rw (c .before .before .item .given .1) (c .of-sizes .ensures)
 
--- src/lib.rt:270:1
 returns-3 : tie.Need-returns-3
 returns-3 c =
     let a = c .before .before .before .before .before .before .args in
@@ -93,31 +73,26 @@ returns-3 c =
     ∙ ap (λ (b : ℕ). ofOperation (a .part) b (four .0) (four .1 .0) (four .1 .1 .0) (four .1 .1 .1 .0))
     (c .before .before .before .before .first-byte .ensures))
 
--- src/lib.rt:270:1
 returns-4 : tie.Need-returns-4
 returns-4 c = rw (c .before .enum-told2 .given .1)
     (c .of-step .ensures ∙ ap (ofStep (c .before .before .before .before .before .args .part))
     (c .before .before .before .first-byte .ensures))
 
--- src/lib.rt:270:1
 returns-5 : tie.Need-returns-5
 returns-5 c = rw (c .before .enum-told3 .given .1)
     (c .of-step2 .ensures ∙ ap (ofStep (c .before .before .before .before .before .args .part))
     (c .before .before .before .first-byte .ensures))
 
--- src/lib.rt:270:1
 returns-6 : tie.Need-returns-6
 returns-6 c = rw (c .before .enum-told4 .given .1)
     (c .of-step3 .ensures ∙ ap (ofStep (c .before .before .before .before .before .args .part))
     (c .before .before .before .first-byte .ensures))
 
--- src/lib.rt:270:1
 returns-7 : tie.Need-returns-7
 returns-7 c = rw (c .before .enum-told5 .given .1)
     (c .of-step4 .ensures ∙ ap (ofStep (c .before .before .before .before .before .args .part))
     (c .before .before .before .first-byte .ensures))
 
--- src/lib.rt:270:1
 returns-8 : tie.Need-returns-8
 returns-8 c = rw (c .before .enum-told6 .given .1)
     (c .of-step5 .ensures ∙ ap (ofStep (c .before .before .before .before .before .args .part))

@@ -5,39 +5,32 @@ use borrow.Author.Needs.{needs}
 use Rattle.script_flaw.proofs.take_byte.Statement.{statement}
 use Rattle.script_flaw.proofs.take_byte.Tie as tie
 
--- src/lib.rt:62:13
 returns : tie.Need-returns
 returns c =
     let a = c .before .before .args in
     rw (eq-eqb (a .b) 44 (c .before .if1 .taken), c .if2 .taken)
 
--- src/lib.rt:64:9
 returns-2 : tie.Need-returns-2
 returns-2 c =
     let a = c .before .before .args in
     rw (eq-eqb (a .b) 44 (c .before .if1 .taken), c .if2 .left)
 
--- src/lib.rt:67:9
 returns-3 : tie.Need-returns-3
 returns-3 c =
     let a = c .before .before .args in
     rw (ne-eqb (a .b) 44 (c .before .if1 .left), lt-leb 48 (a .b) (c .if3 .taken))
 
--- src/lib.rt:70:9
 returns-4 : tie.Need-returns-4
 returns-4 c =
     let a = c .before .before .before .args in
     rw (ne-eqb (a .b) 44 (c .before .before .if1 .left), le-leb 48 (a .b) (omega arith), lt-leb (a .b) 57 (c .if4 .taken))
 
--- src/lib.rt:72:26
 sub-take-digit : tie.Need-sub-take-digit
 sub-take-digit c = search needs
 
--- src/lib.rt:72:5
 take-digit-requires : tie.Need-take-digit-requires
 take-digit-requires c κs = search needs
 
--- src/lib.rt:57:1
 returns-5 : tie.Need-returns-5
 returns-5 c =
     let a = c .before .before .before .before .args in

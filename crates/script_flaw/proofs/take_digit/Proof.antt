@@ -7,35 +7,28 @@ use borrow.Author.Needs.{needs}
 use Rattle.script_flaw.proofs.take_digit.Statement.{statement}
 use Rattle.script_flaw.proofs.take_digit.Tie as tie
 
--- src/lib.rt:45:9
 returns : tie.Need-returns
 returns c =
     let a = c .before .args in
     rw (not-true (a .begun) (c .if1 .taken))
 
--- src/lib.rt:48:9
 returns-2 : tie.Need-returns-2
 returns-2 c =
     let a = c .before .before .args in
     rw (not-false (a .begun) (c .before .if1 .left), le-ltb 0 (a .x) (omega arith))
 
--- src/lib.rt:50:8
 mul-if3 : tie.Need-mul-if3
 mul-if3 c = search needs
 
--- src/lib.rt:50:8
 add-if3 : tie.Need-add-if3
 add-if3 c = search needs
 
--- src/lib.rt:51:28
 mul-t10 : tie.Need-mul-t10
 mul-t10 c = search needs
 
--- src/lib.rt:51:28
 add-t11 : tie.Need-add-t11
 add-t11 c = search needs
 
--- src/lib.rt:51:9
 returns-3 : tie.Need-returns-3
 returns-3 c =
     let a = c .before .before .before .args in
@@ -46,7 +39,6 @@ returns-3 c =
           4294967295 (c .if3 .taken),
     )
 
--- src/lib.rt:40:1
 returns-4 : tie.Need-returns-4
 returns-4 c =
     let a = c .before .before .before .args in
