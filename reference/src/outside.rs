@@ -29,10 +29,8 @@ pub fn play(program: &Path, script: &[u8]) -> Result<Vec<u8>, String> {
     }
 }
 
-fn start(program: &str) -> std::io::Result<Child> {
-    let mut words = program.split_whitespace();
-    let command = words.next().unwrap_or_default();
-    Command::new(command).args(words).stdin(Stdio::piped()).stdout(Stdio::piped()).stderr(Stdio::null()).spawn()
+fn start(program: &Path) -> std::io::Result<Child> {
+    Command::new(program).stdin(Stdio::piped()).stdout(Stdio::piped()).stderr(Stdio::null()).spawn()
 }
 
 /// From a thread: the player may print before it has read everything, and may stop reading early.

@@ -4,7 +4,6 @@
 use libc::STDERR_FILENO;
 use libc::STDIN_FILENO;
 use libc::STDOUT_FILENO;
-use script_model::MOST;
 ghost use Prim.Native.Nat.{_≤_};
 ghost use lib.ListN.{length};
 ghost use Rattle.script_model.specs.Playing.{longest};
@@ -17,10 +16,11 @@ struct Input {
     whole: bool,
 }
 
-// What came of it: nothing was printed, all was, or a write failed.
+// What came of it: nothing was printed, all up to the end line or up to a bad line was, or a write failed.
 enum Outcome {
     Nothing,
     All,
+    Bad,
     Lost,
 }
 
@@ -44,41 +44,55 @@ fn read_all(buf: &mut [u8]) -> Input
     }
 }
 
-// Plays on, and writes each piece, until all is printed or a write fails.
+// Whether the last of these lines is a bad line and not the end line.
+fn ends_bad(out: &[u8]) -> bool {
+    let mut i = out.len();
+    while i > 1 {
+        if out[i - 2] == b'\n' {
+            return out[i - 1] == b'b';
+        }
+        i -= 1;
+    }
+    if i == 1 {
+        return out[0] == b'b';
+    }
+    false
+}
+
+// Plays on, and writes each piece, until all is printed or a write fails. A player that is over at its beginning prints nothing:
+// the text may not be the whole input.
 fn play(s: &[u8], whole: bool, program: &mut [u32], memory: &mut [u32], out: &mut [u8]) -> Outcome
     requires { ⌜ longest ≤ length (now out) ⌝ }
 {
-    if !whole & (s.len() <= MOST) {
+    let mut player = script::begin(s, whole, program, memory);
+    let first = player.phase;
+    if script::is_over(first) {
         return Outcome::Nothing;
     }
-    let begun = script::begin(s, program, memory);
-    let used = begun.used;
-    let mut player = begun.player;
+    let mut bad = false;
     loop {
         let phase = player.phase;
         if script::is_over(phase) {
+            if bad {
+                return Outcome::Bad;
+            }
             return Outcome::All;
         }
-        let piece = script::fill(player, s, &program[0..used], memory, out);
+        let piece = script::fill(player, s, program, memory, out);
         let end = piece.end;
         if !io::write_all(STDOUT_FILENO, &out[0..end]) {
             return Outcome::Lost;
         }
+        bad = ends_bad(&out[0..end]);
         player = piece.player;
     }
 }
 
-// Says why a script that was played is bad, if it is.
+// Says why a script is bad.
 fn explain(s: &[u8], out: &mut [u8]) {
     let flaw = script_flaw::flaw_of(s);
-    let reason = flaw.reason;
-    if script_flaw::is_fine(reason) {
-        io::write_all(TELL, b"0\n");
-        return;
-    }
     let end = script_message::put_message(out, flaw);
     io::write_all(STDERR_FILENO, &out[0..end]);
-    io::write_all(TELL, b"1\n");
 }
 
 // Says what came of it.
@@ -91,7 +105,13 @@ fn report(outcome: Outcome, s: &[u8], out: &mut [u8]) {
             );
             io::write_all(TELL, b"3\n");
         }
-        Outcome::All => explain(s, out),
+        Outcome::All => {
+            io::write_all(TELL, b"0\n");
+        }
+        Outcome::Bad => {
+            explain(s, out);
+            io::write_all(TELL, b"1\n");
+        }
         Outcome::Lost => {
             io::write_all(
                 STDERR_FILENO,

@@ -17,7 +17,7 @@ use Rattle.engine.specs.Contract.{refused, committed, finished}
 use Rattle.engine.specs.Conditions.{refusal}
 use Rattle.machine_model.specs.declared.Machine.{Machine}
 use Rattle.machine_model.specs.Calls.{Plain, commit, finish, Answer, Result, finishChecks, commits, ready, programDone}
-use Rattle.machine_model.specs.Calls.{Drain, afterCommit, continueOn, drainStopped, finishes, ended, respond}
+use Rattle.machine_model.specs.Calls.{Drain, afterCommit, continueOn, drainStopped, finishes, drained, respond}
 use Rattle.machine_model.specs.Contract.{plain, Sound, Meets}
 use Rattle.machine_model.proofs.Sounding.{length-entries}
 use Rattle.engine.proofs.Meeting.{judged-accepted}
@@ -192,9 +192,9 @@ remains-meets program k m s u w list v z into n passed remains e sound =
     (record { answer = finished n; state = plain u; memory = z; list = into })
     (passed .sound)
     (judged-accepted (refusal (finishChecks program (plain m) w)) (plain m) w list
-    (ended list (finishes program k (length list) (plain m) w))
+    (drained list (finishes program k (length list) (plain m) w))
     (passed-lent m program w passed [])
-    ∙ ap (ended list) (remains .way ∙ ap (following (take (n * 4) into) n) e)
+    ∙ ap (drained list) (remains .way ∙ ap (following (take (n * 4) into) n) e)
     ∙ ap₂
     (λ (q : ℕ) (l : List ℕ). let r : Result = record { answer = finished q; state = plain u; memory = z; list = l } in r)
     (let q : n + 0 ≡ n = omega arith in q)

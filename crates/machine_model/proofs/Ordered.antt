@@ -18,7 +18,7 @@ use Rattle.engine.proofs.Refusing.{refusal-least, refusal-holds}
 use Rattle.machine_model.specs.declared.Machine.{Machine}
 use Rattle.machine_model.specs.Calls.{Plain, Call, issue, execute, squash, commit, finish, lentTo, Answer, Result, checksOf}
 use Rattle.machine_model.specs.Calls.{respond, openChecks, issuing, executing, evaluated, known, survivorsOf, squashing}
-use Rattle.machine_model.specs.Calls.{committing, finishes, ended}
+use Rattle.machine_model.specs.Calls.{committing, finishes, drained}
 use Rattle.machine_model.specs.Contract.{Opens}
 
 -- the numbers of a call's conditions rise, and the first of them is above 2
@@ -67,7 +67,7 @@ accepted program (execute p) X memory =
     executing X memory p (known (evaluated X memory p)) (survivorsOf X p (known (evaluated X memory p)))
 accepted program (squash p) X memory = squashing X memory p
 accepted program commit X memory = committing X memory
-accepted program (finish k list) X memory = ended list (finishes program k (length list) X memory)
+accepted program (finish k list) X memory = drained list (finishes program k (length list) X memory)
 
 accepted-accepts : (program : List ℕ) (c : Call) (X : Plain) (memory : List ℕ) → Accepts (accepted program c X memory .answer)
 accepted-accepts program issue X memory = tt

@@ -324,8 +324,8 @@ finishes program (suc k) places X memory =
     continueOn (r .answer) (drainStopped Y memory) (finishes program k (places - 4) (r .state) (r .memory)))
 
 -- what a finish comes to that ended so: the numbers stand at the list's start, and the rest of the list is left
-abbrev pub ended : List ℕ → Drain → Result
-ended list w =
+abbrev pub drained : List ℕ → Drain → Result
+drained list w =
     record {
       answer = finished (w .commits);
       state = w .state;
@@ -335,7 +335,7 @@ ended list w =
 
 abbrev pub finishing : List ℕ → Plain → List ℕ → ℕ → List ℕ → Result
 finishing program X memory k list =
-    unlessRefused program (finish k list) X memory (ended list (finishes program k (length list) X memory))
+    unlessRefused program (finish k list) X memory (drained list (finishes program k (length list) X memory))
 
 -- ---- every call
 unfoldable pub respond : List ℕ → Call → Plain → List ℕ → Result

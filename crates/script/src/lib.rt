@@ -3,7 +3,6 @@
 // `words_of` tells how much memory the script asks for, `begin` reads the sizes and the program, and `fill` plays on until the
 // lent buffer is full or all is printed. None requires anything; script_model/specs/Playing.antt has their contracts.
 use machine_model::PROGRAM;
-pub use script_model::Begun;
 use script_model::Found;
 use script_model::MOST;
 pub use script_model::Phase;
@@ -13,7 +12,7 @@ pub use script_playing::fill;
 pub use script_reading::words_of;
 ghost use mathlib.Core.Path.{_≡_};
 ghost use lib.ListN.{length, replicate};
-ghost use Rattle.script_model.specs.Playing.{isOver, Begins};
+ghost use Rattle.script_model.specs.Playing.{idle, isOver, Begins};
 
 // Memory starts as zeros.
 fn clear(memory: &mut [u32])
@@ -27,28 +26,26 @@ fn clear(memory: &mut [u32])
 }
 
 // A player with no machine in use.
-fn idle(phase: Phase, program: &[u32], memory: &[u32]) -> Begun
-    ensures { λ r. ⌜ (r .used ≡ 0) × (r .player .phase ≡ phase) × (r .player .cursor ≡ 0) × (r .player .line ≡ 1)
-        × (r .player .commits ≡ 0) ⌝ }
+fn idle(phase: Phase, program: &[u32], memory: &[u32]) -> Player
+    ensures { λ r. ⌜ r ≡ idle phase ⌝ }
 {
     let closed = machine::open(0, 0, 0, 0, program, memory);
     let machine = closed.machine;
-    Begun {
-        player: Player {
-            phase,
-            cursor: 0,
-            line: 1,
-            commits: 0,
-            machine,
-        },
+    Player {
+        phase,
+        cursor: 0,
+        line: 1,
+        commits: 0,
         used: 0,
+        machine,
     }
 }
 
-// The player of a script, with its program read into the lent one and the lent memory cleared.
-pub fn begin(s: &[u8], program: &mut [u32], memory: &mut [u32]) -> Begun
-    ensures { λ r. ⌜ Begins (now (s .entry)) (now (program .entry)) (now (memory .entry)) (r .player) (r .used)
-        (now (program .exit)) (now (memory .exit)) ⌝ }
+// The player of a script, with its program read into the lent one and the lent memory cleared. `whole` says that the text lent
+// is all of the input.
+pub fn begin(s: &[u8], whole: bool, program: &mut [u32], memory: &mut [u32]) -> Player
+    ensures { λ r. ⌜ Begins (now (s .entry)) whole (now (program .entry)) (now (memory .entry)) r (now (program .exit))
+        (now (memory .exit)) ⌝ }
 {
     if program.len() < PROGRAM {
         return idle(Phase::Over, program, memory);
@@ -58,6 +55,9 @@ pub fn begin(s: &[u8], program: &mut [u32], memory: &mut [u32]) -> Begun
     }
     if MOST < s.len() {
         return idle(Phase::Bad(0), program, memory);
+    }
+    if !whole {
+        return idle(Phase::Over, program, memory);
     }
     let header = script_reading::read_header(s);
     match header {
@@ -75,15 +75,13 @@ pub fn begin(s: &[u8], program: &mut [u32], memory: &mut [u32]) -> Begun
                 memory,
             );
             let machine = opened.machine;
-            Begun {
-                player: Player {
-                    phase: Phase::Stepping,
-                    cursor: loaded.cursor,
-                    line: loaded.line,
-                    commits: 0,
-                    machine,
-                },
+            Player {
+                phase: Phase::Stepping,
+                cursor: loaded.cursor,
+                line: loaded.line,
+                commits: 0,
                 used,
+                machine,
             }
         }
     }

@@ -1,40 +1,47 @@
--- What `begin` answers meets its contract, by the way it goes. Lent wrongly, it is over. A text that is too long, or
--- has a bad first line, prints one bad line, and that is left. Otherwise the machine was opened on the script's sizes,
--- its program and zeros: the opening passes its checks (Openings), so the machine is sound and linked and its plain
--- state is the opened one, and what is left of the steps behind the program is the output of the script. Assumes
--- nothing.
+-- What `begin` hands back meets its contract, by the way it goes: lent wrongly it is over (begins-over); a text that is too long
+-- or has a bad first line prints one bad line (begins-bad); otherwise the machine was opened on the script's sizes, its program
+-- and zeros (begins-open). And what it hands back is the beginning of the script: all of its output is left to print, and the
+-- player may go on (begins-left). For that the steps of a script begin behind as many lines as its program has instructions
+-- (body-behind), and the opening passes its checks (Openings), so the machine is sound and linked. Assumes nothing.
 use mathlib.Core.Path.{_≡_, refl, sym, subst, ap, ap₂, _∙_}
-use mathlib.Core.Bool.{Bool, true, false, not, _||_, false≢true}
-use mathlib.Core.List.{List}
-use Prim.Native.Nat.{ℕ, _≤_, _<_, zero-le}
+use mathlib.Core.Bool.{Bool, true, false, cond, not, _&&_, _||_, false≢true, and-false}
+use mathlib.Core.List.{List, [], _∷_, _++_, append-nil, append-assoc}
+use Prim.Native.Nat.{ℕ, zero, suc, _+_, _-_, _*_, _/_, _≤_, _<_, zero-le}
+use native.Mathlib.Nat.{add-zero}
 use native.Mathlib.Omega.{arith}
-use lib.Dec.{eqb, ltb}
-use lib.ListN.{length, replicate, take}
-use borrow.Author.Tests.{lt-ltb, le-ltb, ltb-false, eqb-true, eq-eqb, ne-eqb, not-false}
-use Rattle.text.specs.Lines.{linesOf}
+use lib.Dec.{eqb, leb, ltb}
+use lib.ListN.{length, replicate, take, drop, length-append}
+use lib.Seq.{take-append-seam, length-take-le}
+use borrow.Author.Tests.{lt-ltb, le-ltb, ltb-true, ltb-false, eqb-true, eq-eqb, ne-eqb, le-leb, lt-leb, not-false}
+use Rattle.text.specs.Lines.{feed, linesOf}
+use Rattle.table.specs.Limits.{sizesFit}
 use Rattle.engine.specs.Conditions.{refusal}
 use Rattle.machine_model.specs.declared.Machine.{Machine}
-use Rattle.machine_model.specs.Calls.{Plain, Answer, openChecks}
-use Rattle.machine_model.specs.Contract.{Opens}
+use Rattle.machine_model.specs.Calls.{Plain, Answer, openChecks, opened}
+use Rattle.machine_model.specs.Contract.{plain, Sound, Opens, freshMachine}
+use Rattle.machine_model.proofs.Opened.{fresh-sound, fresh-plain}
 use Rattle.theorem.specs.Play.{play, start}
 use Rattle.theorem.specs.computed.Linked.{Linked}
 use Rattle.theorem.proofs.Linking.{linked-open}
+use Rattle.script_model.specs.declared.Found.{Found}
 use Rattle.script_model.specs.declared.Found.the-variants.{Nothing, Four}
 use Rattle.script_model.specs.declared.Phase.{Phase}
 use Rattle.script_model.specs.declared.Phase.the-variants.{Over, Bad, Stepping}
 use Rattle.script_model.specs.declared.Player.{Player}
-use Rattle.script_model.specs.Language.{Body, Script, unread, script}
+use Rattle.script_model.specs.Language.{Steps, Body, Script, unread, script}
 use Rattle.script_model.specs.Output.{commitLines, badLine, transcript, output, most, printed}
-use Rattle.script_model.specs.Playing.{stepsAt, standing, leftIn, wordsOf, wronglyLent, Begins}
+use Rattle.script_model.specs.Playing.{player, scriptOf, wordsOf, wronglyLent, lineStart, idle, openedPlayer, firstPlayer}
+use Rattle.script_model.specs.Playing.{Begins}
 use Rattle.script_model.specs.Truth.{Sized}
-use Rattle.script_model.specs.computed.Invariant.{due, InUse, isPlaying}
-use Rattle.script_model.specs.computed.Parts.{headerOf, Loads}
-use Rattle.script_model.proofs.Heads.{headed, script-unheaded, words-told}
+use Rattle.script_model.specs.computed.Parts.{foundAt, headerOf, stepsAt, bodyAt, Loads}
+use Rattle.script_model.proofs.Invariant.{standing, leftIn, left, Playing}
+use Rattle.script_model.proofs.Heads.{headed, script-unheaded}
+use Rattle.script_model.proofs.Programs.{body-four, body-stop, body-full}
 use Rattle.script_model.proofs.Openings.{script-opens}
 
 -- ---- what is printed
 
-pub printed-long : (text : List ℕ) → most < length text → printed text ≡ badLine 0
+printed-long : (text : List ℕ) → most < length text → printed text ≡ badLine 0
 unfolding printed
 printed-long text long = rw (lt-ltb most (length text) long)
 
@@ -42,127 +49,403 @@ pub printed-short : (text : List ℕ) → length text ≤ most → printed text 
 unfolding printed
 printed-short text short = rw (le-ltb most (length text) short)
 
+-- more input does not change that
+pub long-anyway : (text rest : List ℕ) → most < length text → printed (text ++ rest) ≡ badLine 0
+long-anyway text rest long = printed-long (text ++ rest) (omega (arith, length-append text rest, long))
+
 unread-prints : output unread ≡ badLine 1
 unfolding play commitLines
 unread-prints = refl
 
-pub printed-unheaded : (text : List ℕ) → length text ≤ most → headerOf text ≡ Nothing → printed text ≡ badLine 1
-printed-unheaded text short h = printed-short text short ∙ ap output (script-unheaded text h) ∙ unread-prints
+-- ---- the script of a text
+
+script-long : (text : List ℕ) → most < length text → scriptOf text ≡ unread
+script-long text long = ap (λ (t : Bool). cond t unread (script (linesOf text))) (lt-ltb most (length text) long)
+
+script-short : (text : List ℕ) → length text ≤ most → scriptOf text ≡ script (linesOf text)
+script-short text short = ap (λ (t : Bool). cond t unread (script (linesOf text))) (le-ltb most (length text) short)
+
+-- the first player, by the text
+abbrev playerBy : List ℕ → Bool → Script → Player
+playerBy text long s =
+    cond long (idle (Bad 0))
+    (cond (sizesFit (s .banks) (s .rows) (s .stages) (s .words)) (openedPlayer text s (length (s .body .program) / 4)) (idle (Bad 1)))
+
+player-long : (text : List ℕ) → most < length text → firstPlayer text ≡ idle (Bad 0)
+player-long text long = ap (λ (t : Bool). playerBy text t (scriptOf text)) (lt-ltb most (length text) long)
+
+player-short : (text : List ℕ) (s : Script) → length text ≤ most → scriptOf text ≡ s
+    → firstPlayer text ≡ playerBy text false s
+player-short text s short is =
+    ap₂ (λ (t : Bool) (r : Script). playerBy text t r) (le-ltb most (length text) short) is
+
+unread-player : (text : List ℕ) → playerBy text false unread ≡ idle (Bad 1)
+unfolding sizesFit
+unread-player text = refl
+
+-- a text with a bad first line
+module _ (text : List ℕ) (short : length text ≤ most) (none : headerOf text ≡ Nothing) where
+  script-headless : scriptOf text ≡ unread
+  script-headless = script-short text short ∙ script-unheaded text none
+
+  player-headless : firstPlayer text ≡ idle (Bad 1)
+  player-headless = player-short text unread short script-headless ∙ unread-player text
+
+-- ---- where the steps begin
+
+line-start-grows : (s : List ℕ) (k : ℕ) → k ≤ lineStart s k
+unfolding lineStart
+line-start-grows s zero = zero-le
+line-start-grows s (suc k) = let h = line-start-grows s k in omega arith
+
+-- behind k lines, whose instructions join the program
+record Behind (s : List ℕ) (i : ℕ) (p : List ℕ) : Type 0 where
+  lines : ℕ
+  numbers : List ℕ
+  four : length numbers ≡ lines * 4
+  within : lineStart s i ≤ length s → lineStart s (i + lines) ≤ length s
+  body-is : bodyAt s (lineStart s i) (suc i) p
+      ≡ record { program = p ++ numbers; steps = stepsAt s (lineStart s (i + lines)) (suc (i + lines)) }
+
+behind-none : (s : List ℕ) (i : ℕ) (p : List ℕ)
+    → bodyAt s (lineStart s i) (suc i) p ≡ record { program = p; steps = stepsAt s (lineStart s i) (suc i) }
+    → Behind s i p
+behind-none s i p e =
+    record {
+      lines = 0;
+      numbers = [];
+      four = refl;
+      within = λ h. subst (λ (k : ℕ). lineStart s k ≤ length s) (sym (add-zero i)) h;
+      body-is = e
+          ∙ ap₂ (λ (l : List ℕ) (k : ℕ). let b : Body = record { program = l; steps = stepsAt s (lineStart s k) (suc k) } in b)
+          (sym (append-nil p)) (sym (add-zero i));
+    }
+
+behind-more : (s : List ℕ) (i : ℕ) (p ns : List ℕ) → length ns ≡ 4 → lineStart s (suc i) ≤ length s
+    → bodyAt s (lineStart s i) (suc i) p ≡ bodyAt s (lineStart s (suc i)) (suc (suc i)) (p ++ ns)
+    → Behind s (suc i) (p ++ ns) → Behind s i p
+behind-more s i p ns four inside e b =
+    let k = b .lines in
+    let moves : suc i + k ≡ i + suc k = omega arith in
+    record {
+      lines = suc k;
+      numbers = ns ++ b .numbers;
+      four = omega (arith, length-append ns (b .numbers), four, b .four);
+      within = λ _. subst (λ (j : ℕ). lineStart s j ≤ length s) moves (b .within inside);
+      body-is = e ∙ b .body-is
+          ∙ ap₂ (λ (l : List ℕ) (j : ℕ). let b : Body = record { program = l; steps = stepsAt s (lineStart s j) (suc j) } in b)
+          (append-assoc p ns (b .numbers)) moves;
+    }
+
+-- however four numbers join p, the steps begin behind some lines more
+abbrev More : List ℕ → ℕ → List ℕ → Type 0
+More s i p = (ns : List ℕ) → length ns ≡ 4 → Behind s (suc i) (p ++ ns)
+
+body-behind : (fuel : ℕ) (s : List ℕ) (i : ℕ) (p : List ℕ) → 1024 ≤ length p + fuel → Behind s i p
+unfolding lineStart
+body-behind zero s i p h =
+    behind-none s i p (body-full s p (lineStart s i) (suc i) (omega (arith, h)))
+body-behind (suc fuel) s i p h =
+    by-room (ltb (length p) 1024) refl (λ ns four. body-behind fuel s (suc i) (p ++ ns) (omega (arith, h, length-append p ns, four)))
+  where
+    by-found : (f : Found) → foundAt s (lineStart s i) ≡ f → length p < 1024 → More s i p → Behind s i p
+    by-found Nothing e room more = behind-none s i p (body-stop s p (lineStart s i) (suc i) e)
+    by-found (Four code d r imm next) e room more =
+        let ns = code ∷ d ∷ r ∷ imm ∷ [] in
+        let b = body-four s p (lineStart s i) (suc i) code d r imm next e room in
+        behind-more s i p ns refl (omega (arith, b .1, b .2))
+        (b .0 ∙ ap (λ (k : ℕ). bodyAt s k (suc (suc i)) (p ++ ns)) (b .1))
+        (more ns refl)
+
+    by-room : (t : Bool) → ltb (length p) 1024 ≡ t → More s i p → Behind s i p
+    by-room true e more = by-found (foundAt s (lineStart s i)) refl (ltb-true (length p) 1024 e) more
+    by-room false e more = behind-none s i p (body-full s p (lineStart s i) (suc i) (ltb-false (length p) 1024 e))
+
+-- a machine opened without sizes
+pub closed-machine : {program w : List ℕ} {said : Answer} {u : Machine} → Opens 0 0 0 0 program w said u
+    → u ≡ freshMachine 0 0 0 0 0
+unfolding sizesFit
+closed-machine opens = opens .refuses 1 (λ z. omega (arith, z)) refl .1
 
 -- ---- lent rightly
 
-both-false : (s t : Bool) → (s || t) ≡ false → (s ≡ false) × (t ≡ false)
-both-false true t e = absurd (false≢true (sym e))
-both-false false t e = (refl, e)
+empty-list : (l : List ℕ) → length l ≡ 0 → l ≡ []
+empty-list [] e = refl
+empty-list (x ∷ l) e = absurd (omega (arith, e))
 
-module _ (text program memory : List ℕ) where
-  pub lent-short : length program < 1024 → wronglyLent text program memory ≡ true
-  lent-short h = ap (λ (t : Bool). t || not (eqb (length memory) (wordsOf text))) (lt-ltb (length program) 1024 h)
+module _ (text : List ℕ) (whole : Bool) (program memory : List ℕ) where
+  -- the three conditions, one after the other
+  abbrev unlent : Bool → Bool → Bool → Bool
+  unlent few other part = few || not other || part
 
-  pub lent-other : 1024 ≤ length program → (length memory ≡ wordsOf text → ⊥) → wronglyLent text program memory ≡ true
+  abbrev cutShort : Bool
+  cutShort = not whole && leb (length text) most
+
+  pub lent-short : length program < 1024 → wronglyLent text whole program memory ≡ true
+  lent-short h = ap (λ (t : Bool). unlent t (eqb (length memory) (wordsOf text)) cutShort) (lt-ltb (length program) 1024 h)
+
+  pub lent-other : 1024 ≤ length program → (length memory ≡ wordsOf text → ⊥) → wronglyLent text whole program memory ≡ true
   lent-other h e =
-      ap₂ (λ (s t : Bool). s || not t) (le-ltb (length program) 1024 h) (ne-eqb (length memory) (wordsOf text) e)
+      ap₂ (λ (s t : Bool). unlent s t cutShort) (le-ltb (length program) 1024 h) (ne-eqb (length memory) (wordsOf text) e)
 
-  pub lent-rightly : 1024 ≤ length program → length memory ≡ wordsOf text → wronglyLent text program memory ≡ false
-  lent-rightly h e =
-      ap₂ (λ (s t : Bool). s || not t) (le-ltb (length program) 1024 h) (eq-eqb (length memory) (wordsOf text) e)
+  -- what is left to ask once these two are right
+  module _ (room : 1024 ≤ length program) (words : length memory ≡ wordsOf text) where
+    lent-part : wronglyLent text whole program memory ≡ cutShort
+    lent-part =
+        ap₂ (λ (s t : Bool). unlent s t cutShort) (le-ltb (length program) 1024 room)
+        (eq-eqb (length memory) (wordsOf text) words)
 
-  lent-told : wronglyLent text program memory ≡ false → (1024 ≤ length program) × (length memory ≡ wordsOf text)
-  lent-told e =
-      let each = both-false (ltb (length program) 1024) (not (eqb (length memory) (wordsOf text))) e in (
-        ltb-false (length program) 1024 (each .0),
-        eqb-true (length memory) (wordsOf text) (not-false (eqb (length memory) (wordsOf text)) (each .1)),
-      )
+    -- a text that is too long need not be whole
+    pub lent-long : most < length text → wronglyLent text whole program memory ≡ false
+    lent-long long =
+        lent-part ∙ ap (λ (t : Bool). not whole && t) (lt-leb (length text) most long) ∙ and-false (not whole)
+
+    pub lent-whole : whole ≡ true → wronglyLent text whole program memory ≡ false
+    lent-whole all = lent-part ∙ ap (λ (t : Bool). not t && leb (length text) most) all
+
+    pub lent-cut : whole ≡ false → length text ≤ most → wronglyLent text whole program memory ≡ true
+    lent-cut part short =
+        lent-part ∙ ap₂ (λ (t u : Bool). not t && u) part (le-leb (length text) most short)
+
+  lent-words : wronglyLent text whole program memory ≡ false → length memory ≡ wordsOf text
+  lent-words e = go (ltb (length program) 1024) (eqb (length memory) (wordsOf text)) refl e
+    where
+      go : (s t : Bool) → eqb (length memory) (wordsOf text) ≡ t → unlent s t cutShort ≡ false → length memory ≡ wordsOf text
+      go true t is f = absurd (false≢true (sym f))
+      go false false is f = absurd (false≢true (sym f))
+      go false true is f = eqb-true (length memory) (wordsOf text) is
 
   -- ---- the ways
-  pub begins-over : (q : Player) (used : ℕ) → wronglyLent text program memory ≡ true → q .phase ≡ Over → used ≡ 0
-      → Begins text program memory q used program memory
-  begins-over q used wrong over nothing =
-      record {
-        within = omega (arith, nothing);
-        refuses = λ _. (over, nothing, refl, refl);
-        begins = λ right. absurd (false≢true (sym right ∙ wrong));
-      }
+  pub begins-over : (q : Player) → wronglyLent text whole program memory ≡ true → q ≡ idle Over
+      → Begins text whole program memory q program memory
+  begins-over q wrong over =
+      record { refuses = λ _. (over, refl, refl); begins = λ right. absurd (false≢true (sym right ∙ wrong)) }
 
-  pub begins-bad : (q : Player) (used n : ℕ) → wronglyLent text program memory ≡ false → printed text ≡ badLine n → used ≡ 0
-      → q .phase ≡ Bad n
-      → q .cursor ≡ 0
-      → q .line ≡ 1
-      → q .commits ≡ 0
-      → Begins text program memory q used program memory
-  begins-bad q used n right prints nothing bad cursor line commits =
-      let none-due : due (q .phase) ≡ 0 = ap due bad in
+  begins-unread : (q : Player) (n : ℕ) → wronglyLent text whole program memory ≡ false → scriptOf text ≡ unread
+      → firstPlayer text ≡ idle (Bad n) → q ≡ idle (Bad n) → Begins text whole program memory q program memory
+  begins-unread q n right none first is =
       record {
-        within = omega (arith, nothing);
         refuses = λ wrong. absurd (false≢true (sym right ∙ wrong));
         begins = λ _. (
-          ap
-              (λ (phase : Phase).
-              leftIn (take used program) phase (stepsAt text (q .cursor) (q .line))
-              (standing (q .machine) memory (q .commits)))
-              bad
-              ∙ sym prints,
-          record {
-            fits = λ plays. absurd (false≢true (sym (ap isPlaying bad) ∙ plays));
-            within = omega (arith, cursor);
-            used = subst (λ (phase : Phase). InUse phase (take used program) (q .machine) memory) (sym bad) tt;
-            counted = omega (arith, none-due, commits);
-            numbered = omega (arith, line);
-          },
+          is ∙ sym first,
+          ap (λ (s : Script). s .body .program ++ drop (length (s .body .program)) program) (sym none),
+          empty-list memory (lent-words right ∙ ap (λ (s : Script). s .words) none)
+              ∙ ap (λ (s : Script). replicate (s .words) 0) (sym none),
         );
       }
+
+  pub begins-long : (q : Player) → wronglyLent text whole program memory ≡ false → most < length text → q ≡ idle (Bad 0)
+      → Begins text whole program memory q program memory
+  begins-long q right long is = begins-unread q 0 right (script-long text long) (player-long text long) is
+
+  pub begins-headless : (q : Player) → wronglyLent text whole program memory ≡ false → length text ≤ most
+      → headerOf text ≡ Nothing → q ≡ idle (Bad 1) → Begins text whole program memory q program memory
+  begins-headless q right short none is =
+      begins-unread q 1 right (script-headless text short none) (player-headless text short none) is
 
   -- the player of a script whose machine was opened as u
   pub begins-open : (banks rows stages words from cursor line used count : ℕ) (into after : List ℕ) (said : Answer)
       (u : Machine)
-      → wronglyLent text program memory ≡ false
+      → wronglyLent text whole program memory ≡ false
       → length text ≤ most
       → headerOf text ≡ Four banks rows stages words from
-      → Loads text from into cursor line used
-      → length into ≡ length program
+      → Loads text from program into cursor line used
+      → used ≤ length into
       → after ≡ replicate (length memory) 0
       → count ≡ used
       → Opens banks rows stages words (take count into) after said u
-      → Begins text program memory (record { phase = Stepping; cursor = cursor; line = line; commits = 0; machine = u })
-      used into after
-  begins-open banks rows stages words from cursor line used count into after said u right short header loads same cleared
-      whole opens =
-      let lent = lent-told right in
+      → Begins text whole program memory (player Stepping cursor line 0 used u) into after
+  begins-open banks rows stages words from cursor line used count into after said u right short header loads room cleared
+      all opens =
       let head = headed text banks rows stages words from header in
       let numbers = take used into in
-      let more = stepsAt text cursor line in
+      let long : length numbers ≡ used = length-take-le used into room in
       let of : Body → Script =
       λ b. record { banks = banks; rows = rows; stages = stages; words = words; body = b } in
-      let is : script (linesOf text) ≡ of (record { program = numbers; steps = more }) =
-      head .script-is ∙ ap of (loads .body-is) in
+      let s = of (record { program = numbers; steps = stepsAt text cursor line }) in
+      let plainly : script (linesOf text) ≡ s = head .script-is ∙ ap of (loads .body-is) in
+      let is : scriptOf text ≡ s = script-short text short ∙ plainly in
+      let k = length numbers / 4 in
       let zeros : after ≡ replicate words 0 =
-      cleared
-      ∙ ap (λ (k : ℕ). replicate k 0) (lent .1 ∙ sym (words-told text banks rows stages words from short header .0)) in
+      cleared ∙ ap (λ (n : ℕ). replicate n 0) (lent-words right ∙ ap (λ (r : Script). r .words) is) in
       let checked : refusal (openChecks banks rows stages words numbers after) ≡ 0 =
-      ap (λ (memory : List ℕ). refusal (openChecks banks rows stages words numbers memory)) zeros
+      ap (λ (m : List ℕ). refusal (openChecks banks rows stages words numbers m)) zeros
       ∙ subst
-      (λ (s : Script).
-      refusal (openChecks (s .banks) (s .rows) (s .stages) (s .words) (s .body .program) (replicate (s .words) 0)) ≡ 0)
-      is
-      (script-opens (linesOf text) (subst Sized (sym is) (head .fit))) in
-      let state =
-      subst (λ (k : ℕ). Opens banks rows stages words (take k into) after said u) whole opens .state checked in
+      (λ (r : Script).
+      refusal (openChecks (r .banks) (r .rows) (r .stages) (r .words) (r .body .program) (replicate (r .words) 0)) ≡ 0)
+      plainly
+      (script-opens (linesOf text) (subst Sized (sym plainly) (head .fit))) in
+      let made : u ≡ freshMachine banks rows stages words k =
+      subst (λ (n : ℕ). Opens banks rows stages words (take n into) after said u) all opens .opens checked .1 in
+      let place : cursor ≡ lineStart text (suc k) =
+      loads .starts (head .starts)
+      ∙ ap (lineStart text) (let e : line - 1 ≡ suc k = omega (arith, loads .lines, long) in e) in
+      let number : line ≡ suc (suc k) = omega (arith, loads .lines, long) in
       record {
-        within = omega (arith, loads .places, lent .0, same);
         refuses = λ wrong. absurd (false≢true (sym right ∙ wrong));
         begins = λ _. (
-          ap₂ (λ (X : Plain) (memory : List ℕ). transcript numbers (start X memory) more) (state .1) zeros ∙ ap output (sym is)
-              ∙ sym (printed-short text short),
-          record {
-            fits = λ _. short;
-            within = loads .within (head .within);
-            used = record {
-              sound = state .0;
-              linked = subst (λ (X : Plain). Linked numbers X after) (sym (state .1))
-                  (linked-open banks rows stages words numbers after checked);
-            };
-            counted = zero-le;
-            numbered = omega (arith, loads .numbered, head .behind);
-          },
+          ap₂ (λ (c l : ℕ). player Stepping c l 0 used u) place number
+              ∙ ap₂ (λ (n : ℕ) (m : Machine). player Stepping (lineStart text (suc k)) (suc (suc k)) 0 n m) (sym long) made
+              ∙ ap (λ (t : Bool). cond t (openedPlayer text s k) (idle (Bad 1))) (sym (head .fit))
+              ∙ sym (player-short text s short is),
+          loads .rest ∙ ap (λ (n : ℕ). numbers ++ drop n program) (sym long)
+              ∙ ap (λ (r : Script). r .body .program ++ drop (length (r .body .program)) program) (sym is),
+          zeros ∙ ap (λ (r : Script). replicate (r .words) 0) (sym is),
         );
       }
+
+-- ---- all is left to print
+
+-- what is to be shown of a player with its program and memory
+record Starts (text : List ℕ) (q : Player) (numbers memory : List ℕ) : Type 0 where
+  used : q .used ≡ length numbers
+  prints : left text numbers q memory ≡ printed text
+  playing : Playing text numbers q memory
+
+bad-starts : (text memory : List ℕ) (n : ℕ) (s : Script) → s ≡ unread → printed text ≡ badLine n
+    → Starts text (idle (Bad n)) (s .body .program) memory
+bad-starts text memory n s none prints =
+    record {
+      used = ap (λ (r : Script). length (r .body .program)) (sym none);
+      prints = sym prints;
+      playing =
+          record {
+            fits = λ plays. absurd (false≢true plays);
+            within = zero-le;
+            used = tt;
+            counted = zero-le;
+            numbered = omega arith;
+          };
+    }
+
+-- the player of a script with these sizes
+module _ (text : List ℕ) (short : length text ≤ most) (banks rows stages words from : ℕ)
+    (header : headerOf text ≡ Four banks rows stages words from) where
+  abbrev behind : Behind text 1 []
+  behind = body-behind 1024 text 1 [] (omega arith)
+
+  abbrev read : Script
+  read =
+      record {
+        banks = banks;
+        rows = rows;
+        stages = stages;
+        words = words;
+        body =
+            record {
+              program = behind .numbers;
+              steps = stepsAt text (lineStart text (suc (behind .lines))) (suc (suc (behind .lines)));
+            };
+      }
+
+  script-is : script (linesOf text) ≡ read
+  script-is =
+      let head = headed text banks rows stages words from header in
+      head .script-is
+      ∙ ap (λ (b : Body). let s : Script = record { banks = banks; rows = rows; stages = stages; words = words; body = b } in s)
+      (ap (λ (k : ℕ). bodyAt text k 2 []) (head .starts) ∙ behind .body-is
+      ∙ ap
+      (λ (k : ℕ).
+      let b : Body = record { program = behind .numbers; steps = stepsAt text (lineStart text k) (suc k) } in
+      b)
+      (let e : 1 + behind .lines ≡ suc (behind .lines) = omega arith in e))
+
+  open-starts : (s : Script) → s ≡ script (linesOf text)
+      → Starts text (openedPlayer text s (length (s .body .program) / 4)) (s .body .program) (replicate (s .words) 0)
+  open-starts s same =
+      let head = headed text banks rows stages words from header in
+      let ns = behind .numbers in
+      let k = behind .lines in
+      let lines : length ns / 4 ≡ k = omega (arith, behind .four) in
+      let first : suc (length ns / 4) ≡ 1 + k = omega (arith, lines) in
+      let checked : refusal (openChecks banks rows stages words ns (replicate words 0)) ≡ 0 =
+      subst
+      (λ (r : Script).
+      refusal (openChecks (r .banks) (r .rows) (r .stages) (r .words) (r .body .program) (replicate (r .words) 0)) ≡ 0)
+      script-is
+      (script-opens (linesOf text) (subst Sized (sym script-is) (head .fit))) in
+      subst
+      (λ (r : Script).
+      Starts text (openedPlayer text r (length (r .body .program) / 4)) (r .body .program) (replicate (r .words) 0))
+      (sym (same ∙ script-is))
+      (record {
+        used = refl;
+        prints = ap
+            (λ (j : ℕ).
+            transcript ns (standing (freshMachine banks rows stages words (length ns / 4)) (replicate words 0) 0)
+            (stepsAt text (lineStart text (suc j)) (suc (suc j))))
+            lines
+            ∙ ap (λ (X : Plain). transcript ns (start X (replicate words 0)) (read .body .steps))
+            (fresh-plain banks rows stages words ns [])
+            ∙ ap output (sym script-is)
+            ∙ sym (printed-short text short);
+        playing =
+            record {
+              fits = λ _. short;
+              within = subst (λ (j : ℕ). lineStart text j ≤ length text) (sym first)
+                  (behind .within (subst (λ (j : ℕ). j ≤ length text) (head .starts) (head .within)));
+              used = record {
+                sound = fresh-sound banks rows stages words (length ns / 4) (head .fit);
+                linked = subst (λ (X : Plain). Linked ns X (replicate words 0))
+                    (sym (fresh-plain banks rows stages words ns []))
+                    (linked-open banks rows stages words ns (replicate words 0) checked);
+              };
+              counted = zero-le;
+              numbered = let h = line-start-grows text (suc (length ns / 4)) in omega (arith, h);
+            };
+      })
+
+  -- and its first line is good
+  script-fits : (s : Script) → s ≡ script (linesOf text)
+      → sizesFit (s .banks) (s .rows) (s .stages) (s .words) ≡ true
+  script-fits s same =
+      subst Sized (sym (same ∙ script-is)) (headed text banks rows stages words from header .fit)
+
+first-starts : (text : List ℕ) → Starts text (firstPlayer text) (scriptOf text .body .program) (replicate (wordsOf text) 0)
+first-starts text = by-length (ltb most (length text)) refl
+  where
+    shown : (q : Player) → firstPlayer text ≡ q
+        → Starts text q (scriptOf text .body .program) (replicate (wordsOf text) 0)
+        → Starts text (firstPlayer text) (scriptOf text .body .program) (replicate (wordsOf text) 0)
+    shown q is s =
+        subst (λ (p : Player). Starts text p (scriptOf text .body .program) (replicate (wordsOf text) 0)) (sym is) s
+
+    by-header : length text ≤ most → (f : Found) → headerOf text ≡ f
+        → Starts text (firstPlayer text) (scriptOf text .body .program) (replicate (wordsOf text) 0)
+    by-header short Nothing e =
+        shown (idle (Bad 1)) (player-headless text short e)
+        (bad-starts text (replicate (wordsOf text) 0) 1 (scriptOf text) (script-headless text short e)
+        (printed-short text short ∙ ap output (script-unheaded text e) ∙ unread-prints))
+    by-header short (Four banks rows stages words from) e =
+        let s = scriptOf text in
+        let same = script-short text short in
+        let fit = script-fits text short banks rows stages words from e s same in
+        shown (openedPlayer text s (length (s .body .program) / 4))
+        (player-short text s short refl
+        ∙ ap (λ (t : Bool). cond t (openedPlayer text s (length (s .body .program) / 4)) (idle (Bad 1))) fit)
+        (open-starts text short banks rows stages words from e s same)
+
+    by-length : (t : Bool) → ltb most (length text) ≡ t
+        → Starts text (firstPlayer text) (scriptOf text .body .program) (replicate (wordsOf text) 0)
+    by-length true e =
+        let long = ltb-true most (length text) e in
+        shown (idle (Bad 0)) (player-long text long)
+        (bad-starts text (replicate (wordsOf text) 0) 0 (scriptOf text) (script-long text long) (printed-long text long))
+    by-length false e = by-header (ltb-false most (length text) e) (headerOf text) refl
+
+-- the program stands in the places that the player uses
+pub begins-left : {text : List ℕ} {whole : Bool} {program memory : List ℕ} {q : Player} {into after : List ℕ}
+    → Begins text whole program memory q into after → wronglyLent text whole program memory ≡ false
+    → (left text (take (q .used) into) q after ≡ printed text) × Playing text (take (q .used) into) q after
+begins-left {text} {whole} {program} {memory} {q} {into} {after} begun right =
+    let is = begun .begins right in
+    let numbers = scriptOf text .body .program in
+    let starts : Starts text q numbers after =
+    subst (λ (w : List ℕ). Starts text q numbers w) (sym (is .2))
+    (subst (λ (p : Player). Starts text p numbers (replicate (wordsOf text) 0)) (sym (is .0)) (first-starts text)) in
+    let own : numbers ≡ take (q .used) into =
+    sym
+    (ap₂ (λ (k : ℕ) (l : List ℕ). take k l) (starts .used) (is .1)
+    ∙ take-append-seam numbers (drop (length numbers) program)) in
+    subst (λ (l : List ℕ). (left text l q after ≡ printed text) × Playing text l q after) own
+    (starts .prints, starts .playing)

@@ -1,91 +1,118 @@
--- One call of the machine in a script. Of a sound machine the call's answer, state, memory and list are `respond`'s, so what
--- `plays` records and counts is what the answer tells: nothing for an issue, an execute, a squash and a refusal, and four
--- numbers for a commit.
+-- One call of the machine that a line asks for: issue, execute, squash or commit. Of a sound machine the call's answer, state,
+-- memory and list are `respond`'s, so what `plays` records and counts is what the answer tells: nothing, or the four numbers of
+-- one commit, whose line is printed.
 -- Assumes nothing.
-use mathlib.Core.Path.{_≡_, refl, ap}
-use mathlib.Core.List.{List, [], _∷_}
-use Prim.Native.Nat.{ℕ, suc, _+_, _%_, _≤_, _<_}
+use mathlib.Core.Path.{_≡_, refl, sym, ap, subst, _∙_}
+use mathlib.Core.Bool.{Bool, true, false, cond}
+use mathlib.Core.List.{List, [], append-nil}
+use Prim.Native.Nat.{ℕ, suc, _+_, _%_, _<_}
+use native.Mathlib.Nat.{add-zero}
+use native.Mathlib.Numerals.{add-one}
 use native.Mathlib.Omega.{arith}
+use lib.Dec.{eqb}
 use lib.ListN.{length}
+use borrow.Author.Tests.{lt-ltb}
+use Rattle.engine.specs.Conditions.{refusal}
+use Rattle.engine.specs.Contract.{refused, named, executed, done, committed, finished}
 use Rattle.machine_model.specs.declared.Machine.{Machine}
-use Rattle.machine_model.specs.declared.DoneAnswer.{DoneAnswer}
-use Rattle.machine_model.specs.declared.DoneAnswer.the-variants as done-answer
-use Rattle.machine_model.specs.declared.IssueAnswer.{IssueAnswer}
-use Rattle.machine_model.specs.declared.IssueAnswer.the-variants as issue-answer
-use Rattle.machine_model.specs.declared.ExecuteAnswer.{ExecuteAnswer}
-use Rattle.machine_model.specs.declared.ExecuteAnswer.the-variants as execute-answer
-use Rattle.machine_model.specs.declared.CommitAnswer.{CommitAnswer}
-use Rattle.machine_model.specs.declared.CommitAnswer.the-variants as commit-answer
-use Rattle.machine_model.specs.Calls.{Call, commit, Answer}
-use Rattle.machine_model.specs.Contract.{plain, Sound, doneSays, issueSays, executeSays, commitSays, Meets}
+use Rattle.machine_model.specs.Calls.{Plain, Call, issue, execute, squash, commit, finish, Answer, Result, respond}
+use Rattle.machine_model.specs.Calls.{issueChecks, executeChecks, squashChecks, commitChecks}
+use Rattle.machine_model.specs.Contract.{plain, Sound, Meets}
 use Rattle.theorem.specs.Play.{recorded, commitsIn, plays}
-use Rattle.script_model.specs.Playing.{standing}
+use Rattle.script_model.specs.Output.{commitLine, commitLines}
+use Rattle.script_model.specs.Playing.{oneMore, toldBy, countedBy}
+use Rattle.script_model.proofs.Invariant.{standing}
 
--- From machine m, this memory and n commits one call leads to machine u and j commits, and records these numbers.
-pub record Does (program : List ℕ) (c : Call) (m : Machine) (memory : List ℕ) (n : ℕ) (u : Machine) (after : List ℕ) (j : ℕ)
-    (numbers : List ℕ) : Type 0 where
-  pub whole : length numbers % 4 ≡ 0
-  pub most-one : j ≤ suc n
-  pub sound : Sound m → Sound u
-  pub does : Sound m → n < 18446744073709551615
-      → plays program (standing m memory n) c ≡ record { state = plain u; memory = after; record′ = numbers; commits = j }
+-- no finish
+abbrev pub Single : Call → Type 0
+Single issue = Unit {0}
+Single (execute p) = Unit {0}
+Single (squash p) = Unit {0}
+Single commit = Unit {0}
+Single (finish k list) = ⊥
 
--- the answer tells of no commit
-pub record Quiet (said : Answer) : Type 0 where
-  pub nothing : recorded said [] ≡ []
-  pub uncounted : commitsIn said ≡ 0
+-- an answer of none
+abbrev Once : Answer → Type 0
+Once (refused k) = Unit {0}
+Once (named p) = Unit {0}
+Once (executed v s) = Unit {0}
+Once done = Unit {0}
+Once (committed i c r v) = Unit {0}
+Once (finished n) = ⊥
 
-pub issue-quiet : (a : IssueAnswer) → Quiet (issueSays a)
-issue-quiet (issue-answer.Refused k) = record { nothing = refl; uncounted = refl }
-issue-quiet (issue-answer.Issued p) = record { nothing = refl; uncounted = refl }
+-- what such an answer tells
+record Told (said : Answer) (n : ℕ) : Type 0 where
+  whole : length (recorded said []) % 4 ≡ 0
+  lines : commitLines (recorded said []) ≡ toldBy said []
+  counted : n < 18446744073709551615 → n + commitsIn said ≡ countedBy said n
 
-pub execute-quiet : (a : ExecuteAnswer) → Quiet (executeSays a)
-execute-quiet (execute-answer.Refused k) = record { nothing = refl; uncounted = refl }
-execute-quiet (execute-answer.Executed v s) = record { nothing = refl; uncounted = refl }
-
-pub squash-quiet : (a : DoneAnswer) → Quiet (doneSays a)
-squash-quiet (done-answer.Refused k) = record { nothing = refl; uncounted = refl }
-squash-quiet done-answer.Done = record { nothing = refl; uncounted = refl }
-
-meets-does : {program : List ℕ} {c : Call} {m u : Machine} {memory after numbers : List ℕ} {n j : ℕ} {said : Answer}
-    → Meets program m c memory said u after []
-    → recorded said [] ≡ numbers
-    → (n < 18446744073709551615 → n + commitsIn said ≡ j)
-    → length numbers % 4 ≡ 0
-    → j ≤ suc n
-    → Does program c m memory n u after j numbers
-meets-does meets records counts whole one =
+once-told : (said : Answer) (n : ℕ) → Once said → Told said n
+unfolding commitLines
+once-told (refused k) n h = record { whole = refl; lines = refl; counted = λ few. add-zero n }
+once-told (named p) n h = record { whole = refl; lines = refl; counted = λ few. add-zero n }
+once-told (executed v s) n h = record { whole = refl; lines = refl; counted = λ few. add-zero n }
+once-told done n h = record { whole = refl; lines = refl; counted = λ few. add-zero n }
+once-told (committed i c r v) n h =
     record {
-      whole = whole;
-      most-one = one;
-      sound = meets .lawful;
-      does = λ sound few.
+      whole = refl;
+      lines = append-nil (commitLine i c r v);
+      counted = λ few.
+          add-one n ∙ ap (λ (b : Bool). cond b (suc n) n) (sym (lt-ltb n 18446744073709551615 few));
+    }
+once-told (finished k) n h = absurd h
+
+-- refused or not, such a call keeps no list
+abbrev Brief : Result → Type 0
+Brief r = Once (r .answer) × (r .list ≡ [])
+
+by-refusal : (k : ℕ) (r : Result) → (eqb k 0 ≡ true → Brief r) → (eqb k 0 ≡ false → Brief r) → Brief r
+by-refusal k r accepted denied = go (eqb k 0) refl
+  where
+    go : (t : Bool) → eqb k 0 ≡ t → Brief r
+    go true e = accepted e
+    go false e = denied e
+
+answers-once : (program : List ℕ) (c : Call) (X : Plain) (memory : List ℕ) → Single c → Brief (respond program c X memory)
+unfolding respond
+answers-once program issue X memory h =
+    by-refusal (refusal (issueChecks program X)) (respond program issue X memory) (λ e. rw e (tt, refl)) (λ e. rw e (tt, refl))
+answers-once program (execute p) X memory h =
+    by-refusal (refusal (executeChecks program X memory p)) (respond program (execute p) X memory) (λ e. rw e (tt, refl))
+    (λ e. rw e (tt, refl))
+answers-once program (squash p) X memory h =
+    by-refusal (refusal (squashChecks program X p)) (respond program (squash p) X memory) (λ e. rw e (tt, refl))
+    (λ e. rw e (tt, refl))
+answers-once program commit X memory h =
+    by-refusal (refusal (commitChecks program X memory)) (respond program commit X memory) (λ e. rw e (tt, refl))
+    (λ e. rw e (tt, refl))
+answers-once program (finish k list) X memory h = absurd h
+
+-- From a sound machine and n commits the call leads to machine u and records these numbers, whose lines are told.
+pub record Does (program : List ℕ) (c : Call) (m : Machine) (memory : List ℕ) (n : ℕ) (u : Machine) (after : List ℕ)
+    (said : Answer) (list : List ℕ) : Type 0 where
+  pub numbers : List ℕ
+  pub whole : length numbers % 4 ≡ 0
+  pub lines : commitLines numbers ≡ toldBy said list
+  pub does : plays program (standing m memory n) c
+      ≡ record { state = plain u; memory = after; record′ = numbers; commits = countedBy said n }
+
+pub call-does : {program : List ℕ} {c : Call} {m u : Machine} {memory after list : List ℕ} {said : Answer} (n : ℕ) → Single c
+    → Meets program m c memory said u after list → Sound m → n < 18446744073709551615
+    → Does program c m memory n u after said list
+call-does {program} {c} {m} {u} {memory} {after} {list} {said} n single meets sound few =
+    let each = answers-once program c (plain m) memory single in
+    let told = once-told said n (subst Once (sym (meets .answer sound)) (each .0)) in
+    let none : list ≡ [] = meets .list sound ∙ each .1 in
+    record {
+      numbers = recorded said [];
+      whole = told .whole;
+      lines = told .lines ∙ ap (toldBy said) (sym none);
+      does =
           rw (
             ← meets .answer sound,
             ← meets .state sound,
             ← meets .memory sound,
-            ← meets .list sound,
-            records,
-            counts few,
+            each .1,
+            told .counted few,
           );
     }
-
-pub quiet-does : {program : List ℕ} {c : Call} {m u : Machine} {memory after : List ℕ} {n : ℕ} {said : Answer}
-    → Meets program m c memory said u after []
-    → Quiet said
-    → Does program c m memory n u after n []
-quiet-does meets quiet = meets-does meets (quiet .nothing) (λ few. omega (arith, quiet .uncounted)) refl (omega arith)
-
-module _ {program : List ℕ} {m u : Machine} {memory after : List ℕ} {n : ℕ} {a : CommitAnswer}
-    (meets : Meets program m commit memory (commitSays a) u after []) where
-  pub commit-refused : (k : ℕ) → a ≡ commit-answer.Refused k → Does program commit m memory n u after n []
-  commit-refused k is =
-      meets-does meets (ap (λ (b : CommitAnswer). recorded (commitSays b) []) is)
-      (λ few. omega (arith, ap (λ (b : CommitAnswer). commitsIn (commitSays b)) is)) refl (omega arith)
-
-  pub commit-made : (i c r v : ℕ) {j : ℕ} → a ≡ commit-answer.Committed i c r v
-      → (n < 18446744073709551615 → j ≡ suc n) × (j ≤ suc n)
-      → Does program commit m memory n u after j (i ∷ c ∷ r ∷ v ∷ [])
-  commit-made i c r v is one =
-      meets-does meets (ap (λ (b : CommitAnswer). recorded (commitSays b) []) is)
-      (λ few. omega (arith, one .0 few, ap (λ (b : CommitAnswer). commitsIn (commitSays b)) is)) refl (one .1)

@@ -10,12 +10,10 @@ use lib.ListN.{length, getD, drop, drop-of-length-le}
 use lib.Seq.{drop-cons}
 use borrow.Author.Tests.{eq-eqb, ne-eqb}
 use Rattle.machine_model.specs.declared.Machine.{Machine}
-use Rattle.machine_model.specs.Contract.{plain, Sound}
-use Rattle.script_model.specs.declared.Ending.{Ending}
+use Rattle.machine_model.specs.Contract.{plain}
 use Rattle.script_model.specs.declared.Phase.the-variants.{Over, Words}
 use Rattle.script_model.specs.Output.{wordLine, wordLines, ending, endLine}
-use Rattle.script_model.specs.Playing.{Writes, longest}
-use Rattle.script_model.specs.computed.Parts.{wordLineAt}
+use Rattle.script_model.specs.Playing.{Writes, wordLineAt}
 use Rattle.script_model.proofs.Writing.{writes-none}
 use Rattle.script_model.proofs.Phases.{Goes}
 
@@ -44,19 +42,14 @@ word-written memory a {out} {into} {at} {end} z writes =
     subst (λ (b : Bool). Writes out at (cond b [] (wordLine a (getD memory a 0))) into end)
     (sym (ne-eqb (getD memory a 0) 0 z)) writes
 
-module _ (program : List ℕ) (m : Machine) (n a : ℕ) (memory out : List ℕ) (at : ℕ) where
+module _ (program : List ℕ) (m : Machine) (n a : ℕ) (memory : List ℕ) where
   -- the end line, by what is left to print before it
   abbrev closed : List ℕ → List ℕ
   closed words = words ++ endLine (ending (plain m)) n
 
-  pub word-goes : a < length memory → {into : List ℕ} {end : ℕ}
-      → Writes out at (wordLineAt memory a) into end × (end ≤ at + longest)
-      → Goes program (Words a) m memory n out at (Words (a + 1)) m memory n into end
-  word-goes h put =
+  pub word-goes : a < length memory → Goes program (Words a) m memory n (wordLineAt memory a) (Words (a + 1)) m memory n
+  word-goes h =
       record {
-        piece = wordLineAt memory a;
-        writes = put .0;
-        short = put .1;
         lent = refl;
         falls = omega arith;
         plays = λ on. on;
@@ -71,22 +64,14 @@ module _ (program : List ℕ) (m : Machine) (n a : ℕ) (memory out : List ℕ) 
       }
 
   -- past the last word
-  pub end-goes : length memory ≤ a → (e : Ending) → (Sound m → e ≡ ending (plain m)) → {into : List ℕ} {end : ℕ}
-      → Writes out at (endLine e n) into end × (end ≤ at + longest)
-      → Goes program (Words a) m memory n out at Over m memory n into end
-  end-goes h e is put =
+  pub end-goes : length memory ≤ a → Goes program (Words a) m memory n (endLine (ending (plain m)) n) Over m memory n
+  end-goes h =
       record {
-        piece = endLine e n;
-        writes = put .0;
-        short = put .1;
         lent = refl;
         falls = omega arith;
         plays = λ _. refl;
         goes = λ used few. (
-          λ more.
-              ap closed (no-words memory a h)
-              ∙ ap (λ (f : Ending). endLine f n) (sym (is (used .sound)))
-              ∙ sym (append-nil (endLine e n)),
+          λ more. ap closed (no-words memory a h) ∙ sym (append-nil (endLine (ending (plain m)) n)),
           tt,
           omega arith,
         );

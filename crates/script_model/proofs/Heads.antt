@@ -22,7 +22,7 @@ use Rattle.script_model.specs.declared.Found.the-variants.{Nothing, Four
 use Rattle.script_model.specs.Language as language
 use Rattle.script_model.specs.Language.{parsedLine, Body, Script, unread, script}
 use Rattle.script_model.specs.Output.{most}
-use Rattle.script_model.specs.Playing.{wordsOf}
+use Rattle.script_model.specs.Playing.{wordsOf, lineStart}
 use Rattle.script_model.specs.computed.Parts.{foundIn, foundBy, headerOf, bodyAt}
 
 never : {A : Type 0} {banks rows stages words at : ℕ} → Nothing ≡ Four banks rows stages words at → A
@@ -79,10 +79,11 @@ pub record Headed (s : List ℕ) (banks rows stages words at : ℕ) : Type 0 whe
       ≡ record { banks = banks; rows = rows; stages = stages; words = words; body = bodyAt s at 2 [] }
   pub fit : sizesFit banks rows stages words ≡ true
   pub within : at ≤ length s
-  pub behind : 1 ≤ at
+  pub starts : at ≡ lineStart s 1
 
 pub headed : (s : List ℕ) (banks rows stages words at : ℕ) → headerOf s ≡ Four banks rows stages words at
     → Headed s banks rows stages words at
+unfolding lineStart
 headed s banks rows stages words at h = go (lineAt s 0) (line-is s 0 (lineAt s 0) refl) h
   where
     go : (l : Line) → LineIs s 0 l → foundBy true s l ≡ Four banks rows stages words at
@@ -100,7 +101,7 @@ headed s banks rows stages words at h = go (lineAt s 0) (line-is s 0 (lineAt s 0
               ∙ ap (λ (k : ℕ). sizedWith banks rows stages words (bodyAt s k 2 [])) (sym (all .2));
           fit = all .1;
           within = omega (arith, all .2);
-          behind = omega (arith, all .2);
+          starts = all .2;
         }
 
 pub script-unheaded : (s : List ℕ) → headerOf s ≡ Nothing → script (linesOf s) ≡ unread
@@ -127,16 +128,23 @@ sizes-words banks rows stages words h =
     leb-true words 4096 (and-eq-true-iff (leb 1 words) (leb words 4096) .0
     (and-eq-true-iff some (leb 1 words && leb words 4096) .0 h .1) .1)
 
+-- of a text by whether it is too long
+abbrev words-by : List ℕ → Bool → ℕ
+words-by s long = cond long unread (script (linesOf s)) .words
+
 pub words-long : (s : List ℕ) → most < length s → 0 ≡ wordsOf s
-words-long s h = rw (lt-ltb most (length s) h)
+words-long s h = ap (words-by s) (sym (lt-ltb most (length s) h))
+
+pub words-short : (s : List ℕ) → length s ≤ most → script (linesOf s) .words ≡ wordsOf s
+words-short s h = ap (words-by s) (sym (le-ltb most (length s) h))
 
 pub words-none : (s : List ℕ) → length s ≤ most → headerOf s ≡ Nothing → 0 ≡ wordsOf s
-words-none s h e = rw (le-ltb most (length s) h) (sym (ap (λ (k : Script). k .words) (script-unheaded s e)))
+words-none s h e = sym (ap (λ (k : Script). k .words) (script-unheaded s e)) ∙ words-short s h
 
 pub words-told : (s : List ℕ) (banks rows stages words at : ℕ) → length s ≤ most
     → headerOf s ≡ Four banks rows stages words at → (words ≡ wordsOf s) × (words ≤ 4096)
 words-told s banks rows stages words at h e =
     let all = headed s banks rows stages words at e in (
-      rw (le-ltb most (length s) h) (sym (ap (λ (k : Script). k .words) (all .script-is))),
+      sym (ap (λ (k : Script). k .words) (all .script-is)) ∙ words-short s h,
       sizes-words banks rows stages words (all .fit),
     )

@@ -3,10 +3,11 @@
 -- formed. Zeros: a list made zeros.
 -- Printing. Writing: texts written one after another. Endings: how a script ends, by the machine that it left. Closings: the
 -- words of memory and the end line.
--- Playing. Telling: a call's commits are printed before what the calls after it print. CallOnPlayer: what one call records and
--- counts, from the machine's contract. Phases: a step that reads no line. Limits: a finish as finishes with a list of one
--- commit. StepContract: what a line asks for, the player's steps from their parts, and steps in a row. Openings: a script with a
--- good first line opens the machine. Beginnings: what `begin` answers.
+-- Playing. Invariant: what is left to print, and what holds of a player. Telling: a call's commits are printed before what the
+-- calls after it print. CallOnPlayer: what one call records and counts, from the machine's contract. Phases: a step that reads
+-- no line. Limits: a finish as finishes with a list of one commit. StepContract: what a line asks for, what every step does, and
+-- steps in a row. Ways: the ways through the player's loop. Openings: a script with a good first line opens the machine.
+-- Beginnings: what `begin` hands back.
 -- Bad lines. Flaws: there is a reason exactly where a script prints its bad line, and for that line. Looking: how the reason is
 -- found. Messages: how it is written. MessageExamples: a script for each reason, and its message.
 -- The theorems. Pieces: the pieces together are what the script prints. Truth: the commits printed are the sequential run's.
@@ -18,6 +19,7 @@ pub mod Programs
 pub mod Fitting
 pub mod Zeros
 pub mod Writing
+pub mod Invariant
 pub mod Endings
 pub mod Closings
 pub mod Telling
@@ -25,6 +27,7 @@ pub mod CallOnPlayer
 pub mod Phases
 pub mod Limits
 pub mod StepContract
+pub mod Ways
 pub mod Openings
 pub mod Beginnings
 pub mod Pieces

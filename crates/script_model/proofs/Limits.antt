@@ -3,7 +3,7 @@
 -- list is full: no commit was made, and the whole finish stops there too (told-none), or one, and the whole finish goes
 -- on from there with limit k - 1 (told-one). A linked state is not refused (response), and the lines of a way with one
 -- commit more begin with that commit's (telling-onward). With the machine's contract these are the steps of a player
--- that is finishing (limit-reached, finish-stops, finish-goes).
+-- that is finishing (limit-reached, finish-made).
 -- Assumes nothing.
 use mathlib.Core.Path.{_≡_, refl, sym, ap, ap₂, subst, _∙_}
 use mathlib.Core.Bool.{Bool, true, false, cond, _||_}
@@ -12,9 +12,9 @@ use Prim.Native.Nat.{ℕ, zero, suc, _+_, _-_, _*_, _≤_, _<_}
 use native.Mathlib.Nat.{add-zero}
 use native.Mathlib.Omega.{arith}
 use lib.ListN.{length, getD, drop, replicate, length-replicate}
-use lib.Dec.{ltb}
+use lib.Dec.{eqb, ltb}
 use lib.Seq.{take-at}
-use borrow.Author.Tests.{le-ltb, ltb-true, ltb-false}
+use borrow.Author.Tests.{le-ltb, lt-ltb, ltb-true, ltb-false, eq-eqb, ne-eqb, eqb-true, eqb-false}
 use Rattle.engine.specs.Contract.{refused, named, executed, done, committed, finished}
 use Rattle.engine.specs.Conditions.{refusal}
 use Rattle.engine.proofs.Meeting.{judged-accepted}
@@ -32,19 +32,19 @@ use Rattle.machine_model.specs.Calls.{
   Drain,
   afterCommit,
 }
-use Rattle.machine_model.specs.Calls.{continueOn, drainStopped, finishes, respond}
+use Rattle.machine_model.specs.Calls.{continueOn, drainStopped, finishes, drained, respond}
 use Rattle.machine_model.specs.Contract.{plain, Meets}
 use Rattle.machine_model.proofs.Finishes.{finishes-limit, finishes-short}
 use Rattle.theorem.specs.Play.{recorded, commitsIn, Played}
 use Rattle.theorem.specs.computed.Linked.{Linked}
 use Rattle.theorem.proofs.Links.{lent-passes}
 use Rattle.theorem.proofs.Finishing.{respond-links}
+use Rattle.script_model.specs.declared.Phase.{Phase}
 use Rattle.script_model.specs.declared.Phase.the-variants.{Stepping, Finishing}
 use Rattle.script_model.specs.Language.{Steps, before}
 use Rattle.script_model.specs.Output.{commitLine, commitLines, transcript}
-use Rattle.script_model.specs.Playing.{standing, Writes, longest}
-use Rattle.script_model.specs.computed.Invariant.{Usable}
-use Rattle.script_model.proofs.Writing.{writes-none}
+use Rattle.script_model.specs.Playing.{firstLine, toldBy, countedBy, phaseAfter, oneMore}
+use Rattle.script_model.proofs.Invariant.{standing, leftIn, due, Usable, InUse, rank}
 use Rattle.script_model.proofs.Phases.{Goes}
 use Rattle.script_model.proofs.Telling.{told-before}
 
@@ -120,21 +120,12 @@ fours program (suc j) places X w =
         subst Four (sym (finishes-short program (suc j) places X w (ltb-true places 4 e))) refl
     by-places false e rest = by-turn (ltb-false places 4 e) (turn program j X w) rest
 
-abbrev ended : List ℕ → Drain → Result
-ended list W =
-    record {
-      answer = finished (W .commits);
-      state = W .state;
-      memory = W .memory;
-      list = W .numbers ++ drop (length (W .numbers)) list;
-    }
-
 -- a linked state is not refused
 response : (program : List ℕ) (X : Plain) (w : List ℕ) → Linked program X w → (k : ℕ) (list : List ℕ)
-    → respond program (finish k list) X w ≡ ended list (finishes program k (length list) X w)
+    → respond program (finish k list) X w ≡ drained list (finishes program k (length list) X w)
 unfolding respond
 response program X w linked k list =
-    judged-accepted (refusal (finishChecks program X w)) X w list (ended list (finishes program k (length list) X w))
+    judged-accepted (refusal (finishChecks program X w)) X w list (drained list (finishes program k (length list) X w))
     (lent-passes program X w linked [])
 
 -- ---- what is told
@@ -203,10 +194,6 @@ told-nothing program X w linked n more =
     ∙ ap (telling program n more) (finishes-limit program 0 0 X w refl)
     ∙ telling-stopped program n more X w
 
--- the line of the commit at the start of a list
-abbrev pub firstLine : List ℕ → List ℕ
-firstLine l = commitLine (getD l 0 0) (getD l 1 0) (getD l 2 0) (getD l 3 0)
-
 -- a finish with a list of one commit, by its first turn
 module _ (program : List ℕ) (X : Plain) (w : List ℕ) (linked : Linked program X w) (j : ℕ) (list : List ℕ)
     (four : length list ≡ 4) (n : ℕ) (more : Steps) where
@@ -227,17 +214,17 @@ module _ (program : List ℕ) (X : Plain) (w : List ℕ) (linked : Linked progra
   first-told W e = whole-told program X w linked (suc j) n more ∙ ap (telling program n more) e
 
   stops-short : (Y : Plain) → ((places : ℕ) → 4 ≤ places → finishes program (suc j) places X w ≡ drainStopped Y w)
-      → short ≡ ended list (drainStopped Y w)
+      → short ≡ drained list (drainStopped Y w)
   stops-short Y e =
-      response program X w linked (suc j) list ∙ ap (ended list) (e (length list) (omega (arith, four)))
+      response program X w linked (suc j) list ∙ ap (drained list) (e (length list) (omega (arith, four)))
 
   goes-short : (i c r v : ℕ) (Z : Plain) (z : List ℕ)
       → ((places : ℕ) → 4 ≤ places
       → finishes program (suc j) places X w ≡ afterCommit i c r v (finishes program j (places - 4) Z z))
-      → short ≡ ended list (afterCommit i c r v (drainStopped Z z))
+      → short ≡ drained list (afterCommit i c r v (drainStopped Z z))
   goes-short i c r v Z z e =
       response program X w linked (suc j) list
-      ∙ ap (ended list)
+      ∙ ap (drained list)
       (e (length list) (omega (arith, four))
       ∙ ap (afterCommit i c r v) (finishes-short program j (length list - 4) Z z (omega (arith, four))))
 
@@ -296,13 +283,10 @@ told-one program X w linked (suc j) some list four n more h =
 -- ---- the player
 
 -- a limit of 0: the next step comes
-pub limit-reached : (program : List ℕ) (m : Machine) (n k : ℕ) (memory out : List ℕ) (start : ℕ) → k ≡ 0
-    → Goes program (Finishing k) m memory n out start Stepping m memory n out start
-limit-reached program m n k memory out start e =
+pub limit-reached : (program : List ℕ) (m : Machine) (n k : ℕ) (memory : List ℕ) → k ≡ 0
+    → Goes program (Finishing k) m memory n [] Stepping m memory n
+limit-reached program m n k memory e =
     record {
-      piece = [];
-      writes = writes-none out start;
-      short = omega arith;
       lent = refl;
       falls = omega arith;
       plays = λ _. refl;
@@ -314,7 +298,9 @@ limit-reached program m n k memory out start e =
       );
     }
 
-module _ (program : List ℕ) (m u : Machine) (n k : ℕ) (memory after list left out : List ℕ) (start : ℕ) (said : Answer)
+-- A finish with a list of one commit. No commit was made: the end of the program or a fault, so the whole finish ends here. Or
+-- one, which is printed: the finish goes on with one commit less.
+module _ (program : List ℕ) (m u : Machine) (n k : ℕ) (memory after list left : List ℕ) (said : Answer)
     (some : k ≡ 0 → ⊥) (four : length list ≡ 4) (meets : Meets program m (finish k list) memory said u after left)
     (lent : length after ≡ length memory) where
   -- where the machine's finish left this machine and memory
@@ -330,54 +316,76 @@ module _ (program : List ℕ) (m u : Machine) (n k : ℕ) (memory after list lef
             (respond-links program (finish k list) (plain m) memory (usable .linked) .linked));
       }
 
-  -- no commit: the end of the program or a fault, so the whole finish ends here
-  pub finish-stops : commitsIn said ≡ 0 → Goes program (Finishing k) m memory n out start Stepping u after n out start
-  finish-stops none =
-      record {
-        piece = [];
-        writes = writes-none out start;
-        short = omega arith;
-        lent = lent;
-        falls = omega arith;
-        plays = λ _. refl;
-        goes = λ usable few. (
-          λ more.
-              told-none program (plain m) memory (usable .linked) k some list four n more
-              (ap commitsIn (sym (meets .answer (usable .sound))) ∙ none)
-              ∙ ap₂ (λ (X : Plain) (w : List ℕ). transcript program (at X w n) more)
-              (sym (meets .state (usable .sound)))
-              (sym (meets .memory (usable .sound))),
-          used usable,
-          omega arith,
-        );
-      }
+  -- it answers how many commits were made
+  answers : Usable program m memory → (x : ℕ) × (said ≡ finished x)
+  answers usable =
+      let W = finishes program k (length list) (plain m) memory in (
+        W .commits,
+        meets .answer (usable .sound)
+            ∙ ap (λ (r : Result). r .answer) (response program (plain m) memory (usable .linked) k list),
+      )
 
-  -- a commit, which is written: the finish goes on with one commit less
-  pub finish-goes : (commitsIn said ≡ 0 → ⊥) → {j : ℕ} → (n < 18446744073709551615 → j ≡ suc n) → {into : List ℕ} {end : ℕ}
-      → Writes out start (firstLine left) into end × (end ≤ start + longest)
-      → Goes program (Finishing k) m memory n out start (Finishing (k - 1)) u after j into end
-  finish-goes one {j} next put =
+  abbrev phased : Bool → Phase
+  phased t = cond t Stepping (Finishing (k - 1))
+
+  by-commits : (t : Bool) → eqb (commitsIn said) 0 ≡ t → Usable program m memory → n < 18446744073709551615
+      → ((more : Steps)
+      → transcript program (standing m memory n) (before (whole k) more)
+      ≡ toldBy said left ++ leftIn program (phased t) more (standing u after (cond t n (oneMore n))))
+      × InUse (phased t) program u after
+      × (cond t n (oneMore n) + due (phased t) ≤ n + k)
+  by-commits true e usable few =
+      let x = answers usable in
+      let none : commitsIn said ≡ 0 = eqb-true (commitsIn said) 0 e in
+      let silent : toldBy said left ≡ [] =
+      ap (λ (a : Answer). toldBy a left) (x .1)
+      ∙ ap (λ (b : Bool). cond b [] (firstLine left)) (eq-eqb (x .0) 0 (sym (ap commitsIn (x .1)) ∙ none)) in (
+        λ more.
+            told-none program (plain m) memory (usable .linked) k some list four n more
+            (ap commitsIn (sym (meets .answer (usable .sound))) ∙ none)
+            ∙ ap₂ (λ (X : Plain) (w : List ℕ). transcript program (at X w n) more)
+            (sym (meets .state (usable .sound)))
+            (sym (meets .memory (usable .sound)))
+            ∙ ap (λ (l : List ℕ). l ++ transcript program (standing u after n) more) (sym silent),
+        used usable,
+        omega arith,
+      )
+  by-commits false e usable few =
+      let x = answers usable in
+      let one : commitsIn said ≡ 0 → ⊥ = eqb-false (commitsIn said) 0 e in
+      let next : suc n ≡ oneMore n = ap (λ (b : Bool). cond b (suc n) n) (sym (lt-ltb n 18446744073709551615 few)) in
+      let spoken : toldBy said left ≡ firstLine left =
+      ap (λ (a : Answer). toldBy a left) (x .1)
+      ∙ ap (λ (b : Bool). cond b [] (firstLine left)) (ne-eqb (x .0) 0 (λ z. one (ap commitsIn (x .1) ∙ z))) in (
+        λ more.
+            told-one program (plain m) memory (usable .linked) k some list four n more
+            (λ z. one (ap commitsIn (meets .answer (usable .sound)) ∙ z))
+            ∙ ap₂
+            (λ (l : List ℕ) (q : ℕ).
+            firstLine l ++ transcript program (at (made .state) (made .memory) q) (before (whole (k - 1)) more))
+            (sym (meets .list (usable .sound)))
+            next
+            ∙ ap₂
+            (λ (X : Plain) (w : List ℕ).
+            firstLine left ++ transcript program (at X w (oneMore n)) (before (whole (k - 1)) more))
+            (sym (meets .state (usable .sound)))
+            (sym (meets .memory (usable .sound)))
+            ∙ ap (λ (l : List ℕ). l ++ transcript program (standing u after (oneMore n)) (before (whole (k - 1)) more))
+            (sym spoken),
+        used usable,
+        omega (arith, some, next),
+      )
+
+  falling : (t : Bool) → rank (length memory) (phased t) < rank (length memory) (Finishing k)
+  falling true = omega arith
+  falling false = omega (arith, some)
+
+  pub finish-made : Goes program (Finishing k) m memory n (toldBy said left) (phaseAfter (finish k list) said) u after
+      (countedBy said n)
+  finish-made =
       record {
-        piece = firstLine left;
-        writes = put .0;
-        short = put .1;
         lent = lent;
-        falls = omega (arith, some);
-        plays = λ on. on;
-        goes = λ usable few. (
-          λ more.
-              told-one program (plain m) memory (usable .linked) k some list four n more
-              (λ z. one (ap commitsIn (meets .answer (usable .sound)) ∙ z))
-              ∙ ap₂
-              (λ (l : List ℕ) (q : ℕ).
-              firstLine l ++ transcript program (at (made .state) (made .memory) q) (before (whole (k - 1)) more))
-              (sym (meets .list (usable .sound)))
-              (sym (next (few refl)))
-              ∙ ap₂
-              (λ (X : Plain) (w : List ℕ). firstLine left ++ transcript program (at X w j) (before (whole (k - 1)) more))
-              (sym (meets .state (usable .sound)))
-              (sym (meets .memory (usable .sound))),
-          used usable,
-          let h = next (few refl) in omega (arith, some),
-        );
+        falls = falling (eqb (commitsIn said) 0);
+        plays = λ _. refl;
+        goes = λ usable few. by-commits (eqb (commitsIn said) 0) refl usable (few refl);
       }

@@ -8,16 +8,12 @@ use lib.ListN.{length}
 use Rattle.machine_model.specs.declared.Machine.{Machine}
 use Rattle.script_model.specs.declared.Phase.{Phase}
 use Rattle.script_model.specs.Language.{Steps}
-use Rattle.script_model.specs.Playing.{standing, leftIn, Writes, longest}
-use Rattle.script_model.specs.computed.Invariant.{due, InUse, isPlaying, rank}
+use Rattle.script_model.proofs.Invariant.{standing, leftIn, due, InUse, isPlaying, rank}
 
--- From phase h, machine m and n commits the step leads to phase k, machine u and j commits, and a piece of what was left is
--- written. The rank falls, and no more commits are counted or due than before.
-pub record Goes (program : List ℕ) (h : Phase) (m : Machine) (memory : List ℕ) (n : ℕ) (out : List ℕ) (at : ℕ) (k : Phase)
-    (u : Machine) (after : List ℕ) (j : ℕ) (into : List ℕ) (end : ℕ) : Type 0 where
-  pub piece : List ℕ
-  pub writes : Writes out at piece into end
-  pub short : end ≤ at + longest
+-- From phase h, machine m and n commits the step leads to phase k, machine u and j commits, and prints a piece of what was left.
+-- The rank falls, and no more commits are counted or due than before.
+pub record Goes (program : List ℕ) (h : Phase) (m : Machine) (memory : List ℕ) (n : ℕ) (piece : List ℕ) (k : Phase) (u : Machine)
+    (after : List ℕ) (j : ℕ) : Type 0 where
   pub lent : length after ≡ length memory
   pub falls : rank (length memory) k < rank (length memory) h
   pub plays : isPlaying k ≡ true → isPlaying h ≡ true

@@ -6,10 +6,10 @@
 --
 -- At the beginning all is left and nothing is written. A fill moves a piece from the front of what is left to the end
 -- of what is written: the piece is the first `end` bytes of the buffer, as it was set there from place 0. A player
--- that is over has nothing left. That a player gets there is a field of `Fills`: a call with a buffer of 80 bytes or
--- more on a player that is not over lowers `weight` (`falls`). Assumes nothing.
-use mathlib.Core.Path.{_≡_, refl, sym, ap, ap₂, _∙_}
-use mathlib.Core.Bool.{true, false, false≢true}
+-- that is over has nothing left. That a player gets there is a law of StepContract: a call with a buffer of 80 bytes or
+-- more on a player that is not over lowers `weight` (`fills-falls`). Assumes nothing.
+use mathlib.Core.Path.{_≡_, refl, sym, ap, ap₂, subst, _∙_}
+use mathlib.Core.Bool.{Bool, true, false, false≢true}
 use mathlib.Core.List.{List, [], _∷_, _++_, append-nil, append-assoc}
 use Prim.Native.Nat.{ℕ, _+_, _≤_}
 use native.Mathlib.Omega.{arith}
@@ -21,9 +21,11 @@ use Rattle.script_model.specs.declared.Phase.the-variants.{Over, Bad, St
 use Rattle.script_model.specs.declared.Player.{Player}
 use Rattle.script_model.specs.Language.{Steps}
 use Rattle.script_model.specs.Output.{printed}
-use Rattle.script_model.specs.Playing.{left, leftIn, isOver, Fills, wronglyLent, Begins}
+use Rattle.script_model.specs.Playing.{isOver, Fills, wronglyLent, Begins}
 use Rattle.script_model.specs.Truth.{Fillings, ready, filled, joined}
-use Rattle.script_model.specs.computed.Invariant.{Playing}
+use Rattle.script_model.proofs.Invariant.{leftIn, left, Playing}
+use Rattle.script_model.proofs.StepContract.{steps-used, steps-go}
+use Rattle.script_model.proofs.Beginnings.{begins-left}
 
 joined-snoc : (pieces : List (List ℕ)) (piece : List ℕ) → joined (pieces ++ (piece ∷ [])) ≡ joined pieces ++ piece
 unfolding joined
@@ -49,25 +51,32 @@ over-left program (Finishing k) more x e = absurd (false≢true e)
 over-left program (Words a) more x e = absurd (false≢true e)
 
 -- after these pieces: what is written and what is left is what the script prints, and the player may go on
-record Stands (text program : List ℕ) (pieces : List (List ℕ)) (r : Player) (w : List ℕ) : Type 0 where
-  told : printed text ≡ joined pieces ++ left text program r w
-  playing : Playing text program r w
+record StandsOn (text numbers : List ℕ) (pieces : List (List ℕ)) (r : Player) (w : List ℕ) : Type 0 where
+  told : printed text ≡ joined pieces ++ left text numbers r w
+  playing : Playing text numbers r w
+
+-- with the program in the places that the player uses
+abbrev Stands : List ℕ → List ℕ → List (List ℕ) → Player → List ℕ → Type 0
+Stands text program pieces r w = StandsOn text (take (r .used) program) pieces r w
 
 one-more : (text program : List ℕ) (pieces : List (List ℕ)) (q r : Player) (v w out into : List ℕ) (n : ℕ)
     → Stands text program pieces q v → Fills text program q v out r w into n
     → Stands text program (pieces ++ (take n into ∷ [])) r w
 one-more text program pieces q r v w out into n s f =
-    let piece = f .tells .piece in
-    let rest = left text program r w in
-    let goes = f .tells .goes (s .playing) in
-    let wrote = front out piece into n (f .tells .writes .ended) (f .tells .writes .written) (f .within) in
-    record {
-      told = s .told ∙ ap (λ (bytes : List ℕ). joined pieces ++ bytes) (goes .0)
-          ∙ sym (append-assoc (joined pieces) piece rest)
-          ∙ ap (λ (bytes : List ℕ). joined pieces ++ bytes ++ rest) (sym wrote)
-          ∙ ap (λ (bytes : List ℕ). bytes ++ rest) (sym (joined-snoc pieces (take n into)));
+    let bytes = f .bytes in
+    let numbers = take (q .used) program in
+    let rest = left text numbers r w in
+    let goes = steps-go (f .steps) (s .playing) in
+    let wrote = front out bytes into n (f .writes .ended) (f .writes .written) (f .within) in
+    let same : r .used ≡ q .used = steps-used (f .steps) in
+    subst (λ (k : ℕ). StandsOn text (take k program) (pieces ++ (take n into ∷ [])) r w) (sym same)
+    (record {
+      told = s .told ∙ ap (λ (l : List ℕ). joined pieces ++ l) (goes .0)
+          ∙ sym (append-assoc (joined pieces) bytes rest)
+          ∙ ap (λ (l : List ℕ). joined pieces ++ l ++ rest) (sym wrote)
+          ∙ ap (λ (l : List ℕ). l ++ rest) (sym (joined-snoc pieces (take n into)));
       playing = goes .1;
-    }
+    })
 
 stands : (text program : List ℕ) (p : Player) (memory : List ℕ) → Stands text program [] p memory
     → {pieces : List (List ℕ)} {r : Player} {w : List ℕ} → Fillings text program p memory pieces r w
@@ -76,18 +85,18 @@ stands text program p memory s ready = s
 stands text program p memory s (filled run f) =
     one-more text program _ _ _ _ _ _ _ _ (stands text program p memory s run) f
 
-module _ (text program memory : List ℕ) (q : Player) (used : ℕ) (into after : List ℕ)
-    (begun : Begins text program memory q used into after) (lent : wronglyLent text program memory ≡ false)
-    (pieces : List (List ℕ)) (r : Player) (w : List ℕ) (run : Fillings text (take used into) q after pieces r w) where
+module _ (text : List ℕ) (whole : Bool) (program memory : List ℕ) (q : Player) (into after : List ℕ)
+    (begun : Begins text whole program memory q into after) (lent : wronglyLent text whole program memory ≡ false)
+    (pieces : List (List ℕ)) (r : Player) (w : List ℕ) (run : Fillings text into q after pieces r w) where
   -- what was written is the beginning of what the script prints, and the rest is left
-  pub so-far : printed text ≡ joined pieces ++ left text (take used into) r w
+  pub so-far : printed text ≡ joined pieces ++ left text (take (r .used) into) r w
   unfolding joined
   so-far =
-      let start = begun .begins lent in
-      stands text (take used into) q after (record { told = sym (start .0); playing = start .1 }) run .told
+      let start = begins-left begun lent in
+      stands text into q after (record { told = sym (start .0); playing = start .1 }) run .told
 
   pub pieces-are : isOver (r .phase) ≡ true → joined pieces ≡ printed text
   pieces-are over =
       sym
-      (so-far ∙ ap (λ (bytes : List ℕ). joined pieces ++ bytes) (over-left (take used into) (r .phase) _ _ over)
+      (so-far ∙ ap (λ (l : List ℕ). joined pieces ++ l) (over-left (take (r .used) into) (r .phase) _ _ over)
       ∙ append-nil (joined pieces))

@@ -6,12 +6,12 @@ use mathlib.Core.Bool.{Bool, true, false, cond, _&&_}
 use mathlib.Core.List.{List, [], _∷_, _++_}
 use mathlib.Core.Option.{Option, none, some}
 use mathlib.Core.Path.{_≡_, refl, sym, ap, ap₂, _∙_}
-use Prim.Native.Nat.{ℕ, suc, _+_, _*_, _≤_, _<_}
+use Prim.Native.Nat.{ℕ, suc, _+_, _-_, _*_, _≤_, _<_}
 use native.Mathlib.Numerals.{add-one}
 use native.Mathlib.Omega.{arith}
 use lib.Dec.{ltb}
-use lib.ListN.{length, take, drop, length-append}
-use lib.Seq.{slice, sets, sets-eq, length-sets, length-take-le, take-at}
+use lib.ListN.{length, take, drop, length-append, take-append-drop}
+use lib.Seq.{slice, sets, sets-eq, length-sets, length-take-le, take-at, drop-at, drop-drop}
 use borrow.Author.Tests.{lt-ltb, le-ltb}
 use Rattle.text.specs.declared.Line.{Line}
 use Rattle.text.specs.declared.Line.the-variants.{End, Unended, Whole}
@@ -23,8 +23,8 @@ use Rattle.script_model.specs.declared.Item.the-variants.{Malformed, Siz
 use Rattle.script_model.specs.declared.Item.the-variants.{Finish}
 use Rattle.script_model.specs.declared.Found.the-variants.{Nothing, Four}
 use Rattle.script_model.specs.Language.{parsedLine, Steps, Body, numbersOf, joining, steps, body}
-use Rattle.script_model.specs.Playing.{stepsAt}
-use Rattle.script_model.specs.computed.Parts.{foundIn, foundBy, foundAt, bodyAt, Loads}
+use Rattle.script_model.specs.Playing.{lineStart}
+use Rattle.script_model.specs.computed.Parts.{foundIn, foundBy, foundAt, stepsAt, bodyAt, Loads}
 
 never : {A : Type 0} {code d s imm at : ℕ} → Nothing ≡ Four code d s imm at → A
 never e = absurd (let z : _≡_ {A = ℕ} 0 1 = cc in omega arith)
@@ -111,11 +111,13 @@ body-stops n p line ls e = ap (joinedBy n p line ls) e
 
 -- at an instruction the next line goes on with the longer program
 pub body-four : (s p : List ℕ) (at n code d r imm next : ℕ) → foundAt s at ≡ Four code d r imm next → length p < 1024
-    → (bodyAt s at n p ≡ bodyAt s next (suc n) (p ++ (code ∷ d ∷ r ∷ imm ∷ []))) × (at < next) × (next ≤ length s)
+    → (bodyAt s at n p ≡ bodyAt s next (suc n) (p ++ (code ∷ d ∷ r ∷ imm ∷ []))) × (next ≡ suc (feed s at)) × (next ≤ length s)
 body-four s p at n code d r imm next h room = go (lineAt s at) (line-is s at (lineAt s at) refl) h
   where
     go : (l : Line) → LineIs s at l → foundBy false s l ≡ Four code d r imm next
-        → (bodyAt s at n p ≡ bodyAt s next (suc n) (p ++ (code ∷ d ∷ r ∷ imm ∷ []))) × (at < next) × (next ≤ length s)
+        → (bodyAt s at n p ≡ bodyAt s next (suc n) (p ++ (code ∷ d ∷ r ∷ imm ∷ [])))
+        × (next ≡ suc (feed s at))
+        × (next ≤ length s)
     go End is g = never g
     go (Unended from) is g = never g
     go (Whole from to) is g =
@@ -127,7 +129,7 @@ body-four s p at n code d r imm next h room = go (lineAt s at) (line-is s at (li
           ap (bodyOf n p) (line-whole s at ends)
               ∙ body-joins n p line (linesOf (drop (suc (feed s at)) s)) ns (four .0)
               ∙ ap (λ (k : ℕ). bodyAt s k (suc n) (p ++ ns)) (sym (four .1)),
-          omega (arith, four .1),
+          four .1,
           omega (arith, four .1),
         )
 
@@ -165,71 +167,95 @@ body-full s p at n h = body-here s p at n (λ from to e. numbers-full p (parsedL
 -- ---- the loop
 
 -- what is read from `from` on comes to what is read from `cursor` on after the first `used` numbers
-pub record Reading (s : List ℕ) (from : ℕ) (program : List ℕ) (cursor line used : ℕ) : Type 0 where
+pub record Reading (s : List ℕ) (from : ℕ) (lent program : List ℕ) (cursor line used : ℕ) : Type 0 where
   pub remains : bodyAt s from 2 [] ≡ bodyAt s cursor line (take used program)
-  pub lent : 1024 ≤ length program
+  pub room : 1024 ≤ length program
   pub places : used ≤ 1024
+  pub rest : drop used program ≡ drop used lent
   pub lines : line * 4 ≡ used + 8
+  pub starts : from ≡ lineStart s 1 → cursor ≡ lineStart s (line - 1)
   pub within : from ≤ length s → cursor ≤ length s
   pub numbered : line + from ≤ cursor + 2
 
-pub reading-all : (s program : List ℕ) (from : ℕ) → 1024 ≤ length program → Reading s from program from 2 0
+pub reading-all : (s program : List ℕ) (from : ℕ) → 1024 ≤ length program → Reading s from program program from 2 0
 reading-all s program from h =
     record {
       remains = refl;
-      lent = h;
+      room = h;
       places = omega arith;
+      rest = refl;
       lines = refl;
+      starts = λ e. e;
       within = λ l. l;
       numbered = omega arith;
     }
 
-take-four : (program ns : List ℕ) (used : ℕ) → used + length ns ≤ length program
-    → take (used + length ns) (sets program used ns) ≡ take used program ++ ns
-take-four program ns used h =
-    ap (take (used + length ns)) (sets-eq ns program used h)
-    ∙ take-at (take used program ++ ns) (drop (used + length ns) program) (used + length ns)
-    (length-append (take used program) ns ∙ ap (λ (k : ℕ). k + length ns) (length-take-le used program (omega arith)))
+-- the lent program with these numbers set in it
+sets-parts : (program ns : List ℕ) (used : ℕ) → used + length ns ≤ length program
+    → (take (used + length ns) (sets program used ns) ≡ take used program ++ ns)
+    × (drop (used + length ns) (sets program used ns) ≡ drop (used + length ns) program)
+sets-parts program ns used h =
+    let before = take used program ++ ns in
+    let behind = drop (used + length ns) program in
+    let long : length before ≡ used + length ns =
+    length-append (take used program) ns ∙ ap (λ (k : ℕ). k + length ns) (length-take-le used program (omega arith)) in (
+      ap (take (used + length ns)) (sets-eq ns program used h) ∙ take-at before behind (used + length ns) long,
+      ap (drop (used + length ns)) (sets-eq ns program used h) ∙ drop-at before behind (used + length ns) long,
+    )
 
-pub reading-goes : (s program into : List ℕ) (from cursor line used code d r imm next : ℕ)
-    → Reading s from program cursor line used → used < 1024 → foundAt s cursor ≡ Four code d r imm next
+-- the line after the one that begins at a line's start begins at the next line's
+next-start : (s : List ℕ) (cursor next line : ℕ) → 1 ≤ line → next ≡ suc (feed s cursor) → cursor ≡ lineStart s (line - 1)
+    → next ≡ lineStart s (line + 1 - 1)
+unfolding lineStart
+next-start s cursor next line counted after is =
+    after ∙ ap (λ (k : ℕ). suc (feed s k)) is ∙ ap (lineStart s) (let e : suc (line - 1) ≡ line + 1 - 1 = omega arith in e)
+
+pub reading-goes : (s lent program into : List ℕ) (from cursor line used code d r imm next : ℕ)
+    → Reading s from lent program cursor line used → used < 1024 → foundAt s cursor ≡ Four code d r imm next
     → into ≡ sets program used (code ∷ d ∷ r ∷ imm ∷ [])
-    → Reading s from into next (line + 1) (used + 4)
-reading-goes s program into from cursor line used code d r imm next so room found put =
+    → Reading s from lent into next (line + 1) (used + 4)
+reading-goes s lent program into from cursor line used code d r imm next so room found put =
     let ns = code ∷ d ∷ r ∷ imm ∷ [] in
-    let read : length (take used program) ≡ used = length-take-le used program (omega (arith, so .lent)) in
+    let read : length (take used program) ≡ used = length-take-le used program (omega (arith, so .room)) in
     let four = body-four s (take used program) cursor line code d r imm next found (omega arith) in
     let longer : used + 4 ≤ 1024 = omega (arith, so .lines) in
-    let taken : take used program ++ ns ≡ take (used + 4) into =
-    sym (take-four program ns used (omega (arith, so .lent))) ∙ ap (take (used + 4)) (sym put) in
+    let parts = sets-parts program ns used (omega (arith, so .room)) in
+    let taken : take used program ++ ns ≡ take (used + 4) into = sym (parts .0) ∙ ap (take (used + 4)) (sym put) in
     record {
       remains = so .remains ∙ four .0
           ∙ ap₂ (λ (n : ℕ) (p : List ℕ). bodyAt s next n p) (sym (add-one line)) taken;
-      lent = omega (arith, so .lent, ap length put, length-sets program used ns);
+      room = omega (arith, so .room, ap length put, length-sets program used ns);
       places = longer;
+      rest = ap (drop (used + 4)) put ∙ parts .1 ∙ sym (drop-drop 4 used program) ∙ ap (drop 4) (so .rest)
+          ∙ drop-drop 4 used lent;
       lines = omega (arith, so .lines);
+      starts = λ e. next-start s cursor next line (omega (arith, so .lines)) (four .1) (so .starts e);
       within = λ _. four .2;
       numbered = omega (arith, so .numbered, four .1);
     }
 
 -- the two stops
-pub reading-stops : (s program : List ℕ) (from cursor line used : ℕ) → Reading s from program cursor line used
-    → foundAt s cursor ≡ Nothing → Loads s from program cursor line used
-reading-stops s program from cursor line used so nothing =
+reading-done : (s lent program : List ℕ) (from cursor line used : ℕ) → Reading s from lent program cursor line used
+    → bodyAt s cursor line (take used program) ≡ record { program = take used program; steps = stepsAt s cursor line }
+    → Loads s from lent program cursor line used
+reading-done s lent program from cursor line used so body-is =
     record {
-      body-is = so .remains ∙ body-stop s (take used program) cursor line nothing;
+      body-is = so .remains ∙ body-is;
       places = so .places;
+      rest = sym (take-append-drop used program) ∙ ap (λ (l : List ℕ). take used program ++ l) (so .rest);
+      lines = so .lines;
+      starts = so .starts;
       within = so .within;
       numbered = so .numbered;
     }
 
-pub reading-ends : (s program : List ℕ) (from cursor line used : ℕ) → Reading s from program cursor line used
-    → 1024 ≤ used → Loads s from program cursor line used
-reading-ends s program from cursor line used so full =
-    let read : length (take used program) ≡ used = length-take-le used program (omega (arith, so .lent, so .places)) in
-    record {
-      body-is = so .remains ∙ body-full s (take used program) cursor line (omega arith);
-      places = so .places;
-      within = so .within;
-      numbered = so .numbered;
-    }
+pub reading-stops : (s lent program : List ℕ) (from cursor line used : ℕ) → Reading s from lent program cursor line used
+    → foundAt s cursor ≡ Nothing → Loads s from lent program cursor line used
+reading-stops s lent program from cursor line used so nothing =
+    reading-done s lent program from cursor line used so (body-stop s (take used program) cursor line nothing)
+
+pub reading-ends : (s lent program : List ℕ) (from cursor line used : ℕ) → Reading s from lent program cursor line used
+    → 1024 ≤ used → Loads s from lent program cursor line used
+reading-ends s lent program from cursor line used so full =
+    let read : length (take used program) ≡ used = length-take-le used program (omega (arith, so .room, so .places)) in
+    reading-done s lent program from cursor line used so (body-full s (take used program) cursor line (omega arith))

@@ -1,26 +1,32 @@
--- How a player's steps join. A step that reads no line (`goes-on`), a line that turns the phase (`turns-to`) and one that
--- asks for a call (`issue-called` .. `commit-called`) each lead one step on (`Stepped`); what a line asks for is `orders-end`,
--- `orders-unended`, `orders-whole`. Steps in a row (`Filling`) write one piece after the other into the buffer. What is left
--- to print is the piece written and what is left after it, so pieces join by the associativity of ++. A player keeps what
--- `Playing` says: each line read is a byte at least and adds at most 4,294,967,296 commits to those counted or due. The
--- weight falls: within a line by the rank, and past a line by 8,589,934,592, which is more than any rank can rise.
+-- How a player's steps join. A step that reads no line (`goes-on`) and one that takes a line, which turns the phase (`turns-to`)
+-- or asks for a call (`calls`), each lead on (`Stepped`), and so every step does (`step-goes`); what a line asks for is `orders`.
+-- What is left to print is the piece printed and what is left after it, so pieces join by the associativity of ++
+-- (`steps-go`). A player keeps what `Playing` says: each line read is a byte at least and adds at most 4,294,967,296 commits to
+-- those counted or due. The weight falls: within a line by the rank, and past a line by 8,589,934,592, which is more than any
+-- rank can rise (`fills-falls`).
 -- Assumes nothing.
 use mathlib.Core.Path.{_≡_, refl, sym, ap, ap₂, subst, _∙_}
-use mathlib.Core.Bool.{true, false}
+use mathlib.Core.Bool.{Bool, true, false, cond, true≢false}
 use mathlib.Core.List.{List, [], _∷_, _++_, append-assoc, append-nil}
 use mathlib.Core.Logic.{_⊎_, inl, inr}
-use mathlib.Core.Option.{none}
-use Prim.Native.Nat.{ℕ, suc, _+_, _≤_, _<_}
+use mathlib.Core.Option.{Option, none, some}
+use Prim.Native.Nat.{ℕ, suc, _+_, _-_, _*_, _≤_, _<_}
 use native.Mathlib.Omega.{arith}
-use lib.ListN.{length}
+use lib.Dec.{eqb, ltb}
+use lib.ListN.{length, take, replicate}
 use lib.Seq.{slice, length-sets, drop-cons}
+use borrow.Author.Tests.{lt-ltb, le-ltb}
+use Rattle.text.specs.declared.Line.{Line}
 use Rattle.text.specs.declared.Line.the-variants.{End, Unended, Whole}
+use Rattle.text.specs.Fields.{fields}
 use Rattle.text.specs.Lines.{Lines, lineAt}
+use Rattle.text.specs.computed.Reader.{largest}
 use Rattle.text.proofs.Splits.{line-is, line-end, line-unended, line-whole}
+use Rattle.text.proofs.Trip.{Within, written-fields}
 use Rattle.machine_model.specs.declared.Machine.{Machine}
-use Rattle.machine_model.specs.Calls.{Call, issue, execute, squash, commit}
-use Rattle.machine_model.specs.Contract.{plain}
-use Rattle.theorem.specs.Play.{Played, play}
+use Rattle.machine_model.specs.Calls.{Call, issue, execute, squash, commit, finish, Answer}
+use Rattle.machine_model.specs.Contract.{plain, Meets}
+use Rattle.theorem.specs.Play.{Played, commitsIn, play}
 use Rattle.theorem.specs.computed.Linked.{Linked}
 use Rattle.theorem.proofs.Finishing.{respond-links}
 use Rattle.script_model.specs.declared.Item.{Item}
@@ -30,105 +36,86 @@ use Rattle.script_model.specs.declared.Phase.{Phase}
 use Rattle.script_model.specs.declared.Phase.the-variants.{Over, Bad, Stepping, Finishing, Words}
 use Rattle.script_model.specs.declared.Ask.{Ask}
 use Rattle.script_model.specs.declared.Ask.the-variants as ask
+use Rattle.script_model.specs.declared.Order.{Order}
 use Rattle.script_model.specs.declared.Player.{Player}
-use Rattle.script_model.specs.Language.{parsedLine, stepOf, Steps, flawed, before, stepping, steps}
-use Rattle.script_model.specs.Output.{commitLine, commitLines, badLine, transcript}
-use Rattle.script_model.specs.Playing.{stepsAt, standing, leftIn, left, isOver, Writes, Tells, longest, Fills}
-use Rattle.script_model.specs.computed.Invariant.{due, Usable, InUse, isPlaying, Playing, rank, weight}
-use Rattle.script_model.specs.computed.Parts.{askIn, turnedTo, share, leftBy, Orders}
+use Rattle.script_model.specs.Language.{alone, withOne, withThree, withFour, lettered, parsedLine, stepOf, Steps, flawed, before, stepping, steps}
+use Rattle.script_model.specs.Output.{commitLines, badLine, transcript}
+use Rattle.script_model.specs.Playing.{oneMore, askIn, orderBy, orderAt, player, turned, QuietStep, toldBy, countedBy}
+use Rattle.script_model.specs.Playing.{phaseAfter, afterCall, CallStep, LineStep, StepIn, PlayerStep, longest, PlayerSteps, still}
+use Rattle.script_model.specs.Playing.{onward, Writes, isOver, Fills}
+use Rattle.script_model.specs.computed.Parts.{stepsAt}
 use Rattle.script_model.proofs.Writing.{writes-none, writes-then}
 use Rattle.script_model.proofs.Telling.{told-before}
-use Rattle.script_model.proofs.CallOnPlayer.{Does}
+use Rattle.script_model.proofs.Invariant.{standing, leftIn, left, due, Usable, InUse, isPlaying, Playing, rank, weight}
+use Rattle.script_model.proofs.CallOnPlayer.{Single, Does, call-does}
 use Rattle.script_model.proofs.Phases.{Goes}
-
--- ---- pieces in a row
-
-pub tells-none : (text program : List ℕ) (p : Player) (memory out : List ℕ) (at : ℕ)
-    → Tells text program p memory out at p memory out at
-tells-none text program p memory out at =
-    record { piece = []; writes = writes-none out at; lent = refl; goes = λ playing. (refl, playing) }
-
-pub tells-then : {text program : List ℕ} {p q r : Player} {memory after later out into last : List ℕ} {at mid end : ℕ}
-    → Tells text program p memory out at q after into mid
-    → Tells text program q after into mid r later last end
-    → Tells text program p memory out at r later last end
-tells-then {text} {program} {p} {q} {r} {memory} {after} {later} a b =
-    record {
-      piece = a .piece ++ b .piece;
-      writes = writes-then (a .writes) (b .writes);
-      lent = b .lent ∙ a .lent;
-      goes = λ playing.
-          let one = a .goes playing in
-          let two = b .goes (one .1) in (
-            one .0
-                ∙ ap (λ (l : List ℕ). a .piece ++ l) (two .0)
-                ∙ sym (append-assoc (a .piece) (b .piece) (left text program r later)),
-            two .1,
-          );
-    }
+use Rattle.script_model.proofs.Limits.{limit-reached, finish-made}
+use Rattle.script_model.proofs.Closings.{word-goes, end-goes}
 
 -- ---- a step
 
--- the contract of a step
-abbrev pub Stepped : List ℕ → List ℕ → Player → List ℕ → List ℕ → ℕ → Player → List ℕ → List ℕ → ℕ → Type 0
-Stepped text program p memory out at q after into end =
-    Tells text program p memory out at q after into end
-    × ((end ≤ at + longest) × (weight text q after < weight text p memory))
-
--- a player by its parts
-abbrev pub player : Phase → ℕ → ℕ → ℕ → Machine → Player
-player h cursor line n m = record { phase = h; cursor = cursor; line = line; commits = n; machine = m }
-
--- a step of the player in phase f, which is h
-in-phase : {text program : List ℕ} {f h : Phase} {cursor line n : ℕ} {m : Machine} {memory out : List ℕ} {at : ℕ} {q : Player}
-    {after into : List ℕ} {end : ℕ} → f ≡ h
-    → Stepped text program (player h cursor line n m) memory out at q after into end
-    → Stepped text program (player f cursor line n m) memory out at q after into end
-in-phase {text} {program} {f} {h} {cursor} {line} {n} {m} {memory} {out} {at} {q} {after} {into} {end} e s =
-    subst (λ (i : Phase). Stepped text program (player i cursor line n m) memory out at q after into end) (sym e) s
+-- what every step does
+pub record Stepped (text program : List ℕ) (p : Player) (memory piece : List ℕ) (q : Player) (after : List ℕ) : Type 0 where
+  pub lent : length after ≡ length memory
+  pub used : q .used ≡ p .used
+  pub falls : weight text q after < weight text p memory
+  pub goes : Playing text program p memory
+      → (left text program p memory ≡ piece ++ left text program q after) × Playing text program q after
 
 few-commits : {text program : List ℕ} {p : Player} {memory : List ℕ} → Playing text program p memory
     → isPlaying (p .phase) ≡ true → p .commits < 18446744073709551615
 few-commits playing plays = omega (arith, playing .fits plays, playing .within, playing .counted)
 
 -- a step that reads no line
-pub goes-on : {program : List ℕ} {f h k : Phase} {m u : Machine} {memory after out into : List ℕ} {n j at end : ℕ}
-    (text : List ℕ) (cursor line : ℕ) → f ≡ h → Goes program h m memory n out at k u after j into end
-    → Stepped text program (player f cursor line n m) memory out at (player k cursor line j u) after into end
-goes-on {k = k} text cursor line e g = in-phase e (
-  record {
-    piece = g .piece;
-    writes = g .writes;
-    lent = g .lent;
-    goes = λ playing.
-        let there = g .goes (playing .used) (few-commits playing) in (
-          there .0 (stepsAt text cursor line),
-          record {
-            fits = λ on. playing .fits (g .plays on);
-            within = playing .within;
-            used = there .1;
-            counted = omega (arith, playing .counted, there .2);
-            numbered = playing .numbered;
-          },
-        );
-  },
-  (g .short, omega (arith, g .falls, ap (λ (w : ℕ). rank w k) (g .lent))),
-)
+goes-on : {program : List ℕ} {h k : Phase} {m u : Machine} {memory piece after : List ℕ} {n j : ℕ}
+    (text : List ℕ) (cursor line used : ℕ) → Goes program h m memory n piece k u after j
+    → Stepped text program (player h cursor line n used m) memory piece (player k cursor line j used u) after
+goes-on {k = k} text cursor line used g =
+    record {
+      lent = g .lent;
+      used = refl;
+      falls = omega (arith, g .falls, ap (λ (w : ℕ). rank w k) (g .lent));
+      goes = λ playing.
+          let there = g .goes (playing .used) (few-commits playing) in (
+            there .0 (stepsAt text cursor line),
+            record {
+              fits = λ on. playing .fits (g .plays on);
+              within = playing .within;
+              used = there .1;
+              counted = omega (arith, playing .counted, there .2);
+              numbered = playing .numbered;
+            },
+          );
+    }
 
 -- the bad line, and then nothing
-pub bad-goes : (program : List ℕ) (m : Machine) (memory : List ℕ) (n b : ℕ) {out into : List ℕ} {at end : ℕ}
-    → Writes out at (badLine b) into end × (end ≤ at + longest)
-    → Goes program (Bad b) m memory n out at Over m memory n into end
-bad-goes program m memory n b put =
+bad-goes : (program : List ℕ) (m : Machine) (memory : List ℕ) (n b : ℕ)
+    → Goes program (Bad b) m memory n (badLine b) Over m memory n
+bad-goes program m memory n b =
     record {
-      piece = badLine b;
-      writes = put .0;
-      short = put .1;
       lent = refl;
       falls = omega arith;
       plays = λ on. on;
       goes = λ used few. (λ more. sym (append-nil (badLine b)), tt, omega arith);
     }
+
+-- a step without a call, by its equations
+quietly : {text program : List ℕ} {p there q : Player} {memory bytes piece after : List ℕ}
+    → QuietStep bytes there memory piece q after → Stepped text program p memory bytes there memory
+    → Stepped text program p memory piece q after
+quietly {text} {program} {p} {there} {q} {memory} {bytes} {piece} {after} s g =
+    subst (λ (w : List ℕ). Stepped text program p memory piece q w) (sym (s .keeps))
+    (subst (λ (x : Player). Stepped text program p memory piece x memory) (sym (s .leads))
+    (subst (λ (l : List ℕ). Stepped text program p memory l there memory) (sym (s .prints)) g))
+
+-- and one with a call
+called : {text program : List ℕ} {c : Call} {p from q : Player} {memory piece after : List ℕ}
+    (s : CallStep program c from memory piece q after)
+    → Stepped text program p memory (toldBy (s .said) (s .list)) (afterCall c (s .said) (s .machine) from) after
+    → Stepped text program p memory piece q after
+called {text} {program} {c} {p} {from} {q} {memory} {piece} {after} s g =
+    subst (λ (x : Player). Stepped text program p memory piece x after) (sym (s .leads))
+    (subst (λ (l : List ℕ). Stepped text program p memory l (afterCall c (s .said) (s .machine) from) after) (sym (s .prints)) g)
 
 -- ---- reading a line
 
@@ -170,6 +157,41 @@ steps-whole text cursor line from to e =
     ∙ ap₂ (λ (a b : ℕ). stepping line (stepOf (parsedLine (slice a b text))) (stepsAt text (suc b) (suc line)))
     (sym (found .0)) (sym (found .1))
 
+-- the phase after what a line asks for
+abbrev turnedTo : Ask → Phase
+turnedTo (ask.Turn h) = h
+turnedTo ask.Issue = Stepping
+turnedTo (ask.Execute k) = Stepping
+turnedTo (ask.Squash k) = Stepping
+turnedTo ask.Commit = Stepping
+
+-- at most so many commits more are counted or due after it
+abbrev share : Ask → ℕ
+share (ask.Turn h) = due h
+share ask.Issue = 1
+share (ask.Execute k) = 1
+share (ask.Squash k) = 1
+share ask.Commit = 1
+
+-- what is left to print where this is asked for, with these steps after it
+abbrev leftBy : List ℕ → Ask → Steps → Played → List ℕ
+leftBy program (ask.Turn h) more x = leftIn program h more x
+leftBy program ask.Issue more x = transcript program x (before issue more)
+leftBy program (ask.Execute k) more x = transcript program x (before (execute k) more)
+leftBy program (ask.Squash k) more x = transcript program x (before (squash k) more)
+leftBy program ask.Commit more x = transcript program x (before commit more)
+
+-- What was left to print is what is left where this is asked for; a line is a byte at least, and the weight falls.
+record Orders (text : List ℕ) (cursor line : ℕ) (order : Order) : Type 0 where
+  asks : line < 18446744073709551615 → (program : List ℕ) (m : Machine) (memory : List ℕ) (n : ℕ)
+      → transcript program (standing m memory n) (stepsAt text cursor line)
+      ≡ leftBy program (order .ask) (stepsAt text (order .cursor) (order .line)) (standing m memory n)
+  within : cursor ≤ length text → order .cursor ≤ length text
+  shared : share (order .ask) + cursor * 4294967296 ≤ order .cursor * 4294967296
+  numbered : order .line + cursor ≤ line + order .cursor
+  falls : (words : ℕ) → (length text - order .cursor) * 8589934592 + rank words (turnedTo (order .ask))
+      < (length text - cursor) * 8589934592 + rank words Stepping
+
 -- what an item asks for is what its step leaves
 asks-step : (program : List ℕ) (m : Machine) (memory : List ℕ) (n : ℕ) (item : Item) (line : ℕ) (more : Steps)
     → transcript program (standing m memory n) (stepping line (stepOf item) more)
@@ -197,56 +219,123 @@ rank-share words (ask.Execute k) = omega arith
 rank-share words (ask.Squash k) = omega arith
 rank-share words ask.Commit = omega arith
 
-pub orders-end : (text : List ℕ) (cursor line : ℕ) → lineAt text cursor ≡ End
-    → Orders text cursor line (ask.Turn (Words 0)) cursor line
-orders-end text cursor line found =
-    record {
-      asks = λ few program m memory n.
-          ap (transcript program (standing m memory n)) (steps-end text cursor line found)
-          ∙ told-end program m memory n (stepsAt text cursor line);
-      within = λ h. h;
-      shared = omega arith;
-      numbered = omega arith;
-      falls = λ words. omega arith;
-    }
+-- a finish asks for no more commits than a number of 32 bits says
+share-one : (b k n : ℕ) → k ≤ largest → share (askIn (withOne b k) n) ≤ 4294967296
+share-one b k n h = go (eqb b 101) (eqb b 113) (eqb b 120)
+  where
+    go : (s t u : Bool)
+        → share (askIn (cond s (Execute k) (cond t (Squash k) (cond u (Finish k) Malformed))) n) ≤ 4294967296
+    go true t u = omega arith
+    go false true u = omega arith
+    go false false true = omega (arith, h)
+    go false false false = omega arith
 
-pub orders-unended : (text : List ℕ) (cursor line from : ℕ) → lineAt text cursor ≡ Unended from
-    → Orders text cursor line (ask.Turn (Bad line)) cursor line
-orders-unended text cursor line from found =
-    record {
-      asks = λ few program m memory n.
-          ap (transcript program (standing m memory n)) (steps-unended text cursor line from found)
-          ∙ told-flawed program m memory n line;
-      within = λ h. h;
-      shared = omega arith;
-      numbered = omega arith;
-      falls = λ words. omega arith;
-    }
+share-alone : (b n : ℕ) → share (askIn (alone b) n) ≤ 4294967296
+share-alone b n = go (eqb b 105) (eqb b 99)
+  where
+    go : (s t : Bool) → share (askIn (cond s Issue (cond t Commit Malformed)) n) ≤ 4294967296
+    go true t = omega arith
+    go false true = omega arith
+    go false false = omega arith
 
-pub orders-whole : (text : List ℕ) (cursor line from to : ℕ) (item : Item) (asked : Ask) (number : ℕ)
-    → lineAt text cursor ≡ Whole from to → item ≡ parsedLine (slice from to text) → asked ≡ askIn item line → share asked ≤
-    4294967296
-    → (line < 18446744073709551615 → number ≡ suc line) × (number ≤ suc line)
-    → Orders text cursor line asked (to + 1) number
-orders-whole text cursor line from to item asked number found says is small next =
-    let place = line-is text cursor (Whole from to) found in
-    let behind : cursor ≤ to = omega (arith, place .1) in
-    let inside : to < length text = place .2 in
-    record {
-      asks = λ few program m memory n.
-          ap (transcript program (standing m memory n))
-          (steps-whole text cursor line from to found
-          ∙ ap (λ (i : Item). stepping line (stepOf i) (stepsAt text (suc to) (suc line))) (sym says)
-          ∙ ap₂ (λ (a b : ℕ). stepping line (stepOf item) (stepsAt text a b))
-          (let q : suc to ≡ to + 1 = omega arith in q)
-          (sym (next .0 few)))
-          ∙ asks-step program m memory n item line (stepsAt text (to + 1) number)
-          ∙ ap (λ (a : Ask). leftBy program a (stepsAt text (to + 1) number) (standing m memory n)) (sym is);
-      within = λ h. omega arith;
-      shared = omega arith;
-      numbered = omega (arith, next .1);
-      falls = λ words. omega (arith, rank-share words asked);
-    }
+share-three : (b d s imm n : ℕ) → share (askIn (withThree b d s imm) n) ≤ 4294967296
+share-three b d s imm n = go (eqb b 65) (eqb b 80) (eqb b 76) (eqb b 83)
+  where
+    go : (t u v w : Bool)
+        → share
+        (askIn
+        (cond t (Operation 1 d s imm)
+        (cond u (Operation 2 d s imm) (cond v (Operation 3 d s imm) (cond w (Operation 4 d s imm) Malformed))))
+        n)
+        ≤ 4294967296
+    go true u v w = omega arith
+    go false true v w = omega arith
+    go false false true w = omega arith
+    go false false false true = omega arith
+    go false false false false = omega arith
+
+share-four : (b banks rows stages words n : ℕ) → share (askIn (withFour b banks rows stages words) n) ≤ 4294967296
+share-four b banks rows stages words n = go (eqb b 78)
+  where
+    go : (t : Bool) → share (askIn (cond t (Sizes banks rows stages words) Malformed) n) ≤ 4294967296
+    go true = omega arith
+    go false = omega arith
+
+share-lettered : (b n : ℕ) (o : Option (List ℕ)) → ((ns : List ℕ) → o ≡ some ns → Within largest ns)
+    → share (askIn (lettered b o) n) ≤ 4294967296
+share-lettered b n none h = omega arith
+share-lettered b n (some []) h = omega arith
+share-lettered b n (some (k ∷ [])) h = share-one b k n (h (k ∷ []) refl 0)
+share-lettered b n (some (k ∷ l ∷ [])) h = omega arith
+share-lettered b n (some (d ∷ s ∷ imm ∷ [])) h = share-three b d s imm n
+share-lettered b n (some (banks ∷ rows ∷ stages ∷ words ∷ [])) h = share-four b banks rows stages words n
+share-lettered b n (some (k ∷ l ∷ m ∷ o ∷ p ∷ ns)) h = omega arith
+
+share-small : (line : List ℕ) (n : ℕ) → share (askIn (parsedLine line) n) ≤ 4294967296
+share-small [] n = omega arith
+share-small (b ∷ []) n = share-alone b n
+share-small (b ∷ c ∷ bs) n = go (eqb c 44)
+  where
+    go : (t : Bool) → share (askIn (cond t (lettered b (fields largest bs)) Malformed) n) ≤ 4294967296
+    go true = share-lettered b n (fields largest bs) (λ ns e. written-fields largest bs ns e .1)
+    go false = omega arith
+
+more-most : (n : ℕ) → oneMore n ≤ suc n
+more-most n = go (ltb n 18446744073709551615)
+  where
+    go : (t : Bool) → cond t (suc n) n ≤ suc n
+    go true = omega arith
+    go false = omega arith
+
+pub more-is : (n : ℕ) → n < 18446744073709551615 → oneMore n ≡ suc n
+more-is n few = ap (λ (b : Bool). cond b (suc n) n) (lt-ltb n 18446744073709551615 few)
+
+pub more-stays : (n : ℕ) → 18446744073709551615 ≤ n → oneMore n ≡ n
+more-stays n full = ap (λ (b : Bool). cond b (suc n) n) (le-ltb n 18446744073709551615 full)
+
+orders : (text : List ℕ) (cursor line : ℕ) → Orders text cursor line (orderAt text cursor line)
+orders text cursor line = go (lineAt text cursor) refl
+  where
+    go : (l : Line) → lineAt text cursor ≡ l → Orders text cursor line (orderBy text cursor line l)
+    go End found =
+        record {
+          asks = λ few program m memory n.
+              ap (transcript program (standing m memory n)) (steps-end text cursor line found)
+              ∙ told-end program m memory n (stepsAt text cursor line);
+          within = λ h. h;
+          shared = omega arith;
+          numbered = omega arith;
+          falls = λ words. omega arith;
+        }
+    go (Unended from) found =
+        record {
+          asks = λ few program m memory n.
+              ap (transcript program (standing m memory n)) (steps-unended text cursor line from found)
+              ∙ told-flawed program m memory n line;
+          within = λ h. h;
+          shared = omega arith;
+          numbered = omega arith;
+          falls = λ words. omega arith;
+        }
+    go (Whole from to) found =
+        let place = line-is text cursor (Whole from to) found in
+        let behind : cursor ≤ to = omega (arith, place .1) in
+        let inside : to < length text = place .2 in
+        let item = parsedLine (slice from to text) in
+        let small = share-small (slice from to text) line in
+        record {
+          asks = λ few program m memory n.
+              ap (transcript program (standing m memory n))
+              (steps-whole text cursor line from to found
+              ∙ ap₂ (λ (a b : ℕ). stepping line (stepOf item) (stepsAt text a b))
+              (let q : suc to ≡ to + 1 = omega arith in q)
+              (sym (more-is line few)))
+              ∙ asks-step program m memory n item line (stepsAt text (to + 1) (oneMore line));
+          within = λ h. omega arith;
+          shared = omega arith;
+          numbered = omega (arith, more-most line);
+          falls = λ words. omega (arith, rank-share words (askIn item line));
+        }
 
 -- ---- taking a line's order
 
@@ -257,189 +346,233 @@ use-in Stepping used = used
 use-in (Finishing k) used = used
 use-in (Words a) used = used
 
--- where the line at a cursor makes the player turn to another phase
-pub turns-to : {text : List ℕ} {cursor line next number : ℕ} {f h : Phase} {asked : Ask}
-    (program : List ℕ) (m : Machine) (n : ℕ) (memory out : List ℕ) (at : ℕ)
-    → f ≡ Stepping → asked ≡ ask.Turn h → Orders text cursor line asked next number
-    → Stepped text program (player f cursor line n m) memory out at (player h next number n m) memory out at
-turns-to {text} {cursor} {line} {next} {number} {h = h} program m n memory out at e is orders =
-    let o = subst (λ (a : Ask). Orders text cursor line a next number) is orders in
-    in-phase e (
+module _ (text program : List ℕ) (cursor line n used : ℕ) (m : Machine) (memory : List ℕ) where
+  -- the player at the line, and what the line asks for
+  abbrev here : Player
+  here = player Stepping cursor line n used m
+
+  abbrev order : Order
+  order = orderAt text cursor line
+
+  numbers-few : Playing text program here memory → line < 18446744073709551615
+  numbers-few playing = omega (arith, playing .fits refl, playing .within, playing .numbered)
+
+  -- where the line makes the player turn to another phase
+  turns-to : (h : Phase) → order .ask ≡ ask.Turn h
+      → Stepped text program here memory [] (player h (order .cursor) (order .line) n used m) memory
+  turns-to h is =
+      let o = orders text cursor line in
       record {
-        piece = [];
-        writes = writes-none out at;
         lent = refl;
+        used = refl;
+        falls = omega (arith, o .falls (length memory), ap (λ (a : Ask). rank (length memory) (turnedTo a)) is);
+        goes = λ playing. (
+          o .asks (numbers-few playing) program m memory n
+              ∙ ap (λ (a : Ask). leftBy program a (stepsAt text (order .cursor) (order .line)) (standing m memory n)) is,
+          record {
+            fits = λ _. playing .fits refl;
+            within = o .within (playing .within);
+            used = use-in h (playing .used);
+            counted = omega (arith, playing .counted, o .shared, ap share is);
+            numbered = omega (arith, playing .numbered, o .numbered);
+          },
+        );
+      }
+
+  counted-most : (said : Answer) → countedBy said n ≤ suc n
+  counted-most said = go (eqb (commitsIn said) 0)
+    where
+      go : (t : Bool) → cond t n (oneMore n) ≤ suc n
+      go true = omega arith
+      go false = more-most n
+
+  -- where it asks for call c, which was made
+  calls : (c : Call) (a : Ask) → Single c
+      → ((more : Steps) (x : Played) → leftBy program a more x ≡ transcript program x (before c more))
+      → turnedTo a ≡ Stepping → share a ≡ 1 → ((said : Answer) → phaseAfter c said ≡ Stepping) → order .ask ≡ a
+      → {piece : List ℕ} {q : Player} {after : List ℕ}
+      → CallStep program c (player Stepping (order .cursor) (order .line) n used m) memory piece q after
+      → Stepped text program here memory piece q after
+  calls c a single asks stays one phase is {piece} {q} {after} s =
+      let o = orders text cursor line in
+      let said = s .said in
+      let u = s .machine in
+      called s
+      (subst
+      (λ (h : Phase).
+      Stepped text program here memory (toldBy said (s .list))
+      (player h (order .cursor) (order .line) (countedBy said n) used u) after)
+      (sym (phase said))
+      (record {
+        lent = s .lent;
+        used = refl;
+        falls =
+            omega (
+              arith,
+              o .falls (length memory),
+              ap (λ (b : Ask). rank (length memory) (turnedTo b)) is,
+              ap (rank (length memory)) stays,
+              ap (λ (w : ℕ). rank w Stepping) (s .lent),
+            );
         goes = λ playing.
-            let fits = playing .fits refl in (
-              o .asks (omega (arith, fits, playing .within, playing .numbered)) program m memory n,
+            let more = stepsAt text (order .cursor) (order .line) in
+            let d = call-does n single (s .meets) (playing .used .sound) (few-commits playing refl) in (
+              o .asks (numbers-few playing) program m memory n
+                  ∙ ap (λ (b : Ask). leftBy program b more (standing m memory n)) is
+                  ∙ asks more (standing m memory n)
+                  ∙ told-before program (standing m memory n) c more (d .numbers) (plain u) after (countedBy said n) (d .does)
+                  (d .whole)
+                  ∙ ap (λ (l : List ℕ). l ++ transcript program (standing u after (countedBy said n)) more) (d .lines),
               record {
-                fits = λ _. fits;
+                fits = λ _. playing .fits refl;
                 within = o .within (playing .within);
-                used = use-in h (playing .used);
-                counted = omega (arith, playing .counted, o .shared);
+                used =
+                    record {
+                      sound = s .meets .lawful (playing .used .sound);
+                      linked = subst (λ (z : Played). Linked program (z .state) (z .memory)) (d .does)
+                          (respond-links program c (plain m) memory (playing .used .linked) .linked);
+                    };
+                counted = omega (arith, playing .counted, o .shared, ap share is, one, counted-most said);
                 numbered = omega (arith, playing .numbered, o .numbered);
               },
             );
-      },
-      (omega arith, o .falls (length memory)),
+      }))
+
+  line-goes : {piece : List ℕ} {q : Player} {after : List ℕ} (a : Ask) → order .ask ≡ a
+      → LineStep program a (player Stepping (order .cursor) (order .line) n used m) memory piece q after
+      → Stepped text program here memory piece q after
+  line-goes (ask.Turn h) is s = quietly s (turns-to h is)
+  line-goes ask.Issue is s = calls issue ask.Issue tt (λ more x. refl) refl refl (λ said. refl) is s
+  line-goes (ask.Execute k) is s = calls (execute k) (ask.Execute k) tt (λ more x. refl) refl refl (λ said. refl) is s
+  line-goes (ask.Squash k) is s = calls (squash k) (ask.Squash k) tt (λ more x. refl) refl refl (λ said. refl) is s
+  line-goes ask.Commit is s = calls commit ask.Commit tt (λ more x. refl) refl refl (λ said. refl) is s
+
+-- ---- every step
+step-in : (text program : List ℕ) (h : Phase) (cursor line n used : ℕ) (m : Machine) {memory piece : List ℕ} {q : Player}
+    {after : List ℕ} → StepIn text program h (player h cursor line n used m) memory piece q after
+    → Stepped text program (player h cursor line n used m) memory piece q after
+step-in text program Over cursor line n used m s = absurd s
+step-in text program (Bad b) cursor line n used m {memory} s =
+    quietly s (goes-on text cursor line used (bad-goes program m memory n b))
+step-in text program Stepping cursor line n used m {memory} s =
+    line-goes text program cursor line n used m memory (orderAt text cursor line .ask) refl s
+step-in text program (Finishing k) cursor line n used m {memory} (inl s) =
+    quietly (s .1) (goes-on text cursor line used (limit-reached program m n k memory (s .0)))
+step-in text program (Finishing k) cursor line n used m {memory} {after = after} (inr s) =
+    let c = s .1 in
+    called c
+    (goes-on text cursor line used
+    (finish-made program m (c .machine) n k memory after (replicate 4 0) (c .list) (c .said) (s .0) refl (c .meets) (c .lent)))
+step-in text program (Words a) cursor line n used m {memory} (inl s) =
+    quietly (s .1) (goes-on text cursor line used (word-goes program m n a memory (s .0)))
+step-in text program (Words a) cursor line n used m {memory} (inr s) =
+    quietly (s .1) (goes-on text cursor line used (end-goes program m n a memory (s .0)))
+
+pub step-goes : {text program : List ℕ} {p q : Player} {memory piece after : List ℕ}
+    → PlayerStep text program p memory piece q after → Stepped text program p memory piece q after
+step-goes {text} {program} {p} s =
+    step-in text program (p .phase) (p .cursor) (p .line) (p .commits) (p .used) (p .machine) (s .made)
+
+-- ---- steps in a row
+
+pub steps-used : {text program : List ℕ} {size : ℕ} {p q : Player} {memory bytes after : List ℕ}
+    → PlayerSteps text program size p memory bytes q after → q .used ≡ p .used
+steps-used still = refl
+steps-used (onward piece s room step) = step-goes step .used ∙ steps-used s
+
+pub steps-lent : {text program : List ℕ} {size : ℕ} {p q : Player} {memory bytes after : List ℕ}
+    → PlayerSteps text program size p memory bytes q after → length after ≡ length memory
+steps-lent still = refl
+steps-lent (onward piece s room step) = step-goes step .lent ∙ steps-lent s
+
+steps-fall : {text program : List ℕ} {size : ℕ} {p q : Player} {memory bytes after : List ℕ}
+    → PlayerSteps text program size p memory bytes q after → weight text q after ≤ weight text p memory
+steps-fall still = omega arith
+steps-fall (onward piece s room step) = omega (arith, steps-fall s, step-goes step .falls)
+
+pub steps-go : {text program : List ℕ} {size : ℕ} {p q : Player} {memory bytes after : List ℕ}
+    → PlayerSteps text program size p memory bytes q after → Playing text program p memory
+    → (left text program p memory ≡ bytes ++ left text program q after) × Playing text program q after
+steps-go still playing = (refl, playing)
+steps-go {text} {program} (onward {bytes = bytes} {r = r} {w = w} piece s room step) playing =
+    let one = steps-go s playing in
+    let two = step-goes step .goes (one .1) in (
+      one .0 ∙ ap (λ (l : List ℕ). bytes ++ l) (two .0) ∙ sym (append-assoc bytes piece (left text program r w)),
+      two .1,
     )
 
--- no lines, where a call tells of no commit
-pub nothing-said : (out : List ℕ) (at : ℕ) → Writes out at (commitLines []) out at × (at ≤ at + longest)
-unfolding commitLines
-nothing-said out at = (writes-none out at, omega arith)
-
--- one line, where it tells of one
-pub commit-said : (i c r v : ℕ) {out into : List ℕ} {at end : ℕ}
-    → Writes out at (commitLine i c r v) into end × (end ≤ at + longest)
-    → Writes out at (commitLines (i ∷ c ∷ r ∷ v ∷ [])) into end × (end ≤ at + longest)
-unfolding commitLines
-commit-said i c r v put = rw append-nil put
-
--- where it asks for call c, which was made
-module _ {text : List ℕ} {cursor line next number : ℕ} {program : List ℕ} {m u : Machine} {memory after : List ℕ} {n j : ℕ}
-    {numbers : List ℕ} {out into : List ℕ} {at end : ℕ} {f : Phase} {asked : Ask} (stepping-on : f ≡ Stepping) where
-  calls : (c : Call) (a : Ask) → ((more : Steps) (x : Played) → leftBy program a more x ≡ transcript program x (before c more))
-      → turnedTo a ≡ Stepping → share a ≡ 1
-      → asked ≡ a → Orders text cursor line asked next number
-      → Does program c m memory n u after j numbers
-      → Writes out at (commitLines numbers) into end × (end ≤ at + longest)
-      → length after ≡ length memory
-      → Stepped text program (player f cursor line n m) memory out at (player f next number j u) after into end
-  calls c a asks stays one is orders d put lent =
-      let o = subst (λ (b : Ask). Orders text cursor line b next number) is orders in
-      subst
-      (λ (i : Phase).
-      Stepped text program (player i cursor line n m) memory out at (player i next number j u) after into end)
-      (sym stepping-on) (
-        record {
-          piece = commitLines numbers;
-          writes = put .0;
-          lent = lent;
-          goes = λ playing.
-              let fits = playing .fits refl in
-              let led = d .does (playing .used .sound) (few-commits playing refl) in (
-                o .asks (omega (arith, fits, playing .within, playing .numbered)) program m memory n
-                    ∙ asks (stepsAt text next number) (standing m memory n)
-                    ∙ told-before program (standing m memory n) c (stepsAt text next number) numbers (plain u) after j led
-                    (d .whole),
-                record {
-                  fits = λ _. fits;
-                  within = o .within (playing .within);
-                  used =
-                      record {
-                        sound = d .sound (playing .used .sound);
-                        linked = subst (λ (z : Played). Linked program (z .state) (z .memory)) led
-                            (respond-links program c (plain m) memory (playing .used .linked) .linked);
-                      };
-                  counted = omega (arith, playing .counted, o .shared, d .most-one, one);
-                  numbered = omega (arith, playing .numbered, o .numbered);
-                },
-              );
-        },
-        (
-          put .1,
-          omega (
-            arith,
-            o .falls (length memory),
-            ap (rank (length memory)) stays,
-            ap (λ (w : ℕ). rank w Stepping) lent,
-          ),
-        ),
-      )
-
-  pub commit-called : asked ≡ ask.Commit → Orders text cursor line asked next number
-      → Does program commit m memory n u after j numbers
-      → Writes out at (commitLines numbers) into end × (end ≤ at + longest)
-      → length after ≡ length memory
-      → Stepped text program (player f cursor line n m) memory out at (player f next number j u) after into end
-  commit-called = calls commit ask.Commit (λ more x. refl) refl refl
-
-module _ {text : List ℕ} {cursor line next number : ℕ} {program : List ℕ} {m u : Machine} {memory : List ℕ} {n : ℕ}
-    {f : Phase} {asked : Ask} (out : List ℕ) (at : ℕ) (stepping-on : f ≡ Stepping) where
-  pub issue-called : asked ≡ ask.Issue → Orders text cursor line asked next number → Does program issue m memory n u memory n []
-      → Stepped text program (player f cursor line n m) memory out at (player f next number n u) memory out at
-  issue-called is o d = calls stepping-on issue ask.Issue (λ more x. refl) refl refl is o d (nothing-said out at) refl
-
-  pub execute-called : (k : ℕ) → asked ≡ ask.Execute k → Orders text cursor line asked next number
-      → Does program (execute k) m memory n u memory n []
-      → Stepped text program (player f cursor line n m) memory out at (player f next number n u) memory out at
-  execute-called k is o d =
-      calls stepping-on (execute k) (ask.Execute k) (λ more x. refl) refl refl is o d (nothing-said out at) refl
-
-  pub squash-called : (k : ℕ) → asked ≡ ask.Squash k → Orders text cursor line asked next number
-      → Does program (squash k) m memory n u memory n []
-      → Stepped text program (player f cursor line n m) memory out at (player f next number n u) memory out at
-  squash-called k is o d =
-      calls stepping-on (squash k) (ask.Squash k) (λ more x. refl) refl refl is o d (nothing-said out at) refl
-
 -- ---- a whole buffer
-
--- no step was made yet, or the weight has fallen
-abbrev pub Moved : List ℕ → Player → List ℕ → Player → List ℕ → ℕ → Type 0
-Moved text p memory q after at =
-    ((at ≡ 0) × (q .phase ≡ p .phase) × (weight text q after ≡ weight text p memory))
-    ⊎ (weight text q after < weight text p memory)
 
 -- the steps so far into a buffer
 pub record Filling (text program : List ℕ) (p : Player) (memory out : List ℕ) (q : Player) (after into : List ℕ) (at : ℕ)
     : Type 0 where
-  pub tells : Tells text program p memory out 0 q after into at
+  pub bytes : List ℕ
+  pub steps : PlayerSteps text program (length out) p memory bytes q after
+  pub writes : Writes out 0 bytes into at
   pub within : at ≤ length out
-  pub moved : Moved text p memory q after at
 
 pub filling-none : (text program : List ℕ) (p : Player) (memory out : List ℕ)
     → Filling text program p memory out p memory out 0
 filling-none text program p memory out =
-    record { tells = tells-none text program p memory out 0; within = omega arith; moved = inl (refl, refl, refl) }
+    record { bytes = []; steps = still; writes = writes-none out 0; within = omega arith }
 
 -- the buffer keeps its length
 pub filling-size : {text program : List ℕ} {p q : Player} {memory out after into : List ℕ} {at : ℕ}
     → Filling text program p memory out q after into at → length into ≡ length out
-filling-size {out = out} f = ap length (f .tells .writes .written) ∙ length-sets out 0 (f .tells .piece)
+filling-size {out = out} f = ap length (f .writes .written) ∙ length-sets out 0 (f .bytes)
+
+-- one step more, whose piece was written
+pub record Written (text program : List ℕ) (p : Player) (memory out : List ℕ) (at : ℕ) (q : Player) (after into : List ℕ)
+    (end : ℕ) : Type 0 where
+  pub piece : List ℕ
+  pub step : PlayerStep text program p memory piece q after
+  pub writes : Writes out at piece into end
+  pub short : end ≤ at + longest
 
 pub filling-then : {text program : List ℕ} {p q r : Player} {memory out after later into last : List ℕ} {at end : ℕ}
     → Filling text program p memory out q after into at → at + longest ≤ length into
-    → Stepped text program q after into at r later last end
+    → Written text program q after into at r later last end
     → Filling text program p memory out r later last end
-filling-then {text} {program} {p} {q} {r} {memory} {after = after} {later} {at = at} f room s =
+filling-then {out = out} f room s =
+    let same = filling-size f in
     record {
-      tells = tells-then (f .tells) (s .0);
-      within = omega (arith, filling-size f, s .1 .0);
-      moved = inr (less (f .moved));
+      bytes = f .bytes ++ s .piece;
+      steps = onward (s .piece) (f .steps) (omega (arith, f .writes .ended, room, same)) (s .step);
+      writes = writes-then (f .writes) (s .writes);
+      within = omega (arith, same, s .short, room);
     }
-  where
-    less : Moved text p memory q after at → weight text r later < weight text p memory
-    less (inl same) = omega (arith, same .2, s .1 .1)
-    less (inr fell) = omega (arith, fell, s .1 .1)
 
--- the weight falls with the step
+-- and the weight falls with it
 pub filling-falls : {text program : List ℕ} {p q r : Player} {memory out after later into last : List ℕ} {at end : ℕ}
-    → Filling text program p memory out q after into at → Stepped text program q after into at r later last end
+    → Filling text program p memory out q after into at → Written text program q after into at r later last end
     → weight text r later < weight text q after
-filling-falls f s = s .1 .1
+filling-falls f s = step-goes (s .step) .falls
 
--- it ends where all is printed, or where no line more has room
-pub filling-over : {text program : List ℕ} {p q : Player} {memory out after into : List ℕ} {at : ℕ}
-    → Filling text program p memory out q after into at → isOver (q .phase) ≡ true
-    → Fills text program p memory out q after into at
-filling-over {text} {program} {p} {q} {memory} {after = after} {at = at} f over =
-    record { tells = f .tells; within = f .within; falls = λ going _. less going (f .moved) }
-  where
-    less : isOver (p .phase) ≡ false → Moved text p memory q after at
-        → weight text q after < weight text p memory
-    less going (inl same) =
-        let both : true ≡ false = sym over ∙ ap isOver (same .1) ∙ going in
-        absurd (let z : _≡_ {A = ℕ} 0 1 = cc in omega arith)
-    less going (inr fell) = fell
+-- it ends where all is printed or no line more has room
+pub filling-ends : {text program : List ℕ} {p q : Player} {memory out after into : List ℕ} {at : ℕ}
+    → Filling text program p memory out q after into at → (isOver (q .phase) ≡ true) ⊎ (length into < at + longest)
+    → (list : List ℕ) → take (p .used) list ≡ program
+    → Fills text list p memory out q after into at
+filling-ends {text} {p = p} {q} {memory} {out} {after} {at = at} f stops list own =
+    record {
+      bytes = f .bytes;
+      steps = subst (λ (l : List ℕ). PlayerSteps text l (length out) p memory (f .bytes) q after) (sym own) (f .steps);
+      writes = f .writes;
+      within = f .within;
+      stops = subst (λ (n : ℕ). (isOver (q .phase) ≡ true) ⊎ (n < at + longest)) (filling-size f) stops;
+    }
 
-pub filling-full : {text program : List ℕ} {p q : Player} {memory out after into : List ℕ} {at : ℕ}
-    → Filling text program p memory out q after into at → length into < at + longest
-    → Fills text program p memory out q after into at
-filling-full {text} {program} {p} {q} {memory} {out} {after} {at = at} f full =
-    record { tells = f .tells; within = f .within; falls = λ _ room. less room (f .moved) }
-  where
-    less : longest ≤ length out → Moved text p memory q after at
-        → weight text q after < weight text p memory
-    less room (inl same) = absurd (omega (arith, same .0, filling-size f))
-    less room (inr fell) = fell
+steps-moved : {text program : List ℕ} {size end : ℕ} {p q : Player} {memory bytes after : List ℕ}
+    → PlayerSteps text program size p memory bytes q after → end ≡ 0 + length bytes
+    → (isOver (q .phase) ≡ true) ⊎ (size < end + longest)
+    → isOver (p .phase) ≡ false → longest ≤ size
+    → weight text q after < weight text p memory
+steps-moved still ended (inl over) going room = absurd (true≢false (sym over ∙ going))
+steps-moved still ended (inr full) going room = absurd (omega (arith, ended, full, room))
+steps-moved (onward piece s _ step) ended stops going room = omega (arith, steps-fall s, step-goes step .falls)
+
+-- a call with room for a line on a player that is not over lowers the weight
+pub fills-falls : {text program : List ℕ} {p q : Player} {memory out after into : List ℕ} {end : ℕ}
+    → Fills text program p memory out q after into end → isOver (p .phase) ≡ false → longest ≤ length out
+    → weight text q after < weight text p memory
+fills-falls f going room = steps-moved (f .steps) (f .writes .ended) (f .stops) going room

@@ -8,10 +8,10 @@
 -- (Openings). The rest is the record theorem: the record and the memory that the calls come to are the run's. Assumes
 -- nothing.
 use mathlib.Core.Path.{_≡_, sym, ap, _∙_}
-use mathlib.Core.Bool.{true, false}
+use mathlib.Core.Bool.{Bool, true, false}
 use mathlib.Core.List.{List, _++_}
 use Prim.Native.Nat.{ℕ, _*_, _≤_}
-use lib.ListN.{length, take}
+use lib.ListN.{length}
 use Rattle.text.specs.Lines.{linesOf}
 use Rattle.theorem.proofs.Record.{record-theorem}
 use Rattle.script_model.specs.declared.Player.{Player}
@@ -42,15 +42,15 @@ script-truth text short sized =
     }
 
 -- So what the calls of `fill` hand out, once the player is over, is that of the sequential run.
-pub pieces-tell : (text program memory : List ℕ) (q : Player) (used : ℕ) (into after : List ℕ)
-    → Begins text program memory q used into after
-    → wronglyLent text program memory ≡ false
+pub pieces-tell : (text : List ℕ) (whole : Bool) (program memory : List ℕ) (q : Player) (into after : List ℕ)
+    → Begins text whole program memory q into after
+    → wronglyLent text whole program memory ≡ false
     → (pieces : List (List ℕ)) (r : Player) (w : List ℕ)
-    → Fillings text (take used into) q after pieces r w
+    → Fillings text into q after pieces r w
     → isOver (r .phase) ≡ true
     → length text ≤ most
     → let s = script (linesOf text) in
     Sized s → joined pieces ≡ commitLines (scriptRun s .record′) ++ closing (scriptPlayed s) (s .body .steps .flaw)
-pieces-tell text program memory q used into after begun lent pieces r w fills over short sized =
-    pieces-are text program memory q used into after begun lent pieces r w fills over
+pieces-tell text whole program memory q into after begun lent pieces r w fills over short sized =
+    pieces-are text whole program memory q into after begun lent pieces r w fills over
     ∙ script-truth text short sized .prints

@@ -105,5 +105,5 @@ abbrev pub messageRoom : ℕ
 messageRoom = 256
 
 -- what is written of a flaw: nothing where there is none, or where there may be no room
-abbrev pub written : List ℕ → Flaw → List ℕ
-written out f = cond (isFine (f .reason)) nothing (cond (ltb (length out) messageRoom) nothing (messageText f))
+abbrev pub messageIn : List ℕ → Flaw → List ℕ
+messageIn out f = cond (isFine (f .reason)) nothing (cond (ltb (length out) messageRoom) nothing (messageText f))

@@ -1,4 +1,3 @@
 -- How the player computes, and what holds of it between its calls: nothing that a reader has to believe.
-pub mod Invariant
 pub mod Parts
 pub mod Looking

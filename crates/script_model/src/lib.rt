@@ -36,19 +36,15 @@ pub enum Phase {
     Words(usize),
 }
 
-// A script being played: `cursor` is where its next line begins, and `line` that line's number.
+// A script being played: `cursor` is where its next line begins, `line` that line's number, and `used` how many places of the
+// lent program are its own.
 pub struct Player {
     pub phase: Phase,
     pub cursor: usize,
     pub line: u64,
     pub commits: u64,
-    pub machine: Machine,
-}
-
-// A player at its beginning, and how many places of the program its script uses.
-pub struct Begun {
-    pub player: Player,
     pub used: usize,
+    pub machine: Machine,
 }
 
 // A player after some output, and where that ends in the buffer.

@@ -191,7 +191,7 @@ pub fn words_of(s: &[u8]) -> usize
 // Reads the instructions from `from` on, where line 2 begins.
 pub fn read_program(s: &[u8], from: usize, program: &mut [u32]) -> Loaded
     requires { ⌜ 1024 ≤ length (now program) ⌝ }
-    ensures { λ r. ⌜ Loads (now (s .entry)) from (now (program .exit)) (r .cursor) (r .line) (r .used) ⌝ }
+    ensures { λ r. ⌜ Loads (now (s .entry)) from (now (program .entry)) (now (program .exit)) (r .cursor) (r .line) (r .used) ⌝ }
 {
     let mut cursor = from;
     let mut line: u64 = 2;

@@ -21,10 +21,8 @@ fn read_named(i: usize, into: &mut [u8]) -> usize
 fn play(s: &[u8], program: &mut [u32], memory: &mut [u32], out: &mut [u8]) -> usize
     ensures { λ r. ⌜ r ≤ length (now (out .exit)) ⌝ }
 {
-    let begun = script::begin(s, program, memory);
-    let used = begun.used;
-    let player = begun.player;
-    let piece = script::fill(player, s, &program[0..used], memory, out);
+    let player = script::begin(s, true, program, memory);
+    let piece = script::fill(player, s, program, memory, out);
     piece.end
 }
 

@@ -1,23 +1,29 @@
 -- `script::begin` meets its contract: each way it goes is one law of script_model/proofs/Beginnings.antt. The opening
 -- was lent the places of the program from 0 up to `used`. Assumes nothing.
-use mathlib.Core.Bool.{false}
+use mathlib.Core.Bool.{true, false}
+use mathlib.Core.List.{List}
 use mathlib.Core.Path.{_≡_, sym, _∙_}
+use Prim.Native.Nat.{_≤_}
 use native.Mathlib.Nat.{sub-zero}
+use native.Mathlib.Omega.{arith}
+use lib.ListN.{length}
 use borrow.Author.Needs.{needs}
-use Rattle.script_model.specs.Playing.{wronglyLent}
-use Rattle.script_model.proofs.Beginnings.{printed-long, printed-unheaded, lent-short, lent-other, lent-rightly, begins-over}
-use Rattle.script_model.proofs.Beginnings.{begins-bad, begins-open}
+use borrow.Author.Tests.{not-true, not-false}
+use Rattle.script_model.specs.Playing.{wordsOf}
+use Rattle.script_model.proofs.Beginnings.{lent-short, lent-other, lent-long, lent-whole, lent-cut, begins-over, begins-long}
+use Rattle.script_model.proofs.Beginnings.{begins-headless, begins-open}
 use Rattle.script.proofs.begin.Statement.{statement}
 use Rattle.script.proofs.begin.Tie as tie
 
--- past the second test the lent program and memory are right
-right-at : (c : tie.Else2)
+-- past the first test there is room for a program
+room-at : (c : tie.Else1) → 1024 ≤ length (c .before .before .before .before .args .program .now)
+room-at c = c .if1 .left
+
+-- past the second the memory is of the script's words
+words-at : (c : tie.Else2)
     → let args = c .before .before .before .before .before .before .args in
-    wronglyLent (args .s .now) (args .program .now) (args .memory .now) ≡ false
-right-at c =
-    let args = c .before .before .before .before .before .before .args in
-    lent-rightly (args .s .now) (args .program .now) (args .memory .now) (c .before .before .if1 .left)
-    (c .if2 .left ∙ c .before .words-of .ensures .0)
+    length (args .memory .now) ≡ wordsOf (args .s .now)
+words-at c = c .if2 .left ∙ c .before .words-of .ensures .0
 
 idle-requires : tie.Need-idle-requires
 idle-requires c κs = search needs
@@ -30,11 +36,10 @@ same-length-2 c = search needs
 
 returns : tie.Need-returns
 returns c =
-    let lent = c .before .before .before in
-    let args = lent .before .before .before .before .args in
-    begins-over (args .s .now) (args .program .now) (args .memory .now) (c .idle .result .player) (c .idle .result .used)
-    (lent-short (args .s .now) (args .program .now) (args .memory .now) (lent .if1 .taken)) (c .idle .ensures .1)
-    (c .idle .ensures .0)
+    let tested = c .before .before .before in
+    let args = tested .before .before .before .before .args in
+    begins-over (args .s .now) (args .whole) (args .program .now) (args .memory .now) _
+    (lent-short (args .s .now) (args .whole) (args .program .now) (args .memory .now) (tested .if1 .taken)) (c .idle .ensures)
 
 words-of-requires : tie.Need-words-of-requires
 words-of-requires c κs = search needs
@@ -50,12 +55,13 @@ same-length-4 c = search needs
 
 returns-2 : tie.Need-returns-2
 returns-2 c =
-    let lent = c .before .before .before in
-    let args = lent .before .before .before .before .before .before .args in
-    begins-over (args .s .now) (args .program .now) (args .memory .now) (c .idle2 .result .player) (c .idle2 .result .used)
-    (lent-other (args .s .now) (args .program .now) (args .memory .now) (lent .before .before .if1 .left)
-    (λ e. lent .if2 .taken (e ∙ sym (lent .before .words-of .ensures .0))))
-    (c .idle2 .ensures .1) (c .idle2 .ensures .0)
+    let tested = c .before .before .before in
+    let first = tested .before .before in
+    let args = first .before .before .before .before .args in
+    begins-over (args .s .now) (args .whole) (args .program .now) (args .memory .now) _
+    (lent-other (args .s .now) (args .whole) (args .program .now) (args .memory .now) (room-at first)
+    (λ e. tested .if2 .taken (e ∙ sym (tested .before .words-of .ensures .0))))
+    (c .idle2 .ensures)
 
 idle-requires-3 : tie.Need-idle-requires-3
 idle-requires-3 c κs = search needs
@@ -68,12 +74,33 @@ same-length-6 c = search needs
 
 returns-3 : tie.Need-returns-3
 returns-3 c =
-    let past = c .before .before .before .before in
-    let args = past .before .before .before .before .before .before .args in
-    let is = c .idle3 .ensures in
-    begins-bad (args .s .now) (args .program .now) (args .memory .now) (c .idle3 .result .player) (c .idle3 .result .used) 0
-    (right-at past) (printed-long (args .s .now) (c .before .before .before .if3 .taken)) (is .0) (is .1) (is .2) (is .3)
-    (is .4)
+    let tested = c .before .before .before in
+    let second = tested .before in
+    let args = second .before .before .before .before .before .before .args in
+    begins-long (args .s .now) (args .whole) (args .program .now) (args .memory .now) _
+    (lent-long (args .s .now) (args .whole) (args .program .now) (args .memory .now) (room-at (second .before .before))
+    (words-at second) (tested .if3 .taken))
+    (tested .if3 .taken) (c .idle3 .ensures)
+
+idle-requires-4 : tie.Need-idle-requires-4
+idle-requires-4 c κs = search needs
+
+same-length-7 : tie.Need-same-length-7
+same-length-7 c = search needs
+
+same-length-8 : tie.Need-same-length-8
+same-length-8 c = search needs
+
+returns-4 : tie.Need-returns-4
+returns-4 c =
+    let tested = c .before .before .before in
+    let third = tested .before in
+    let second = third .before in
+    let args = second .before .before .before .before .before .before .args in
+    begins-over (args .s .now) (args .whole) (args .program .now) (args .memory .now) _
+    (lent-cut (args .s .now) (args .whole) (args .program .now) (args .memory .now) (room-at (second .before .before))
+    (words-at second) (not-true (args .whole) (tested .if4 .taken)) (third .if3 .left))
+    (c .idle4 .ensures)
 
 read-header-requires : tie.Need-read-header-requires
 read-header-requires c κs = search needs
@@ -81,8 +108,8 @@ read-header-requires c κs = search needs
 enum-told : tie.Need-enum-told
 enum-told c = search needs
 
-idle-requires-4 : tie.Need-idle-requires-4
-idle-requires-4 c κs = search needs
+idle-requires-5 : tie.Need-idle-requires-5
+idle-requires-5 c κs = search needs
 
 enum-known-header : tie.Need-enum-known-header
 enum-known-header c = search needs
@@ -117,24 +144,6 @@ part-open-end c = search needs
 open-requires : tie.Need-open-requires
 open-requires c κs = search needs
 
-same-length-7 : tie.Need-same-length-7
-same-length-7 c = search needs
-
-same-length-8 : tie.Need-same-length-8
-same-length-8 c = search needs
-
-returns-4 : tie.Need-returns-4
-returns-4 c =
-    let told = c .before .before .before in
-    let past = told .before .before .before in
-    let args = past .before .before .before .before .before .before .before .args in
-    let is = c .idle4 .ensures in
-    begins-bad (args .s .now) (args .program .now) (args .memory .now) (c .idle4 .result .player) (c .idle4 .result .used) 1
-    (right-at (past .before))
-    (printed-unheaded (args .s .now) (past .if3 .left)
-    (sym (told .before .before .read-header .ensures) ∙ told .enum-told .given .1))
-    (is .0) (is .1) (is .2) (is .3) (is .4)
-
 same-length-9 : tie.Need-same-length-9
 same-length-9 c = search needs
 
@@ -143,14 +152,38 @@ same-length-10 c = search needs
 
 returns-5 : tie.Need-returns-5
 returns-5 c =
+    let told = c .before .before .before in
+    let header = told .before .before in
+    let fourth = header .before in
+    let third = fourth .before in
+    let second = third .before in
+    let args = second .before .before .before .before .before .before .args in
+    begins-headless (args .s .now) (args .whole) (args .program .now) (args .memory .now) _
+    (lent-whole (args .s .now) (args .whole) (args .program .now) (args .memory .now) (room-at (second .before .before))
+    (words-at second) (not-false (args .whole) (fourth .if4 .left)))
+    (third .if3 .left) (sym (header .read-header .ensures) ∙ told .enum-told .given .1) (c .idle5 .ensures)
+
+same-length-11 : tie.Need-same-length-11
+same-length-11 c = search needs
+
+same-length-12 : tie.Need-same-length-12
+same-length-12 c = search needs
+
+returns-6 : tie.Need-returns-6
+returns-6 c =
     let loaded = c .before .before .before .before .before .before .before in
     let cleared = loaded .before .before .before .before in
     let told = cleared .before .before .before in
-    let past = told .before .before .before in
-    let args = past .before .before .before .before .before .before .before .args in
-    begins-open (args .s .now) (args .program .now) (args .memory .now) _ _ _ _ _ _ _ _ _ _ _ _ _ (right-at (past .before))
-    (past .if3 .left) (sym (told .before .before .read-header .ensures) ∙ told .header .given .1)
-    (loaded .read-program .ensures) (search needs) (cleared .clear .ensures) (sub-zero _) (c .before .«open» .ensures)
+    let header = told .before .before in
+    let fourth = header .before in
+    let third = fourth .before in
+    let second = third .before in
+    let args = second .before .before .before .before .before .before .args in
+    begins-open (args .s .now) (args .whole) (args .program .now) (args .memory .now) _ _ _ _ _ _ _ _ _ _ _ _ _
+    (lent-whole (args .s .now) (args .whole) (args .program .now) (args .memory .now) (room-at (second .before .before))
+    (words-at second) (not-false (args .whole) (fourth .if4 .left)))
+    (third .if3 .left) (sym (header .read-header .ensures) ∙ told .header .given .1) (loaded .read-program .ensures)
+    (search needs) (cleared .clear .ensures) (sub-zero _) (c .before .«open» .ensures)
 
 pub begin-spec : {M : Type 1} → statement M
 begin-spec =
@@ -169,9 +202,13 @@ begin-spec =
     same-length-5
     same-length-6
     returns-3
+    idle-requires-4
+    same-length-7
+    same-length-8
+    returns-4
     read-header-requires
     enum-told
-    idle-requires-4
+    idle-requires-5
     enum-known-header
     clear-requires
     read-program-requires
@@ -183,9 +220,9 @@ begin-spec =
     part-open-start
     part-open-end
     open-requires
-    same-length-7
-    same-length-8
-    returns-4
     same-length-9
     same-length-10
-    returns-5)
+    returns-5
+    same-length-11
+    same-length-12
+    returns-6)

@@ -12,7 +12,7 @@ use Rattle.script_reading.proofs.read_program.Tie as tie
 
 abbrev Inv-loop : tie.InvT-loop
 Inv-loop s from program₀ cursor₀ line₀ used₀ program cursor line used =
-    (length program ≡ length program₀) × Reading s from program cursor line used
+    (length program ≡ length program₀) × Reading s from program₀ program cursor line used
 
 abbrev μ-loop : tie.MeasureT-loop
 μ-loop s from program₀ cursor₀ line₀ used₀ program cursor line used = 1024 - used
@@ -23,7 +23,7 @@ room-at : (c : tie.In-loop Inv-loop μ-loop)
     l .used + 4 ≤ length (l .program)
 room-at c =
     let l = c .before .loop in
-    omega (arith, c .loop-test .taken, l .inv .1 .lines, l .inv .1 .lent)
+    omega (arith, c .loop-test .taken, l .inv .1 .lines, l .inv .1 .room)
 
 loop-holds : tie.Need-loop-holds Inv-loop μ-loop
 loop-holds c =
@@ -42,7 +42,7 @@ same-length c = c .before .before .before .before .loop .inv .0
 returns : tie.Need-returns Inv-loop μ-loop
 returns c =
     let nothing = sym (c .before .before .find-operation .ensures) ∙ c .enum-told .given .1 in
-    reading-stops _ _ _ _ _ _ (c .before .before .before .before .loop .inv .1) nothing
+    reading-stops _ _ _ _ _ _ _ (c .before .before .before .before .loop .inv .1) nothing
 
 enum-known-found : tie.Need-enum-known-found Inv-loop μ-loop
 enum-known-found c = search needs
@@ -69,7 +69,7 @@ loop-again c =
     let turn = found .before .before .before in
     let l = turn .before .loop in (
       c .before .program .given ∙ l .inv .0,
-      reading-goes _ (l .program) _ _ _ _ _ _ _ _ _ _ (l .inv .1) (omega (arith, turn .loop-test .taken))
+      reading-goes _ _ (l .program) _ _ _ _ _ _ _ _ _ _ (l .inv .1) (omega (arith, turn .loop-test .taken))
           (sym (found .before .before .find-operation .ensures) ∙ found .found .given .1)
           (c .before .before .put-four .ensures),
     )
@@ -78,7 +78,7 @@ same-length-2 : tie.Need-same-length-2 Inv-loop μ-loop
 same-length-2 c = c .before .loop .inv .0
 
 returns-2 : tie.Need-returns-2 Inv-loop μ-loop
-returns-2 c = reading-ends _ _ _ _ _ _ (c .before .loop .inv .1) (omega (arith, c .loop-test .left))
+returns-2 c = reading-ends _ _ _ _ _ _ _ (c .before .loop .inv .1) (omega (arith, c .loop-test .left))
 
 pub read-program-spec : {M : Type 1} → statement M
 read-program-spec =

@@ -1,0 +1,26 @@
+-- `script_phrases::put` meets its contract: these bytes, as `text::put_text` writes them.
+-- Assumes nothing.
+use native.Mathlib.Omega.{arith}
+use Rattle.script_model.proofs.Writing.{writes-text}
+use borrow.Author.Needs.{needs}
+use Rattle.script_phrases.proofs.put.Statement.{statement}
+use Rattle.script_phrases.proofs.put.Tie as tie
+
+put-text-requires : tie.Need-put-text-requires
+put-text-requires c κs = search needs
+
+same-length : tie.Need-same-length
+same-length c = search needs
+
+returns : tie.Need-returns
+returns c =
+    let p = c .before .before .put-text .ensures in
+    (writes-text _ p, omega (arith, p .0))
+
+pub put-spec : {M : Type 1} → statement M
+put-spec =
+    tie.close
+    (tie.spec
+    put-text-requires
+    same-length
+    returns)
