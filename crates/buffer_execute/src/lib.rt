@@ -113,7 +113,7 @@ pub fn execute(mut t: Table, ticket: Ticket, action: Action, memory: &[u32]) -> 
             table: t,
         };
     }
-    let effect = engine::effect_of(
+    let effect = engine_steps::effect_of(
         banks,
         t.rows,
         stages,
@@ -136,21 +136,21 @@ pub fn execute(mut t: Table, ticket: Ticket, action: Action, memory: &[u32]) -> 
         };
     }
     let squash = squashed_from(oldest, stages, live, left, &t.numbers);
-    engine::cut(&mut t.loads, banks, oldest, stages, live, left);
-    engine::cut(&mut t.stores, banks, oldest, stages, live, left);
+    engine_steps::cut(&mut t.loads, banks, oldest, stages, live, left);
+    engine_steps::cut(&mut t.stores, banks, oldest, stages, live, left);
     t.live = left;
     t.executed = marks::including(executed, s);
-    engine::set_word(
+    engine_steps::set_word(
         &mut t.addresses,
         effect.load | effect.store,
         r,
         effect.address,
     );
-    engine::add_mark(&mut t.loads, effect.load, r, s);
-    engine::add_mark(&mut t.stores, effect.store, r, s);
-    engine::set_value(&mut t.values, effect.store, s, effect.value);
+    engine_steps::add_mark(&mut t.loads, effect.load, r, s);
+    engine_steps::add_mark(&mut t.stores, effect.store, r, s);
+    engine_steps::set_value(&mut t.values, effect.store, s, effect.value);
     ExecuteResult {
-        answer: ExecuteAnswer::Executed(engine::answered(effect.load, effect.value), squash),
+        answer: ExecuteAnswer::Executed(engine_steps::answered(effect.load, effect.value), squash),
         table: t,
     }
 }

@@ -26,18 +26,18 @@ pub fn open(banks: usize, rows: usize, stages: usize, words: usize, memory: &[u3
     if !table::sizes_fit(banks, rows, stages, words) {
         return DoneResult {
             answer: DoneAnswer::Refused(1),
-            table: engine::empty(0, 0, 0, 0),
+            table: engine_steps::empty(0, 0, 0, 0),
         };
     }
     if memory.len() != words {
         return DoneResult {
             answer: DoneAnswer::Refused(3),
-            table: engine::empty(0, 0, 0, 0),
+            table: engine_steps::empty(0, 0, 0, 0),
         };
     }
     DoneResult {
         answer: DoneAnswer::Done,
-        table: engine::empty(banks, rows, stages, words),
+        table: engine_steps::empty(banks, rows, stages, words),
     }
 }
 
@@ -135,8 +135,8 @@ pub fn squash(mut t: Table, ticket: Ticket) -> DoneResult
         };
     }
     let p = marks::position_of(oldest, stages, s);
-    engine::cut(&mut t.loads, banks, oldest, stages, live, p);
-    engine::cut(&mut t.stores, banks, oldest, stages, live, p);
+    engine_steps::cut(&mut t.loads, banks, oldest, stages, live, p);
+    engine_steps::cut(&mut t.stores, banks, oldest, stages, live, p);
     t.live = p;
     DoneResult {
         answer: DoneAnswer::Done,
@@ -189,21 +189,21 @@ pub fn commit(mut t: Table, memory: &mut [u32]) -> TicketResult
             table: t,
         };
     }
-    let mark = lookup::mark_at(banks, &t.addresses, &t.loads, &t.stores, &t.values, oldest);
-    if engine::mark_faults(mark, words) {
+    let mark = lookup_marks::mark_at(banks, &t.addresses, &t.loads, &t.stores, &t.values, oldest);
+    if engine_steps::mark_faults(mark, words) {
         return TicketResult {
             answer: TicketAnswer::Refused(13),
             table: t,
         };
     }
-    engine::write_back(memory, mark);
+    engine_steps::write_back(memory, mark);
     let number = t.numbers[oldest];
     let first = marks::stage_at(oldest, stages, 1);
     let stay = marks::first_stages(first, stages, live - 1);
     t.oldest = first;
     t.live = live - 1;
-    engine::keep(&mut t.loads, banks, stay);
-    engine::keep(&mut t.stores, banks, stay);
+    engine_steps::keep(&mut t.loads, banks, stay);
+    engine_steps::keep(&mut t.stores, banks, stay);
     TicketResult {
         answer: TicketAnswer::Named(Ticket {
             stage: oldest,

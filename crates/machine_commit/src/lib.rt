@@ -51,22 +51,22 @@ pub fn commit(mut m: Machine, program: &[u32], memory: &mut [u32]) -> CommitResu
             machine: m,
         };
     }
-    let mark = machine_steps::oldest_mark(e, engine::at_stage(&m.table.values, oldest));
-    if engine::mark_faults(mark, m.table.words) {
+    let mark = machine_steps::oldest_mark(e, engine_steps::at_stage(&m.table.values, oldest));
+    if engine_steps::mark_faults(mark, m.table.words) {
         return CommitResult {
             answer: CommitAnswer::Refused(13),
             machine: m,
         };
     }
-    engine::write_back(memory, mark);
+    engine_steps::write_back(memory, mark);
     let i = e.instruction;
     let v = machine_isa::value_of(e);
     let first = marks::stage_at(oldest, stages, 1);
     let stay = marks::first_stages(first, stages, live - 1);
     m.table.oldest = first;
     m.table.live = live - 1;
-    engine::keep(&mut m.table.loads, banks, stay);
-    engine::keep(&mut m.table.stores, banks, stay);
+    engine_steps::keep(&mut m.table.loads, banks, stay);
+    engine_steps::keep(&mut m.table.stores, banks, stay);
     machine_steps::write_register(&mut m.registers, i, v);
     CommitResult {
         answer: CommitAnswer::Committed(

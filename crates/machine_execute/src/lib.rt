@@ -65,7 +65,7 @@ pub fn execute(mut m: Machine, program: &[u32], p: usize, memory: &[u32]) -> Exe
             machine: m,
         };
     };
-    let effect = engine::effect_of(
+    let effect = engine_steps::effect_of(
         banks,
         m.table.rows,
         stages,
@@ -89,14 +89,14 @@ pub fn execute(mut m: Machine, program: &[u32], p: usize, memory: &[u32]) -> Exe
             machine: m,
         };
     }
-    engine::cut(&mut m.table.loads, banks, oldest, stages, live, left);
-    engine::cut(&mut m.table.stores, banks, oldest, stages, live, left);
+    engine_steps::cut(&mut m.table.loads, banks, oldest, stages, live, left);
+    engine_steps::cut(&mut m.table.stores, banks, oldest, stages, live, left);
     m.table.live = left;
     m.table.executed = marks::including(executed, s);
-    engine::set_word(&mut m.table.addresses, effect.load | effect.store, r, a);
-    engine::add_mark(&mut m.table.loads, effect.load, r, s);
-    engine::add_mark(&mut m.table.stores, effect.store, r, s);
-    engine::set_value(&mut m.table.values, effect.store, s, v);
+    engine_steps::set_word(&mut m.table.addresses, effect.load | effect.store, r, a);
+    engine_steps::add_mark(&mut m.table.loads, effect.load, r, s);
+    engine_steps::add_mark(&mut m.table.stores, effect.store, r, s);
+    engine_steps::set_value(&mut m.table.values, effect.store, s, v);
     m.window[s] = Entry {
         instruction,
         index: e.index,
@@ -106,7 +106,7 @@ pub fn execute(mut m: Machine, program: &[u32], p: usize, memory: &[u32]) -> Exe
     m.next = machine_steps::next_after(f.index, live, left, m.next);
     ExecuteResult {
         answer: ExecuteAnswer::Executed(
-            engine::answered(effect.load, v),
+            engine_steps::answered(effect.load, v),
             machine_steps::squashed_at(live, left),
         ),
         machine: m,

@@ -68,7 +68,7 @@ pub fn finish(
             m.table.live = 1;
             m.table.next = std::num::wrapping_add_u32(number, 1);
             m.table.executed = 0;
-            engine::set_number(&mut m.table.numbers, oldest, number);
+            engine_steps::set_number(&mut m.table.numbers, oldest, number);
             m.window[oldest] = Entry {
                 instruction: machine_isa::instruction_at(program, next as usize),
                 index: next,
@@ -84,7 +84,7 @@ pub fn finish(
             let instruction = e.instruction;
             let x = machine_steps::register(&m.registers, machine_isa::s_of(instruction));
             let y = machine_steps::register(&m.registers, machine_isa::second_of(instruction));
-            let effect = engine::effect_of(
+            let effect = engine_steps::effect_of(
                 banks,
                 m.table.rows,
                 stages,
@@ -102,14 +102,14 @@ pub fn finish(
             let left = effect.left;
             let v = effect.value;
             let a = effect.address;
-            engine::cut(&mut m.table.loads, banks, oldest, stages, live, left);
-            engine::cut(&mut m.table.stores, banks, oldest, stages, live, left);
+            engine_steps::cut(&mut m.table.loads, banks, oldest, stages, live, left);
+            engine_steps::cut(&mut m.table.stores, banks, oldest, stages, live, left);
             m.table.live = left;
             m.table.executed = marks::including(executed, oldest);
-            engine::set_word(&mut m.table.addresses, effect.load | effect.store, r, a);
-            engine::add_mark(&mut m.table.loads, effect.load, r, oldest);
-            engine::add_mark(&mut m.table.stores, effect.store, r, oldest);
-            engine::set_value(&mut m.table.values, effect.store, oldest, v);
+            engine_steps::set_word(&mut m.table.addresses, effect.load | effect.store, r, a);
+            engine_steps::add_mark(&mut m.table.loads, effect.load, r, oldest);
+            engine_steps::add_mark(&mut m.table.stores, effect.store, r, oldest);
+            engine_steps::set_value(&mut m.table.values, effect.store, oldest, v);
             let f = m.window[marks::stage_at(oldest, stages, left)];
             m.window[oldest] = Entry {
                 instruction,
@@ -121,22 +121,25 @@ pub fn finish(
         let banks = m.table.banks;
         let live = m.table.live;
         let done = m.window[oldest];
-        let mark = machine_steps::oldest_mark(done, engine::at_stage(&m.table.values, oldest));
-        if engine::mark_faults(mark, m.table.words) {
+        let mark = machine_steps::oldest_mark(
+            done,
+            engine_steps::at_stage(&m.table.values, oldest),
+        );
+        if engine_steps::mark_faults(mark, m.table.words) {
             return FinishResult {
                 answer: FinishAnswer::Finished(n),
                 machine: m,
             };
         }
-        engine::write_back(memory, mark);
+        engine_steps::write_back(memory, mark);
         let i = done.instruction;
         let v = machine_isa::value_of(done);
         let first = marks::stage_at(oldest, stages, 1);
         let stay = marks::first_stages(first, stages, live - 1);
         m.table.oldest = first;
         m.table.live = live - 1;
-        engine::keep(&mut m.table.loads, banks, stay);
-        engine::keep(&mut m.table.stores, banks, stay);
+        engine_steps::keep(&mut m.table.loads, banks, stay);
+        engine_steps::keep(&mut m.table.stores, banks, stay);
         machine_steps::write_register(&mut m.registers, i, v);
         machine_isa::put_four(
             list,

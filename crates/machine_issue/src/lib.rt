@@ -42,7 +42,7 @@ fn unopened(why: u32) -> DoneResult
 {
     DoneResult {
         answer: DoneAnswer::Refused(why),
-        machine: empty(engine::empty(0, 0, 0, 0), 0),
+        machine: empty(engine_steps::empty(0, 0, 0, 0), 0),
     }
 }
 
@@ -70,7 +70,7 @@ pub fn open(
     DoneResult {
         answer: DoneAnswer::Done,
         machine: empty(
-            engine::empty(banks, rows, stages, words),
+            engine_steps::empty(banks, rows, stages, words),
             (program.len() / 4) as u32,
         ),
     }
@@ -125,7 +125,7 @@ pub fn issue(mut m: Machine, program: &[u32]) -> IssueResult
     m.table.live = live + 1;
     m.table.next = std::num::wrapping_add_u32(number, 1);
     m.table.executed = executed & marks::first_stages(oldest, stages, live);
-    engine::set_number(&mut m.table.numbers, s, number);
+    engine_steps::set_number(&mut m.table.numbers, s, number);
     m.window[s] = Entry {
         instruction: machine_isa::instruction_at(program, next as usize),
         index: next,
@@ -176,8 +176,8 @@ pub fn squash(mut m: Machine, program: &[u32], p: usize) -> DoneResult
         };
     }
     let e = window[marks::stage_at(oldest, stages, p)];
-    engine::cut(&mut m.table.loads, banks, oldest, stages, live, p);
-    engine::cut(&mut m.table.stores, banks, oldest, stages, live, p);
+    engine_steps::cut(&mut m.table.loads, banks, oldest, stages, live, p);
+    engine_steps::cut(&mut m.table.stores, banks, oldest, stages, live, p);
     m.table.live = p;
     m.next = e.index;
     DoneResult {

@@ -1,0 +1,245 @@
+// What every engine does on a table: what an execution at a position comes to, how its parts are changed, what the commit of
+// a reference writes.
+//
+// Inner crate: helpers on lent arrays. A call of the buffer or of the machine checks first, then changes the table that it
+// was passed with these.
+use engine::Action;
+use engine::Effect;
+use lookup::Mark;
+use table::ROWS;
+use table::SLOTS;
+use table::STAGES;
+use table::Table;
+ghost use mathlib.Core.Path.{_≡_};
+ghost use mathlib.Core.Bool.{false, cond};
+ghost use Prim.Native.Nat.{_≤_, _<_};
+ghost use lib.ListN.{length, getD, set};
+ghost use Rattle.marks.specs.Stages.{width};
+ghost use Rattle.table.specs.Limits.{banksMost, rowsMost, stagesMost, slots, rowsIn};
+ghost use Rattle.lookup.specs.computed.Search.{markedFate};
+ghost use Rattle.engine.specs.Conditions.{faults};
+ghost use Rattle.engine.specs.Opening.{fresh};
+ghost use Rattle.engine.specs.Execution.{written};
+ghost use Rattle.engine.specs.computed.Steps.{within, cutMarks};
+ghost use Rattle.engine.specs.computed.Effect.{effectOf, marking};
+
+// A table with these sizes and nothing in it.
+pub fn empty(banks: usize, rows: usize, stages: usize, words: usize) -> Table
+    ensures { λ r. ⌜ r ≡ fresh banks rows stages words ⌝ }
+{
+    Table {
+        banks,
+        rows,
+        stages,
+        words,
+        oldest: 0,
+        live: 0,
+        next: 0,
+        executed: 0,
+        numbers: [0; STAGES],
+        addresses: [0; SLOTS],
+        loads: [0; SLOTS],
+        stores: [0; SLOTS],
+        values: [0; STAGES],
+    }
+}
+
+// What the action comes to at position `p`.
+pub fn effect_of<'a>(
+    banks: usize,
+    rows: usize,
+    stages: usize,
+    oldest: usize,
+    live: usize,
+    addresses: &'a [u32; SLOTS],
+    loads: &'a [u32; SLOTS],
+    stores: &'a [u32; SLOTS],
+    values: &'a [u32; STAGES],
+    p: usize,
+    action: Action,
+    memory: &[u32],
+) -> Effect
+    requires { ⌜ (0 < banks) × (banks ≤ banksMost) × (0 < rows) × (rows ≤ rowsMost)
+        × (oldest < stages) × (live ≤ stages) × (stages ≤ stagesMost) × (p < live) ⌝ }
+    requires { ⌜ (length (now addresses) ≡ slots) × (length (now loads) ≡ slots) × (length (now stores) ≡ slots) × (length (now
+        values) ≡ stagesMost) ⌝ }
+    ensures { λ r. ⌜ r
+        ≡ effectOf banks rows stages oldest live (now (addresses .entry)) (now (loads .entry)) (now (stores .entry)) (now
+        (values .entry)) p
+        (now (memory .entry)) action ⌝ }
+{
+    match action {
+        Action::Compute(v) => Effect {
+            load: false,
+            store: false,
+            row: 0,
+            left: live,
+            value: v,
+            address: 0,
+        },
+        Action::LoadAt(a) => {
+            let b = table::bank_of(banks, a);
+            let place = lookup_rows::load_place(
+                oldest,
+                stages,
+                live,
+                rows,
+                addresses,
+                loads,
+                stores,
+                b,
+                a,
+                p,
+            );
+            let r = place.row;
+            let v = lookup_marks::forwarded(
+                oldest,
+                stages,
+                stores,
+                values,
+                r,
+                p,
+                lookup_marks::word(memory, a),
+            );
+            Effect {
+                load: true,
+                store: false,
+                row: r,
+                left: place.left,
+                value: v,
+                address: a,
+            }
+        }
+        Action::StoreAt(a, v) => {
+            let b = table::bank_of(banks, a);
+            let place = lookup_rows::store_place(
+                oldest,
+                stages,
+                live,
+                rows,
+                addresses,
+                loads,
+                stores,
+                b,
+                a,
+                p,
+            );
+            Effect {
+                load: false,
+                store: true,
+                row: place.row,
+                left: place.left,
+                value: v,
+                address: a,
+            }
+        }
+    }
+}
+
+// Drops every mark outside the set `stay`.
+pub fn keep(words: &mut [u32; SLOTS], banks: usize, stay: u32)
+    requires { ⌜ (banks ≤ banksMost) × (length (now words) ≡ slots) ⌝ }
+    ensures { λ r. ⌜ now (words .exit) ≡ within (rowsIn banks) (now (words .entry)) stay ⌝ }
+{
+    let end = banks * ROWS;
+    let mut i = 0;
+    while i < end {
+        words[i] = words[i] & stay;
+        i += 1;
+    }
+}
+
+// Drops the marks of all but the first `left` of `live` references.
+pub fn cut(
+    words: &mut [u32; SLOTS],
+    banks: usize,
+    oldest: usize,
+    stages: usize,
+    live: usize,
+    left: usize,
+)
+    requires { ⌜ (banks ≤ banksMost) × (length (now words) ≡ slots) ⌝ }
+    requires { ⌜ (oldest < stages) × (left ≤ stages) × (stages ≤ width) ⌝ }
+    ensures { λ r. ⌜ now (words .exit) ≡ cutMarks banks oldest stages live left (now (words .entry)) ⌝ }
+{
+    if left < live {
+        keep(words, banks, marks::first_stages(oldest, stages, left));
+    }
+}
+
+// What stands at stage `s` of an array by stage.
+pub fn at_stage(a: &[u32; STAGES], s: usize) -> u32
+    requires { ⌜ (s < stagesMost) × (length (now a) ≡ stagesMost) ⌝ }
+    ensures { λ r. ⌜ r ≡ getD (now (a .entry)) s 0 ⌝ }
+{
+    a[s]
+}
+
+// Element `i` of an array by stage becomes `v`.
+pub fn set_number(a: &mut [u32; STAGES], i: usize, v: u32)
+    requires { ⌜ i < stagesMost ⌝ }
+    ensures { λ _. ⌜ now (a .exit) ≡ set (now (a .entry)) i v ⌝ }
+{
+    a[i] = v;
+}
+
+// The same of an array by row, where `on`: so there is one way through an execution, whatever is executed.
+pub fn set_word(a: &mut [u32; SLOTS], on: bool, i: usize, v: u32)
+    requires { ⌜ i < slots ⌝ }
+    ensures { λ _. ⌜ now (a .exit) ≡ cond on (set (now (a .entry)) i v) (now (a .entry)) ⌝ }
+{
+    if on {
+        a[i] = v;
+    }
+}
+
+pub fn set_value(a: &mut [u32; STAGES], on: bool, i: usize, v: u32)
+    requires { ⌜ i < stagesMost ⌝ }
+    ensures { λ _. ⌜ now (a .exit) ≡ cond on (set (now (a .entry)) i v) (now (a .entry)) ⌝ }
+{
+    if on {
+        a[i] = v;
+    }
+}
+
+// Stage `s` joins the mark word of row `i`, where `on`.
+pub fn add_mark(a: &mut [u32; SLOTS], on: bool, i: usize, s: usize)
+    requires { ⌜ (i < slots) × (s < 32) ⌝ }
+    ensures { λ _. ⌜ now (a .exit) ≡ marking (now (a .entry)) on i s ⌝ }
+{
+    if on {
+        let w = a[i];
+        a[i] = marks::including(w, s);
+    }
+}
+
+// The value that an execution answers: a load's, else 0.
+pub fn answered(load: bool, value: u32) -> u32
+    ensures { λ r. ⌜ r ≡ cond load value 0 ⌝ }
+{
+    if load {
+        return value;
+    }
+    0
+}
+
+// Whether the mark's address is `words` or more.
+pub fn mark_faults(mark: Mark, words: usize) -> bool
+    ensures { λ r. ⌜ r ≡ faults words (markedFate mark) ⌝ }
+{
+    match mark {
+        Mark::Absent => false,
+        Mark::Load(a) => words <= a as usize,
+        Mark::Store(a, _) => words <= a as usize,
+    }
+}
+
+// Writes a store's word to memory.
+pub fn write_back(memory: &mut [u32], mark: Mark)
+    requires { ⌜ faults (length (now memory)) (markedFate mark) ≡ false ⌝ }
+    ensures { λ r. ⌜ now (memory .exit) ≡ written (now (memory .entry)) (markedFate mark) ⌝ }
+{
+    if let Mark::Store(a, v) = mark {
+        memory[a as usize] = v;
+    }
+}

@@ -1,0 +1,198 @@
+// The rows of a bank: the row of an address, a free row, the row to evict, and with them the place of an execution.
+//
+// Inner crate: helpers on lent arrays. Positions are of the window of `stages` stages from stage `oldest` on.
+use lookup::Place;
+use table::ROWS;
+use table::SLOTS;
+ghost use mathlib.Core.Path.{_≡_};
+ghost use Prim.Native.Nat.{_-_, _≤_, _<_};
+ghost use lib.ListN.{length};
+ghost use Rattle.table.specs.Limits.{banksMost, rowsMost, stagesMost, slots};
+ghost use Rattle.table.specs.computed.Check.{marksOf};
+ghost use Rattle.lookup.specs.computed.Search.{
+  find,
+  chosen,
+  free,
+  oldestMark,
+  bankMark,
+  allocatedRow,
+  rowOf,
+  loadPlace,
+  storePlace,
+};
+
+// The position of the oldest mark of row `r`; `live` where it has none.
+fn row_mark<'a>(
+    oldest: usize,
+    stages: usize,
+    live: usize,
+    loads: &'a [u32; SLOTS],
+    stores: &'a [u32; SLOTS],
+    r: usize,
+) -> usize
+    requires { ⌜ (oldest < stages) × (live ≤ stages) × (stages ≤ stagesMost) × (r < slots) ⌝ }
+    requires { ⌜ (length (now loads) ≡ slots) × (length (now stores) ≡ slots) ⌝ }
+    ensures { λ m. ⌜ m ≡ oldestMark oldest stages live (marksOf (now (loads .entry)) (now (stores .entry)) r) ⌝ }
+{
+    lookup_marks::next_mark(oldest, stages, live, loads[r] | stores[r], 0)
+}
+
+// The place in bank `b` of the row whose oldest mark is youngest.
+fn youngest_row<'a>(
+    oldest: usize,
+    stages: usize,
+    live: usize,
+    rows: usize,
+    loads: &'a [u32; SLOTS],
+    stores: &'a [u32; SLOTS],
+    b: usize,
+) -> usize
+    requires { ⌜ (oldest < stages) × (live ≤ stages) × (stages ≤ stagesMost)
+        × (0 < rows) × (rows ≤ rowsMost) × (b < banksMost) ⌝ }
+    requires { ⌜ (length (now loads) ≡ slots) × (length (now stores) ≡ slots) ⌝ }
+    ensures { λ r. ⌜ (r < rows) × (r ≡ chosen (bankMark oldest stages live (now (loads .entry)) (now (stores .entry)) b) rows) ⌝ }
+{
+    let mut best = 0;
+    let mut mark = row_mark(oldest, stages, live, loads, stores, b * ROWS);
+    let mut i = 1;
+    while i < rows {
+        let m = row_mark(oldest, stages, live, loads, stores, b * ROWS + i);
+        if mark < m {
+            best = i;
+            mark = m;
+        }
+        i += 1;
+    }
+    best
+}
+
+// One more than the place in bank `b` of a free row, or 0.
+fn free_row<'a>(rows: usize, loads: &'a [u32; SLOTS], stores: &'a [u32; SLOTS], b: usize) -> usize
+    requires { ⌜ (rows ≤ rowsMost) × (b < banksMost) × (length (now loads) ≡ slots) × (length (now stores) ≡ slots) ⌝ }
+    ensures { λ r. ⌜ (r ≤ rows) × (r ≡ find (free (now (loads .entry)) (now (stores .entry)) b) rows) ⌝ }
+{
+    let mut i = rows;
+    while 0 < i {
+        let r = b * ROWS + (i - 1);
+        if (loads[r] | stores[r]) == 0 {
+            return i;
+        }
+        i -= 1;
+    }
+    0
+}
+
+// A row of bank `b` for an address that has none, for a reference at position `p`.
+pub fn take_row<'a>(
+    oldest: usize,
+    stages: usize,
+    live: usize,
+    rows: usize,
+    loads: &'a [u32; SLOTS],
+    stores: &'a [u32; SLOTS],
+    b: usize,
+    p: usize,
+) -> Place
+    requires { ⌜ (oldest < stages) × (live ≤ stages) × (stages ≤ stagesMost)
+        × (0 < rows) × (rows ≤ rowsMost) × (b < banksMost) ⌝ }
+    requires { ⌜ (length (now loads) ≡ slots) × (length (now stores) ≡ slots) ⌝ }
+    ensures { λ r. ⌜ r ≡ allocatedRow oldest stages live rows (now (loads .entry)) (now (stores .entry)) b p ⌝ }
+{
+    let i = free_row(rows, loads, stores, b);
+    if i != 0 {
+        return Place {
+            row: b * ROWS + (i - 1),
+            left: live,
+        };
+    }
+    let y = youngest_row(oldest, stages, live, rows, loads, stores, b);
+    let r = b * ROWS + y;
+    let m = row_mark(oldest, stages, live, loads, stores, r);
+    if p < m {
+        return Place { row: r, left: m };
+    }
+    Place { row: 0, left: 0 }
+}
+
+// One more than the place in bank `b` of the row of address `a`, or 0.
+pub fn row_of<'a>(
+    rows: usize,
+    addresses: &'a [u32; SLOTS],
+    loads: &'a [u32; SLOTS],
+    stores: &'a [u32; SLOTS],
+    b: usize,
+    a: u32,
+) -> usize
+    requires { ⌜ (rows ≤ rowsMost) × (b < banksMost) ⌝ }
+    requires { ⌜ (length (now addresses) ≡ slots) × (length (now loads) ≡ slots) × (length (now stores) ≡ slots) ⌝ }
+    ensures { λ r. ⌜ (r ≤ rows) × (r ≡ rowOf rows (now (addresses .entry)) (now (loads .entry)) (now (stores .entry)) b a) ⌝ }
+{
+    let mut i = rows;
+    while 0 < i {
+        let r = b * ROWS + (i - 1);
+        if !((loads[r] | stores[r]) == 0) & (addresses[r] == a) {
+            return i;
+        }
+        i -= 1;
+    }
+    0
+}
+
+// The row in which a load at position `p` of address `a`, of bank `b`, is marked, and how many references stay.
+pub fn load_place<'a>(
+    oldest: usize,
+    stages: usize,
+    live: usize,
+    rows: usize,
+    addresses: &'a [u32; SLOTS],
+    loads: &'a [u32; SLOTS],
+    stores: &'a [u32; SLOTS],
+    b: usize,
+    a: u32,
+    p: usize,
+) -> Place
+    requires { ⌜ (oldest < stages) × (live ≤ stages) × (stages ≤ stagesMost)
+        × (0 < rows) × (rows ≤ rowsMost) × (b < banksMost) ⌝ }
+    requires { ⌜ (length (now addresses) ≡ slots) × (length (now loads) ≡ slots) × (length (now stores) ≡ slots) ⌝ }
+    ensures { λ r. ⌜ r
+        ≡ loadPlace oldest stages live rows (now (addresses .entry)) (now (loads .entry)) (now (stores .entry)) b a p ⌝ }
+{
+    let i = row_of(rows, addresses, loads, stores, b, a);
+    if i == 0 {
+        return take_row(oldest, stages, live, rows, loads, stores, b, p);
+    }
+    Place {
+        row: b * ROWS + (i - 1),
+        left: live,
+    }
+}
+
+// The same of a store: a younger load of the address that saw an older word is squashed.
+pub fn store_place<'a>(
+    oldest: usize,
+    stages: usize,
+    live: usize,
+    rows: usize,
+    addresses: &'a [u32; SLOTS],
+    loads: &'a [u32; SLOTS],
+    stores: &'a [u32; SLOTS],
+    b: usize,
+    a: u32,
+    p: usize,
+) -> Place
+    requires { ⌜ (oldest < stages) × (live ≤ stages) × (stages ≤ stagesMost)
+        × (0 < rows) × (rows ≤ rowsMost) × (b < banksMost) × (p < live) ⌝ }
+    requires { ⌜ (length (now addresses) ≡ slots) × (length (now loads) ≡ slots) × (length (now stores) ≡ slots) ⌝ }
+    ensures { λ r. ⌜ r
+        ≡ storePlace oldest stages live rows (now (addresses .entry)) (now (loads .entry)) (now (stores .entry)) b a p ⌝ }
+{
+    let i = row_of(rows, addresses, loads, stores, b, a);
+    if i == 0 {
+        return take_row(oldest, stages, live, rows, loads, stores, b, p);
+    }
+    let r = b * ROWS + (i - 1);
+    Place {
+        row: r,
+        left: lookup_marks::first_met(oldest, stages, live, loads[r], stores[r], p),
+    }
+}
