@@ -3,7 +3,7 @@
 -- a prefix (good-take). An execution is right where it stands, since what Good has there is what the step looks up, and the
 -- younger entries stay right as more is known (good-set). A commit's entry is right over the committed registers and memory,
 -- so its value and address are those of the run's next step (run-goes), and what the next entry sees is then committed
--- (seen-register, seen-word): for that its destination must be a register, hence the well-formed program. The oldest entry
+-- (seen-register, seen-written): for that its destination must be a register, hence the well-formed program. The oldest entry
 -- is the run's next instruction, so the run ends before it only where its commit faults (ends-so). Assumes nothing.
 use mathlib.Core.Path.{_≡_, refl, sym, ap, subst, _∙_}
 use mathlib.Core.Bool.{Bool, true, false, cond, not, _&&_, _||_, true≢false}
@@ -14,8 +14,7 @@ use native.Mathlib.Nat.{not-suc-le-zero, suc-sub-suc, sub-zero}
 use native.Mathlib.Omega.{arith}
 use lib.Dec.{eqb, leb, ltb, leb·suc-suc, leb·suc-zero}
 use lib.ListN.{length, getD, take, drop, set, length-append, length-set}
-use lib.Seq.{getD-set-same, getD-set-other}
-use borrow.Author.Tests.{eqb-true, eqb-false, leb-true, leb-false, lt-ltb, lt-leb}
+use borrow.Author.Tests.{eqb-true, leb-true, leb-false, lt-ltb, lt-leb}
 use Rattle.marks.specs.Counting.{every}
 use Rattle.marks.proofs.Counts.{every-at}
 use Rattle.table.specs.Reference
@@ -23,6 +22,7 @@ use Rattle.table.specs.Reference.{waiting, other, loaded, stored}
 use Rattle.lookup.specs.Forwarding
 use Rattle.engine.specs.Execution.{written}
 use Rattle.engine.specs.Conditions.{faults}
+use Rattle.engine.proofs.Written.{set-test, seen-written}
 use Rattle.machine_model.specs.declared.Instruction.{Instruction}
 use Rattle.machine_model.specs.declared.Instruction.the-variants.{Add, Sum, Load, Store}
 use Rattle.machine_model.specs.declared.Fate.{Fate}
@@ -217,15 +217,6 @@ module _ (program memory : List ℕ) (c : Core) (e : Entry) (es : List Entry) (k
         ∙ ap (does (runOf c e)) (sym (good-oldest .1))
         ∙ does-so (runOf c e) (e .instruction) (e .fate) comes .0
 
--- a list after a set, by a test of the index
-set-test : {A : Type 0} (g : ℕ → A) (l : List ℕ) (d k v : ℕ) → d < length l
-    → cond (eqb d k) (g v) (g (getD l k 0)) ≡ g (getD (set l d v) k 0)
-set-test g l d k v h = go (eqb d k) refl
-  where
-    go : (t : Bool) → eqb d k ≡ t → cond t (g v) (g (getD l k 0)) ≡ g (getD (set l d v) k 0)
-    go true e = rw (← eqb-true d k e) (ap g (sym (getD-set-same l d v 0 h)))
-    go false e = ap g (sym (getD-set-other l d k v 0 (λ i. eqb-false d k e (sym i))))
-
 -- what is seen past an executed oldest entry is what its commit leaves
 seen-register : (l : List ℕ) (i : Instruction) (f : Fate) (k : ℕ) → waits f ≡ false → dOf i < length l
     → cond (writesTo i k) (valueOf f) (some (getD l k 0)) ≡ some (getD (registersAfter l i (valueBy f)) k 0)
@@ -234,13 +225,6 @@ seen-register l (Add d s imm) (Executed v a) k w h = set-test some l d k v h
 seen-register l (Sum d s r) (Executed v a) k w h = set-test some l d k v h
 seen-register l (Load d s imm) (Executed v a) k w h = set-test some l d k v h
 seen-register l (Store d s imm) (Executed v a) k w h = refl
-
-seen-word : (memory : List ℕ) (r : Reference.Fate) (b : ℕ) → faults (length memory) r ≡ false
-    → Forwarding.wordAfter r b (getD memory b 0) ≡ getD (written memory r) b 0
-seen-word memory waiting b h = refl
-seen-word memory other b h = refl
-seen-word memory (loaded a) b h = refl
-seen-word memory (stored a v) b h = set-test (λ (x : ℕ). x) memory a b v (leb-false (length memory) a h)
 
 -- ---- the destinations exist
 
@@ -342,7 +326,7 @@ module _ (program memory : List ℕ) where
         fours = simp length-append (omega (arith, kept .fours));
         good = good-more program (c .next) es _ _ _ _
             (λ j v h. sym (seen-register (c .registers) (e .instruction) (e .fate) j w lies) ∙ h)
-            (λ b h. seen-word (c .memory) (reference e) b f)
+            (λ b h. seen-written (c .memory) (reference e) b f)
             (g .4);
       }
 
