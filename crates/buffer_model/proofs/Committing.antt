@@ -23,10 +23,10 @@ use Rattle.engine.proofs.Narrowing.{retire-rules, retire-view}
 use Rattle.engine.specs.Conditions.{hasExecuted, faults}
 use Rattle.engine.specs.Contract.{refused, named}
 use Rattle.engine.specs.Execution.{written}
-use Rattle.engine.proofs.Fated.{executed-at, mark-fate}
+use Rattle.engine.proofs.Fated.{executed-at, mark-told, told-faults, told-written}
 use Rattle.buffer_model.specs.Calls.{commit}
 use Rattle.buffer_model.specs.Contract.{Meets}
-use Rattle.lookup.specs.computed.Search.{markOf, markedFate}
+use Rattle.lookup.specs.computed.Search.{markOf, markBy, markedFate}
 use Rattle.buffer_model.proofs.MeetingContract.{refused-meets, accepted-meets}
 
 -- what the marks say of the oldest reference
@@ -60,17 +60,22 @@ module _ (t : Table) (rules : Rules t) (m : List ℕ) where
         (λ z. omega arith)
 
     module _ (done : has (t .executed) (t .oldest) ≡ true) where
-      oldest-fate : fateOf (at (view t .refs) 0) ≡ oldestFate t
-      oldest-fate =
-          sym (mark-fate t 0 some (ap (has (t .executed)) oldest-stage ∙ done))
-          ∙ ap (λ (s : ℕ). markedFate (markOf (t .addresses) (t .loads) (t .stores) (t .values) s (rowsIn (t .banks))))
-          oldest-stage
+      -- what the marks of the oldest's stage say is what its fate says of the commit
+      oldest-told : oldestFate t ≡ markedFate (markBy (fateOf (at (view t .refs) 0)))
+      oldest-told =
+          ap (λ (s : ℕ). markedFate (markOf (t .addresses) (t .loads) (t .stores) (t .values) s (rowsIn (t .banks))))
+          (sym oldest-stage)
+          ∙ ap markedFate (mark-told t 0 some (ap (has (t .executed)) oldest-stage ∙ done))
+
+      oldest-faults : faults (t .words) (fateOf (at (view t .refs) 0)) ≡ faults (t .words) (oldestFate t)
+      oldest-faults =
+          sym (ap (faults (t .words)) oldest-told ∙ told-faults (t .words) (fateOf (at (view t .refs) 0)))
 
       -- refusal 13: the oldest's address is W or more
       pub fault-refused : faults (t .words) (oldestFate t) ≡ true → Meets t commit m (refused 13) t m
       fault-refused f =
           refused-meets t commit m rules 13
-          (rw (eq-eqb (length m) (t .words) w, some-live, oldest-executed ∙ done, ap (faults (t .words)) oldest-fate ∙ f))
+          (rw (eq-eqb (length m) (t .words) w, some-live, oldest-executed ∙ done, oldest-faults ∙ f))
           (λ z. omega arith)
 
       -- the oldest reference leaves the window, and memory is what its fate makes of it
@@ -80,12 +85,12 @@ module _ (t : Table) (rules : Rules t) (m : List ℕ) where
           (written m (oldestFate t))
       commit-meets f =
           accepted-meets t commit m rules
-          (rw (eq-eqb (length m) (t .words) w, some-live, oldest-executed ∙ done, ap (faults (t .words)) oldest-fate ∙ f))
+          (rw (eq-eqb (length m) (t .words) w, some-live, oldest-executed ∙ done, oldest-faults ∙ f))
           (named (record { stage = t .oldest; number = getD (t .numbers) (t .oldest) 0 }))
           (narrowed t (stageOf t 1) (t .live - 1))
           (written m (oldestFate t))
           (rw (at-refs t 0 some, oldest-stage))
           (retire-view t rules some)
-          (ap (written m) (sym oldest-fate))
+          (ap (written m) oldest-told ∙ told-written m (fateOf (at (view t .refs) 0)))
           refl
           (retire-rules t rules some)

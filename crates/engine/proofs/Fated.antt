@@ -1,33 +1,30 @@
--- A live reference has executed where the bit of its stage is set, and then its fate is what the marks of its stage say: of a
--- store the word is the stage's value (stored-word).
+-- A live reference has executed where the bit of its stage is set, and then what the marks of its stage say is what its fate
+-- says of a commit (mark-told), of a store with the stage's value as its word (stored-word).
 -- Assumes nothing.
 use mathlib.Core.Path.{_≡_, refl, sym, ap, _∙_}
-use mathlib.Core.Bool.{Bool, true, false, cond}
+use mathlib.Core.Bool.{Bool, true, false, cond, _||_}
+use mathlib.Core.List.{List}
 use Prim.Native.Nat.{ℕ, zero, suc, _<_}
 use native.Mathlib.Omega.{arith}
 use Rattle.marks.specs.Stages.{has}
 use Rattle.table.specs.declared.Table.{Table}
 use Rattle.table.specs.Limits.{rowsIn}
-use Rattle.table.specs.Reference.{Fate, waiting, loaded, stored, fateOf, at}
-use Rattle.table.specs.View.{stageOf, storeMark, loadMark, address, value, markFate, view}
+use Rattle.table.specs.Reference.{Fate, waiting, other, accessed, lacks, holds, fateOf, at}
+use Rattle.table.specs.View.{stageOf, storeMark, loadMark, mark, address, value, wordIf, access, markFate, view}
 use Rattle.table.proofs.Fates.{at-refs}
-use Rattle.lookup.specs.computed.Search.{markOf, markedFate}
-use Rattle.lookup.proofs.Telling.{marks-fate}
-use Rattle.engine.specs.Conditions.{hasExecuted}
-
--- a row's marks, or what an executed reference came to before: in either case it has executed
-row-executed : (x y : Bool) (a b v : ℕ) (f : Fate) → hasExecuted f ≡ true
-    → hasExecuted (cond x (stored a v) (cond y (loaded b) f)) ≡ true
-row-executed true y a b v f h = refl
-row-executed false true a b v f h = refl
-row-executed false false a b v f h = h
+use Rattle.lookup.specs.computed.Search.{markOf, markBy, markedFate}
+use Rattle.lookup.proofs.Telling.{marks-told}
+use Rattle.engine.specs.Conditions.{hasExecuted, faults}
+use Rattle.engine.specs.Execution.{written}
 
 marks-executed : (t : Table) (s k : ℕ) → hasExecuted (markFate t s k) ≡ true
 unfolding markFate
 marks-executed t s zero = refl
-marks-executed t s (suc k) =
-    row-executed (storeMark t k s) (loadMark t k s) (address t k) (address t k) (value t s) (markFate t s k)
-    (marks-executed t s k)
+marks-executed t s (suc k) = go (mark t k s) (marks-executed t s k)
+  where
+    go : (b : Bool) → hasExecuted (markFate t s k) ≡ true → hasExecuted (cond b (access t k s) (markFate t s k)) ≡ true
+    go true h = refl
+    go false h = h
 
 -- an executed stage has a fate that is not waiting
 by-bit : (b : Bool) (f : Fate) → hasExecuted f ≡ true → hasExecuted (cond b f waiting) ≡ b
@@ -41,31 +38,45 @@ module _ (t : Table) (p : ℕ) (h : p < t .live) where
       (by-bit (has (t .executed) (stageOf t p)) (markFate t (stageOf t p) (rowsIn (t .banks))) (marks-executed t (stageOf t p)
       (rowsIn (t .banks))))
 
-  -- the fate of an executed live reference, from the marks of its stage
-  pub mark-fate : has (t .executed) (stageOf t p) ≡ true
-      → markedFate (markOf (t .addresses) (t .loads) (t .stores) (t .values) (stageOf t p) (rowsIn (t .banks)))
-      ≡ fateOf (at (view t .refs) p)
-  mark-fate e = rw (at-refs t p h, e) (marks-fate t (stageOf t p) (rowsIn (t .banks)))
+  -- what the marks of its stage say of an executed live reference
+  pub mark-told : has (t .executed) (stageOf t p) ≡ true
+      → markOf (t .addresses) (t .loads) (t .stores) (t .values) (stageOf t p) (rowsIn (t .banks))
+      ≡ markBy (fateOf (at (view t .refs) p))
+  mark-told e = rw (at-refs t p h, e) (marks-told t (stageOf t p) (rowsIn (t .banks)))
 
--- the word of a row's store mark, or of what the rows before it say
-row-word : (x y : Bool) (b u : ℕ) (f : Fate) (a v : ℕ) → (f ≡ stored a v → u ≡ v)
-    → cond x (stored b u) (cond y (loaded b) f) ≡ stored a v → u ≡ v
-row-word true y b u f a v rest e = cc
-row-word false true b u f a v rest e = absurd (let z : _≡_ {A = ℕ} 0 1 = cc in omega arith)
-row-word false false b u f a v rest e = rest e
+-- what a fate says of a commit is all that the commit goes by
+pub told-faults : (words : ℕ) (f : Fate) → faults words (markedFate (markBy f)) ≡ faults words f
+told-faults words waiting = refl
+told-faults words other = refl
+told-faults words (accessed a l lacks) = refl
+told-faults words (accessed a l (holds v)) = refl
+
+pub told-written : (memory : List ℕ) (f : Fate) → written memory (markedFate (markBy f)) ≡ written memory f
+told-written memory waiting = refl
+told-written memory other = refl
+told-written memory (accessed a l lacks) = refl
+told-written memory (accessed a l (holds v)) = refl
 
 -- what the marks of the first k rows say of a stage that stored
-marks-word : (t : Table) (s k a v : ℕ) → markFate t s k ≡ stored a v → value t s ≡ v
+marks-word : (t : Table) (s k a v : ℕ) (l : Bool) → markFate t s k ≡ accessed a l (holds v) → value t s ≡ v
 unfolding markFate
-marks-word t s zero a v e = absurd (let z : _≡_ {A = ℕ} 0 1 = cc in omega arith)
-marks-word t s (suc k) a v e =
-    row-word (storeMark t k s) (loadMark t k s) (address t k) (value t s) (markFate t s k) a v (marks-word t s k a v) e
+marks-word t s zero a v l e = absurd (let z : _≡_ {A = ℕ} 0 1 = cc in omega arith)
+marks-word t s (suc k) a v l e = go (loadMark t k s) (storeMark t k s) (marks-word t s k a v l) e
+  where
+    go : (ld st : Bool) → (markFate t s k ≡ accessed a l (holds v) → value t s ≡ v)
+        → cond (ld || st) (accessed (address t k) ld (wordIf st (value t s))) (markFate t s k) ≡ accessed a l (holds v)
+        → value t s ≡ v
+    go true true rest f = cc
+    go false true rest f = cc
+    go true false rest f = absurd (let z : _≡_ {A = ℕ} 0 1 = cc in omega arith)
+    go false false rest f = rest f
 
 -- the word of a live store is its stage's value
-pub stored-word : (t : Table) (p a v : ℕ) → p < t .live → fateOf (at (view t .refs) p) ≡ stored a v
+pub stored-word : (t : Table) (p a v : ℕ) (l : Bool) → p < t .live → fateOf (at (view t .refs) p) ≡ accessed a l (holds v)
     → value t (stageOf t p) ≡ v
-stored-word t p a v h e = go (has (t .executed) (stageOf t p)) (sym (ap fateOf (at-refs t p h)) ∙ e)
+stored-word t p a v l h e = go (has (t .executed) (stageOf t p)) (sym (ap fateOf (at-refs t p h)) ∙ e)
   where
-    go : (b : Bool) → cond b (markFate t (stageOf t p) (rowsIn (t .banks))) waiting ≡ stored a v → value t (stageOf t p) ≡ v
-    go true f = marks-word t (stageOf t p) (rowsIn (t .banks)) a v f
+    go : (b : Bool) → cond b (markFate t (stageOf t p) (rowsIn (t .banks))) waiting ≡ accessed a l (holds v)
+        → value t (stageOf t p) ≡ v
+    go true f = marks-word t (stageOf t p) (rowsIn (t .banks)) a v l f
     go false f = absurd (let z : _≡_ {A = ℕ} 0 1 = cc in omega arith)

@@ -1,6 +1,6 @@
 -- Refusing: the smallest number. Meeting: how a contract is met. Opening: a fresh table. Lengths: the arrays' lengths.
 -- Reaching: mark words cut below an end. Fewer: a table with fewer marks. Growing: issue. Narrowing: squash and commit. Marking:
--- a mark set. Fated: a reference's fate by the marks of its stage. Rowed: the row of a load's place. Executed: what an execution
+-- a mark set. Fated: a reference's fate by the marks of its stage. Executed: what an execution
 -- leaves. Written: what a commit leaves in memory.
 pub mod Refusing
 pub mod Meeting
@@ -12,6 +12,5 @@ pub mod Narrowing
 pub mod Growing
 pub mod Marking
 pub mod Fated
-pub mod Rowed
 pub mod Executed
 pub mod Written

@@ -1,10 +1,10 @@
 -- A reference that executes: what it marks. `executing` is the table with its stage s executed and some arrays changed;
--- load, store and other references are instances. A stage that has not executed bears no mark (idle-bare). Where the
+-- other references and accesses of a word are instances. A stage that has not executed bears no mark (idle-bare). Where the
 -- marks change at s alone, and there in row r alone (Gains), and r is a's row (RowFor), the rules stay: at s the only mark
 -- is r's, at another stage everything is as it was, and another row has another address than a (marked-rules). The
 -- reference has the fate that its mark says, and no other fate changes, since a mark of another reference in r was of
 -- address a before, too (marked-view). Assumes nothing.
-use mathlib.Core.Bool.{Bool, true, false, _||_, true≢false, or-true, or-false}
+use mathlib.Core.Bool.{Bool, true, false, cond, _||_, true≢false, or-true, or-false}
 use mathlib.Core.List.{List}
 use mathlib.Core.Logic.{_⊎_, inl, inr, ⊎-elim}
 use mathlib.Core.Path.{_≡_, refl, sym, ap, ap₂, subst, subst₂, _∙_}
@@ -22,13 +22,14 @@ use Rattle.marks.proofs.Turns.{stage-lt, position-stage, stage-injective}
 use Rattle.table.specs.declared.Table.{Table}
 use Rattle.table.specs.Limits.{rowsIn}
 use Rattle.table.specs.Moves.{windowed, withFate}
-use Rattle.table.specs.Reference.{Fate, other, loaded, stored, ref, numberOf, at}
+use Rattle.table.specs.Reference.{Fate, other, accessed, ref, numberOf, at}
 use Rattle.table.specs.Rules.{Live, Rules}
-use Rattle.table.specs.View.{stageOf, address, loadMark, storeMark, mark, value, fateAt, refAt, view}
-use Rattle.table.proofs.Fates.{mark-load, mark-kind, no-load, no-store, fates-same, fate-load, fate-store, fate-other, at-refs}
+use Rattle.table.specs.View.{stageOf, address, loadMark, storeMark, mark, value, wordIf, access, fateAt, refAt}
+use Rattle.table.specs.View.{view}
+use Rattle.table.proofs.Fates.{mark-load, mark-kind, no-load, no-store, side-same, fates-same, fate-marked, fate-other, at-refs}
 use Rattle.table.proofs.Lists.{tabulate-set}
 use Rattle.table.proofs.Owning.{RowFor, row-small, row-of-mark, mark-position}
-use Rattle.engine.specs.computed.Steps.{executing, noted, withStage, loadMarked, storeMarked}
+use Rattle.engine.specs.computed.Steps.{executing, noted, withStage, marking, accessMarked}
 use Rattle.engine.proofs.Fewer.{fewer-rules}
 use Rattle.engine.proofs.Lengths.{Lengths, stage-small}
 
@@ -43,13 +44,17 @@ more-other w s u h =
 more-had : (w s u : ℕ) → has w u ≡ true → has (bitOr w (2 ^ s)) u ≡ true
 more-had w s u h = has-or w (2 ^ s) u ∙ ap (λ (b : Bool). b || has (2 ^ s) u) h
 
-marking-here : (words : List ℕ) (r s : ℕ) → r < length words → has (getD (withStage words r s) r 0) s ≡ true
-marking-here words r s h =
+-- row r has the stage where it gains it
+marking-here : (words : List ℕ) (on : Bool) (r s : ℕ) → r < length words → has (getD words r 0) s ≡ false
+    → has (getD (marking words on r s) r 0) s ≡ on
+marking-here words true r s h n =
     ap (λ (w : ℕ). has w s) (getD-set-same words r (bitOr (getD words r 0) (2 ^ s)) 0 h) ∙ more-here (getD words r 0) s
+marking-here words false r s h n = n
 
-marking-other : (words : List ℕ) (r s : ℕ) → r < length words
-    → (q u : ℕ) → (u ≡ s → ⊥) → has (getD (withStage words r s) q 0) u ≡ has (getD words q 0) u
-marking-other words r s h q u d = go (eqb q r) refl
+marking-other : (words : List ℕ) (on : Bool) (r s : ℕ) → r < length words
+    → (q u : ℕ) → (u ≡ s → ⊥) → has (getD (marking words on r s) q 0) u ≡ has (getD words q 0) u
+marking-other words false r s h q u d = refl
+marking-other words true r s h q u d = go (eqb q r) refl
   where
     word : ℕ
     word = bitOr (getD words r 0) (2 ^ s)
@@ -61,9 +66,10 @@ marking-other words r s h q u d = go (eqb q r) refl
     go false e = ap (λ (w : ℕ). has w u) (getD-set-other words r q word 0 (eqb-false q r e))
 
 -- no other row gains the stage
-marking-row : (words : List ℕ) (r s q : ℕ) → has (getD words q 0) s ≡ false → has (getD (withStage words r s) q 0) s ≡ true
-    → q ≡ r
-marking-row words r s q n m = go (eqb q r) refl
+marking-row : (words : List ℕ) (on : Bool) (r s q : ℕ) → has (getD words q 0) s ≡ false
+    → has (getD (marking words on r s) q 0) s ≡ true → q ≡ r
+marking-row words false r s q n m = absurd (true≢false (sym m ∙ n))
+marking-row words true r s q n m = go (eqb q r) refl
   where
     go : (b : Bool) → eqb q r ≡ b → q ≡ r
     go true e = eqb-true q r e
@@ -243,63 +249,65 @@ module _ (t : Table) (rules : Rules t) (lengths : Lengths t) (p a r : ℕ) (here
       (λ k b m. address-old k (stageOf t q) b m)
       (λ k b m. gains .value-else (stageOf t q) d))
 
-module _ (t : Table) (rules : Rules t) (lengths : Lengths t) (p a r : ℕ) (here : p < t .live)
-    (idle : has (t .executed) (stageOf t p) ≡ false) (row : RowFor t a r (t .live)) where
-  load-gains : Gains t r (stageOf t p) (withStage (t .loads) r (stageOf t p)) (t .stores) (t .values)
-  load-gains =
-      let bare = idle-bare t rules (stageOf t p) idle in
-      let none : (q : ℕ) → q < rowsIn (t .banks) → storeMark t q (stageOf t p) ≡ true → ⊥ =
-      λ q h m. true≢false (sym m ∙ no-store t q (stageOf t p) (bare q h)) in
-      record {
-        load-else = marking-other (t .loads) r (stageOf t p) (omega (arith, row-small t rules r (row .row), lengths .loads));
-        store-else = λ q u d. refl;
-        load-row = λ q h m. marking-row (t .loads) r (stageOf t p) q (no-load t q (stageOf t p) (bare q h)) m;
-        store-row = λ q h m. absurd (none q h m);
-        one = λ l m. none r (row .row) m;
-        value-else = λ u d. refl;
-      }
-
-  pub load-rules : Rules (loadMarked t r (stageOf t p) a)
-  load-rules =
-      marked-rules t rules lengths p a r here row (withStage (t .loads) r (stageOf t p)) (t .stores) (t .values) load-gains
-
-  pub load-view : view (loadMarked t r (stageOf t p) a) ≡ withFate (view t) p (loaded a)
-  load-view =
-      let s = stageOf t p in
-      marked-view t rules lengths p a r here row (withStage (t .loads) r s) (t .stores) (t .values) load-gains (loaded a)
-      (fate-load (loadMarked t r s a) load-rules r s (row .row)
-      (marking-here (t .loads) r s (omega (arith, row-small t rules r (row .row), lengths .loads)))
-      ∙ ap loaded (address-here t rules lengths p a r here row (withStage (t .loads) r s) (t .stores) (t .values) load-gains))
-
 module _ (t : Table) (rules : Rules t) (lengths : Lengths t) (p a r v : ℕ) (here : p < t .live)
-    (idle : has (t .executed) (stageOf t p) ≡ false) (row : RowFor t a r (t .live)) where
-  store-gains : Gains t r (stageOf t p) (t .loads) (withStage (t .stores) r (stageOf t p))
-      (set (t .values) (stageOf t p) v)
-  store-gains =
-      let bare = idle-bare t rules (stageOf t p) idle in
-      let none : (q : ℕ) → q < rowsIn (t .banks) → loadMark t q (stageOf t p) ≡ true → ⊥ =
-      λ q h m. true≢false (sym m ∙ no-load t q (stageOf t p) (bare q h)) in
+    (idle : has (t .executed) (stageOf t p) ≡ false) (row : RowFor t a r (t .live)) (load store : Bool)
+    (apart : load ≡ true → store ≡ true → ⊥) where
+  abbrev loads : List ℕ
+  loads = marking (t .loads) load r (stageOf t p)
+
+  abbrev stores : List ℕ
+  stores = marking (t .stores) store r (stageOf t p)
+
+  abbrev values : List ℕ
+  values = cond store (set (t .values) (stageOf t p) v) (t .values)
+
+  bare : (q : ℕ) → q < rowsIn (t .banks) → mark t q (stageOf t p) ≡ false
+  bare = idle-bare t rules (stageOf t p) idle
+
+  load-here : has (getD loads r 0) (stageOf t p) ≡ load
+  load-here =
+      marking-here (t .loads) load r (stageOf t p) (omega (arith, row-small t rules r (row .row), lengths .loads))
+      (no-load t r (stageOf t p) (bare r (row .row)))
+
+  store-here : has (getD stores r 0) (stageOf t p) ≡ store
+  store-here =
+      marking-here (t .stores) store r (stageOf t p) (omega (arith, row-small t rules r (row .row), lengths .stores))
+      (no-store t r (stageOf t p) (bare r (row .row)))
+
+  value-other : (on : Bool) (u : ℕ) → (u ≡ stageOf t p → ⊥)
+      → getD (cond on (set (t .values) (stageOf t p) v) (t .values)) u 0 ≡ value t u
+  value-other true u d = getD-set-other (t .values) (stageOf t p) u v 0 d
+  value-other false u d = refl
+
+  access-gains : Gains t r (stageOf t p) loads stores values
+  access-gains =
       record {
-        load-else = λ q u d. refl;
-        store-else = marking-other (t .stores) r (stageOf t p) (omega (arith, row-small t rules r (row .row), lengths .stores));
-        load-row = λ q h m. absurd (none q h m);
-        store-row = λ q h m. marking-row (t .stores) r (stageOf t p) q (no-store t q (stageOf t p) (bare q h)) m;
-        one = λ l m. none r (row .row) l;
-        value-else = λ u d. getD-set-other (t .values) (stageOf t p) u v 0 d;
+        load-else =
+            marking-other (t .loads) load r (stageOf t p) (omega (arith, row-small t rules r (row .row), lengths .loads));
+        store-else =
+            marking-other (t .stores) store r (stageOf t p) (omega (arith, row-small t rules r (row .row), lengths .stores));
+        load-row = λ q h m. marking-row (t .loads) load r (stageOf t p) q (no-load t q (stageOf t p) (bare q h)) m;
+        store-row = λ q h m. marking-row (t .stores) store r (stageOf t p) q (no-store t q (stageOf t p) (bare q h)) m;
+        one = λ l m. apart (sym load-here ∙ l) (sym store-here ∙ m);
+        value-else = value-other store;
       }
 
-  pub store-rules : Rules (storeMarked t r (stageOf t p) a v)
-  store-rules =
-      marked-rules t rules lengths p a r here row (t .loads) (withStage (t .stores) r (stageOf t p))
-      (set (t .values) (stageOf t p) v) store-gains
+  pub access-rules : Rules (accessMarked t r (stageOf t p) a load store v)
+  access-rules = marked-rules t rules lengths p a r here row loads stores values access-gains
 
-  pub store-view : view (storeMarked t r (stageOf t p) a v) ≡ withFate (view t) p (stored a v)
-  store-view =
+  value-here : (on : Bool) → on ≡ true → getD (cond on (set (t .values) (stageOf t p) v) (t .values)) (stageOf t p) 0 ≡ v
+  value-here true e =
+      getD-set-same (t .values) (stageOf t p) v 0 (omega (arith, lengths .values, stage-small t rules p (le-of-lt here)))
+  value-here false e = absurd (true≢false (sym e))
+
+  pub access-view : (load || store) ≡ true
+      → view (accessMarked t r (stageOf t p) a load store v) ≡ withFate (view t) p (accessed a load (wordIf store v))
+  access-view some =
       let s = stageOf t p in
-      let values = set (t .values) s v in
-      marked-view t rules lengths p a r here row (t .loads) (withStage (t .stores) r s) values store-gains (stored a v)
-      (fate-store (storeMarked t r s a v) store-rules r s (row .row)
-      (marking-here (t .stores) r s (omega (arith, row-small t rules r (row .row), lengths .stores)))
-      ∙ ap₂ stored
-      (address-here t rules lengths p a r here row (t .loads) (withStage (t .stores) r s) values store-gains)
-      (getD-set-same (t .values) s v 0 (omega (arith, lengths .values, stage-small t rules p (le-of-lt here)))))
+      let u = accessMarked t r s a load store v in
+      marked-view t rules lengths p a r here row loads stores values access-gains (accessed a load (wordIf store v))
+      (fate-marked u access-rules r s (row .row) (ap₂ _||_ load-here store-here ∙ some)
+      ∙ ap₂ (λ (b : ℕ) (l : Bool). accessed b l (wordIf (storeMark u r s) (value u s)))
+      (address-here t rules lengths p a r here row loads stores values access-gains) load-here
+      ∙ ap (accessed a load)
+      (ap (λ (b : Bool). wordIf b (value u s)) store-here ∙ side-same store (value u s) v (value-here store)))

@@ -8,9 +8,9 @@ use lib.Dec.{eqb}
 use lib.ListN.{length, getD, set}
 use lib.Seq.{getD-set-same, getD-set-other}
 use borrow.Author.Tests.{eqb-true, eqb-false, leb-false}
-use Rattle.table.specs.Reference.{Fate, waiting, other, loaded, stored}
-use Rattle.lookup.specs.Forwarding.{wordAfter}
-use Rattle.engine.specs.Execution.{written}
+use Rattle.table.specs.Reference.{Side, lacks, holds, Fate, waiting, other, accessed}
+use Rattle.lookup.specs.Forwarding.{wordOr, wordAfter}
+use Rattle.engine.specs.Execution.{writtenAt, written}
 use Rattle.engine.specs.Conditions.{faults}
 
 -- a list after a set, by a test of the index
@@ -26,5 +26,12 @@ pub seen-written : (memory : List ℕ) (f : Fate) (b : ℕ) → faults (length m
     → wordAfter f b (getD memory b 0) ≡ getD (written memory f) b 0
 seen-written memory waiting b h = refl
 seen-written memory other b h = refl
-seen-written memory (loaded a) b h = refl
-seen-written memory (stored a v) b h = set-test (λ (x : ℕ). x) memory a b v (leb-false (length memory) a h)
+seen-written memory (accessed a l s) b h = go s
+  where
+    same : (t : Bool) (w : ℕ) → cond t w w ≡ w
+    same true w = refl
+    same false w = refl
+
+    go : (s : Side) → cond (eqb a b) (wordOr s (getD memory b 0)) (getD memory b 0) ≡ getD (writtenAt memory a s) b 0
+    go lacks = same (eqb a b) (getD memory b 0)
+    go (holds v) = set-test (λ (x : ℕ). x) memory a b v (leb-false (length memory) a h)

@@ -6,7 +6,7 @@ use mathlib.Core.List.{List, [], _∷_}
 use Prim.Native.Nat.{ℕ}
 use lib.Dec.{eqb, leb, ltb}
 use lib.ListN.{length}
-use Rattle.table.specs.Reference.{Fate, waiting, other, loaded, stored}
+use Rattle.table.specs.Reference.{Fate, waiting, other, accessed}
 
 -- a condition of the table with its number
 pub data Check : Type 0 where
@@ -39,12 +39,10 @@ wrongLength words memory = when (not (eqb (length memory) words)) 3
 abbrev pub hasExecuted : Fate → Bool
 hasExecuted waiting = false
 hasExecuted other = true
-hasExecuted (loaded a) = true
-hasExecuted (stored a v) = true
+hasExecuted (accessed a l s) = true
 
 -- it executed at an address of W or more
 abbrev pub faults : ℕ → Fate → Bool
 faults words waiting = false
 faults words other = false
-faults words (loaded a) = leb words a
-faults words (stored a v) = leb words a
+faults words (accessed a l s) = leb words a

@@ -3,7 +3,7 @@
 use mathlib.Core.List.{List}
 use Prim.Native.Nat.{ℕ}
 use lib.ListN.{set}
-use Rattle.table.specs.Reference.{Fate, waiting, other, loaded, stored}
+use Rattle.table.specs.Reference.{Side, lacks, holds, Fate, waiting, other, accessed, loaded, stored}
 use Rattle.engine.specs.declared.Action.{Action}
 use Rattle.engine.specs.declared.Action.the-variants.{Compute, LoadAt, StoreAt}
 
@@ -19,9 +19,13 @@ answerOf μ (Compute v) = 0
 answerOf μ (LoadAt a) = μ a
 answerOf μ (StoreAt a v) = 0
 
+-- memory with a store's word at address a, if there is one
+abbrev pub writtenAt : List ℕ → ℕ → Side → List ℕ
+writtenAt memory a lacks = memory
+writtenAt memory a (holds v) = set memory a v
+
 -- memory after the commit of a reference with this fate: a store writes its word
 abbrev pub written : List ℕ → Fate → List ℕ
 written memory waiting = memory
 written memory other = memory
-written memory (loaded a) = memory
-written memory (stored a v) = set memory a v
+written memory (accessed a l s) = writtenAt memory a s

@@ -20,8 +20,8 @@ ghost use Rattle.lookup.specs.computed.Search.{markedFate};
 ghost use Rattle.engine.specs.Conditions.{faults};
 ghost use Rattle.engine.specs.Opening.{fresh};
 ghost use Rattle.engine.specs.Execution.{written};
-ghost use Rattle.engine.specs.computed.Steps.{within, cutMarks};
-ghost use Rattle.engine.specs.computed.Effect.{effectOf, marking};
+ghost use Rattle.engine.specs.computed.Steps.{within, cutMarks, marking};
+ghost use Rattle.engine.specs.computed.Effect.{effectOf};
 
 // A table with these sizes and nothing in it.
 pub fn empty(banks: usize, rows: usize, stages: usize, words: usize) -> Table
@@ -78,16 +78,15 @@ pub fn effect_of<'a>(
             address: 0,
         },
         Action::LoadAt(a) => {
-            let b = table::bank_of(banks, a);
-            let place = lookup_rows::load_place(
-                oldest,
-                stages,
-                live,
+            let place = lookup_rows::place_of(
+                banks,
                 rows,
+                stages,
+                oldest,
+                live,
                 addresses,
                 loads,
                 stores,
-                b,
                 a,
                 p,
             );
@@ -111,24 +110,34 @@ pub fn effect_of<'a>(
             }
         }
         Action::StoreAt(a, v) => {
-            let b = table::bank_of(banks, a);
-            let place = lookup_rows::store_place(
-                oldest,
-                stages,
-                live,
+            let place = lookup_rows::place_of(
+                banks,
                 rows,
+                stages,
+                oldest,
+                live,
                 addresses,
                 loads,
                 stores,
-                b,
                 a,
+                p,
+            );
+            let r = place.row;
+            let left = lookup_rows::left_after(
+                oldest,
+                stages,
+                live,
+                loads,
+                stores,
+                r,
+                place.left,
                 p,
             );
             Effect {
                 load: false,
                 store: true,
-                row: place.row,
-                left: place.left,
+                row: r,
+                left,
                 value: v,
                 address: a,
             }

@@ -21,12 +21,11 @@ use Rattle.table.specs.declared.Table.{Table}
 use Rattle.table.specs.Limits.{rowsMost, rowsIn}
 use Rattle.table.specs.Bank.{bank}
 use Rattle.table.specs.computed.Check.{marksOf}
-use Rattle.table.specs.Reference.{Fate, waiting, other, loaded, stored, fateOf, at}
+use Rattle.table.specs.Reference.{Fate, waiting, other, fateOf, at}
 use Rattle.table.specs.Rules.{Rules}
-use Rattle.table.specs.View.{stageOf, address, value, mark, fateAt, view}
+use Rattle.table.specs.View.{stageOf, address, mark, access, fateAt, view}
 use Rattle.table.proofs.Sizes.{Sizes, sizes, bank-lt}
-use Rattle.table.proofs.Fates.{Fated, waits, bare, loads, stores, fated, mark-load, mark-store, length-refs, at-refs}
-use Rattle.table.proofs.Fates.{fate-load, fate-store, fate-other, fate-waiting}
+use Rattle.table.proofs.Fates.{Fated, waits, bare, marks, fated, fate-marked, fate-other, fate-waiting, length-refs, at-refs}
 use Rattle.table.proofs.Owning.{RowFor, row-of-mark, mark-position}
 use Rattle.lookup.specs.declared.Place.{Place}
 use Rattle.lookup.specs.Rows.{touches, touched, allocatesRow, rowsInUse, youngestRow}
@@ -123,12 +122,8 @@ module _ (t : Table) (rules : Rules t) where
       go : Fated t (stageOf t p) → (r : ℕ) × (r < rowsIn (t .banks)) × (mark t r (stageOf t p) ≡ true) × (address t r ≡ a)
       go (waits x) = absurd (true≢false (sym (by waiting (fate-waiting t rules (stageOf t p) x))))
       go (bare x y) = absurd (true≢false (sym (by other (fate-other t rules (stageOf t p) x y))))
-      go (loads r h m) =
-          let q = by (loaded (address t r)) (fate-load t rules r (stageOf t p) h m) in
-          (r, h, mark-load t r (stageOf t p) m, eqb-true (address t r) a q)
-      go (stores r h m) =
-          let q = by (stored (address t r) (value t (stageOf t p))) (fate-store t rules r (stageOf t p) h m) in
-          (r, h, mark-store t r (stageOf t p) m, eqb-true (address t r) a q)
+      go (marks r h m) =
+          (r, h, m, eqb-true (address t r) a (by (access t r (stageOf t p)) (fate-marked t rules r (stageOf t p) h m)))
 
   -- so an address is touched exactly where a row of it has a mark
   marked-touched : (r s : ℕ) → r < rowsIn (t .banks) → mark t r s ≡ true → touched (address t r) (view t .refs) ≡ true

@@ -12,10 +12,9 @@ use lib.ListN.{length, take}
 use borrow.Author.Tests.{ltb-true, ltb-false, lt-ltb, le-ltb, eqb-true, eq-eqb}
 use Rattle.marks.specs.Counting.{last}
 use Rattle.table.specs.Bank
-use Rattle.table.specs.Reference.{Fate, waiting, other, loaded, stored, fateOf, at, State}
-use Rattle.lookup.specs.Violation.{keptAfterStore}
+use Rattle.table.specs.Reference.{Side, lacks, holds, Fate, waiting, other, accessed, fateOf, at, State}
 use Rattle.lookup.specs.Rows.{touches, touched, allocatesRow, rowsInUse, youngestRow}
-use Rattle.lookup.specs.Outcome.{allocateRow, survivors}
+use Rattle.lookup.specs.Outcome.{allocateRow, keptInRow, survivors}
 use Rattle.lookup.proofs.Firsts.{older-at, older-some, opens-from, opens-to, youngest-chosen}
 
 -- the row of address b, in bank h, has its oldest mark at position q
@@ -71,8 +70,7 @@ takes-row : (P : State) (p a : ℕ) (f : Fate) → touches a f ≡ true → touc
     → survivors P p f ≡ allocateRow P p (bankOf P a)
 takes-row P p a waiting e u = absurd (true≢false (sym e))
 takes-row P p a other e u = absurd (true≢false (sym e))
-takes-row P p a (loaded b) e u = let same : b ≡ a = eqb-true b a e in rw (same, u)
-takes-row P p a (stored b v) e u = let same : b ≡ a = eqb-true b a e in rw (same, u)
+takes-row P p a (accessed b l s) e u = let same : b ≡ a = eqb-true b a e in rw (same, u)
 
 -- The execution of a reference at position p to address a stalls: a has no row, none of its bank is free, and each row of the
 -- bank has a mark that is not younger than the executing reference.
@@ -154,7 +152,8 @@ module _ (P : State) (p : ℕ) where
   pub stalls-only : (f : Fate) → p < length (P .refs) → survivors P p f ≡ 0 → (a : ℕ) × (touches a f ≡ true) × Stalled P p a
   stalls-only waiting l z = absurd (omega arith)
   stalls-only other l z = absurd (omega arith)
-  stalls-only (loaded a) l z =
-      stalled-at a (length (P .refs)) l (λ e. omega (arith, l, e)) (touched a (P .refs)) refl z
-  stalls-only (stored a v) l z =
-      stalled-at a (keptAfterStore P p a) l (λ e. omega (arith, e)) (touched a (P .refs)) refl z
+  stalls-only (accessed a b s) l z = stalled-at a (keptInRow P p a s) l (some s) (touched a (P .refs)) refl z
+    where
+      some : (s : Side) → keptInRow P p a s ≡ 0 → ⊥
+      some lacks e = omega (arith, l, e)
+      some (holds v) e = omega (arith, e)

@@ -16,7 +16,7 @@ use borrow.Author.Tests.{ltb-true, ltb-false, eqb-true, eq-eqb, not-true}
 use Rattle.marks.specs.Counting.{count}
 use Rattle.marks.proofs.Counts.{count-into, last-is}
 use Rattle.table.specs.Bank.{bank}
-use Rattle.table.specs.Reference.{Fate, waiting, other, loaded, stored, Ref, ref, blank, fateOf, at, State}
+use Rattle.table.specs.Reference.{Fate, waiting, other, accessed, Ref, ref, blank, fateOf, at, State}
 use Rattle.lookup.specs.Rows.{touches, touched, allocatesBy, allocatesRow, rowsInUse, youngestRow}
 use Rattle.lookup.specs.Outcome.{allocateRow}
 
@@ -59,34 +59,25 @@ pub opens-from : (banks h : ℕ) (refs : List Ref) (p b : ℕ) → touches b (fa
     → touched b (take p refs) ≡ false → allocatesRow banks h refs p ≡ true
 opens-from banks h refs p b e k u = go (fateOf (at refs p)) e
   where
-    first : (c : ℕ) → eqb c b ≡ true → (eqb (bank banks c) h && not (touched c (take p refs))) ≡ true
-    first c q =
-        let same : c ≡ b = eqb-true c b q in
-        ap₂ _&&_ (eq-eqb (bank banks c) h (ap (bank banks) same ∙ k))
-        (ap not (ap (λ (x : ℕ). touched x (take p refs)) same ∙ u))
-
     go : (f : Fate) → touches b f ≡ true → allocatesBy banks h (take p refs) f ≡ true
     go waiting q = absurd (true≢false (sym q))
     go other q = absurd (true≢false (sym q))
-    go (loaded c) q = first c q
-    go (stored c v) q = first c q
+    go (accessed c l s) q =
+        let same : c ≡ b = eqb-true c b q in
+        ap₂ _&&_ (eq-eqb (bank banks c) h (ap (bank banks) same ∙ k))
+        (ap not (ap (λ (x : ℕ). touched x (take p refs)) same ∙ u))
 
 pub opens-to : (banks h : ℕ) (refs : List Ref) (p : ℕ) → allocatesRow banks h refs p ≡ true
     → (b : ℕ) × (touches b (fateOf (at refs p)) ≡ true) × (bank banks b ≡ h) × (touched b (take p refs) ≡ false)
 opens-to banks h refs p = go (fateOf (at refs p))
   where
-    first : (c : ℕ) → (eqb (bank banks c) h && not (touched c (take p refs))) ≡ true
-        → (eqb c c ≡ true) × (bank banks c ≡ h) × (touched c (take p refs) ≡ false)
-    first c q =
-        let both = and-eq-true-iff (eqb (bank banks c) h) (not (touched c (take p refs))) .0 q in
-        (eq-eqb c c refl, eqb-true (bank banks c) h (both .0), not-true (touched c (take p refs)) (both .1))
-
     go : (f : Fate) → allocatesBy banks h (take p refs) f ≡ true
         → (b : ℕ) × (touches b f ≡ true) × (bank banks b ≡ h) × (touched b (take p refs) ≡ false)
     go waiting q = absurd (true≢false (sym q))
     go other q = absurd (true≢false (sym q))
-    go (loaded c) q = let w = first c q in (c, w .0, w .1, w .2)
-    go (stored c v) q = let w = first c q in (c, w .0, w .1, w .2)
+    go (accessed c l s) q =
+        let both = and-eq-true-iff (eqb (bank banks c) h) (not (touched c (take p refs))) .0 q in
+        (c, eq-eqb c c refl, eqb-true (bank banks c) h (both .0), not-true (touched c (take p refs)) (both .1))
 
 -- the row chosen is one of the bank, and no row of the bank has an oldest mark younger than its
 pub youngest-chosen : (banks h : ℕ) (refs : List Ref) (p : ℕ) → p < length refs → allocatesRow banks h refs p ≡ true

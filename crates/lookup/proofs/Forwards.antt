@@ -2,7 +2,7 @@
 -- position: one more older reference is the last of the list (seen-next). Where the row bears a store mark at its stage, it
 -- is the nearest older store, and its word is taken on both sides. Where the row bears none, it is no store to this address,
 -- since such a store is marked in the address's only row, and both sides go on to the older ones. Assumes nothing.
-use mathlib.Core.Bool.{Bool, true, false, cond, true≢false}
+use mathlib.Core.Bool.{Bool, true, false, cond}
 use mathlib.Core.List.{List, [], _∷_, _++_}
 use mathlib.Core.Path.{_≡_, refl, sym, ap, _∙_}
 use Prim.Native.Nat.{ℕ, zero, suc, _≤_, _<_, _-_}
@@ -11,15 +11,15 @@ use native.Mathlib.Omega.{arith}
 use lib.Dec.{eqb, eqb·suc-zero}
 use lib.ListN.{length, take}
 use lib.Seq.{take-suc}
-use borrow.Author.Tests.{eq-eqb, ne-eqb}
+use borrow.Author.Tests.{eq-eqb, eqb-true}
 use Rattle.table.specs.declared.Table.{Table}
 use Rattle.table.specs.Reference.{Fate, Ref, ref, fateOf, at, blank}
 use Rattle.table.specs.Rules.{Rules}
-use Rattle.table.specs.View.{view, stageOf, address, value, storeMark, fateAt}
-use Rattle.table.proofs.Fates.{Fated, waits, bare, loads, stores, fated, mark-store, length-refs, at-refs}
-use Rattle.table.proofs.Fates.{fate-load, fate-store, fate-other, fate-waiting}
+use Rattle.table.specs.View.{view, stageOf, address, value, storeMark, wordIf, fateAt}
+use Rattle.table.proofs.Fates.{Fated, waits, bare, marks, fated, mark-store, length-refs, at-refs}
+use Rattle.table.proofs.Fates.{fate-marked, fate-other, fate-waiting}
 use Rattle.table.proofs.Owning.{RowFor, row-for-less}
-use Rattle.lookup.specs.Forwarding.{wordAfter, seen}
+use Rattle.lookup.specs.Forwarding.{wordOr, wordAfter, seen}
 use Rattle.lookup.specs.computed.Search.{find, forward}
 
 -- the last of a list comes last
@@ -43,22 +43,27 @@ module _ (t : Table) (rules : Rules t) (a r : ℕ) where
       go : Fated t (stageOf t p) → wordAfter (fateAt t (stageOf t p)) a w ≡ w
       go (waits h) = ap (λ (f : Fate). wordAfter f a w) (fate-waiting t rules (stageOf t p) h)
       go (bare h l) = ap (λ (f : Fate). wordAfter f a w) (fate-other t rules (stageOf t p) h l)
-      go (loads q l h) = ap (λ (f : Fate). wordAfter f a w) (fate-load t rules q (stageOf t p) l h)
-      go (stores q l h) =
-          ap (λ (f : Fate). wordAfter f a w) (fate-store t rules q (stageOf t p) l h)
-          ∙ ap (λ (b : Bool). cond b (value t (stageOf t p)) w)
-          (ne-eqb (address t q) a
-          (λ i. true≢false
-          (sym h ∙ ap (λ (k : ℕ). storeMark t k (stageOf t p))
-          (own .only q p l (omega arith) (mark-store t q (stageOf t p) h) i) ∙ e)))
+      go (marks q l h) =
+          ap (λ (f : Fate). wordAfter f a w) (fate-marked t rules q (stageOf t p) l h) ∙ same (eqb (address t q) a) refl
+        where
+          -- the row of the address is row r
+          same : (b : Bool) → eqb (address t q) a ≡ b
+              → cond b (wordOr (wordIf (storeMark t q (stageOf t p)) (value t (stageOf t p))) w) w ≡ w
+          same true i =
+              ap (λ (b : Bool). wordOr (wordIf b (value t (stageOf t p))) w)
+              (ap (λ (k : ℕ). storeMark t k (stageOf t p))
+              (own .only q p l (omega arith) h (eqb-true (address t q) a i)) ∙ e)
+          same false i = refl
 
   -- one with a store mark there leaves its own word
   after-marked : (p w : ℕ) → RowFor t a r (suc p) → storeMark t r (stageOf t p) ≡ true
       → wordAfter (fateAt t (stageOf t p)) a w ≡ value t (stageOf t p)
   after-marked p w own e =
-      ap (λ (f : Fate). wordAfter f a w) (fate-store t rules r (stageOf t p) (own .row) e)
-      ∙ ap (λ (b : Bool). cond b (value t (stageOf t p)) w)
-      (eq-eqb (address t r) a (own .own p (omega arith) (mark-store t r (stageOf t p) e)))
+      let m = mark-store t r (stageOf t p) e in
+      ap (λ (f : Fate). wordAfter f a w) (fate-marked t rules r (stageOf t p) (own .row) m)
+      ∙ ap (λ (b : Bool). cond b (wordOr (wordIf (storeMark t r (stageOf t p)) (value t (stageOf t p))) w) w)
+      (eq-eqb (address t r) a (own .own p (omega arith) m))
+      ∙ ap (λ (b : Bool). wordOr (wordIf b (value t (stageOf t p))) w) e
 
 -- what is taken where k is one more than the position of the nearest older store mark
 abbrev taking : Table → ℕ → ℕ → ℕ

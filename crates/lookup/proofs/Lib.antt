@@ -1,5 +1,6 @@
 -- Loops: the searches step by step. Finds: what they find. Forwards, Violations, Firsts, Bankrows: what they find is what the
--- list of references says. Places: the row and what is left, whole. Telling: what the marks of a stage say. Sentences,
+-- list of references says. Rowed: the row found is one of the table's.
+-- Places: the row and what is left, whole. Telling: what the marks of a stage say. Sentences,
 -- Eviction: 01's sentences of the definitions.
 pub mod Loops
 pub mod Finds
@@ -7,6 +8,7 @@ pub mod Forwards
 pub mod Violations
 pub mod Firsts
 pub mod Bankrows
+pub mod Rowed
 pub mod Places
 pub mod Telling
 pub mod Sentences

@@ -1,41 +1,46 @@
 -- The row that is found for an execution, and how many references it leaves, are those of specs/Outcome.antt: by cases on
--- whether the address has a row. Then the row is good for the address among the references that stay.
+-- whether the address has a row. Then the row is good for the address among the references that stay. A store that is given a
+-- row without a squash checks its marks; a row that was free has none.
 -- Assumes nothing.
-use mathlib.Core.Path.{_≡_, refl, sym, subst}
+use mathlib.Core.Bool.{Bool, true, false, cond}
+use mathlib.Core.Path.{_≡_, refl, sym, subst, _∙_}
 use Prim.Native.Nat.{ℕ, zero, suc, _+_, _-_, _*_, _≤_, _<_}
 use native.Mathlib.Nat.{le-refl}
 use native.Mathlib.Omega.{arith}
-use lib.Dec.{eqb·suc-zero}
-use lib.ListN.{getD}
+use lib.Dec.{ltb, eqb·suc-zero}
+use lib.ListN.{length, getD}
+use borrow.Author.Tests.{ltb-true, ltb-false}
 use Rattle.table.specs.declared.Table.{Table}
 use Rattle.table.specs.Limits.{rowsMost}
 use Rattle.table.specs.Bank.{bank}
-use Rattle.table.specs.Reference.{loaded, stored}
 use Rattle.table.specs.Rules.{Rules}
 use Rattle.table.specs.View.{view}
 use Rattle.table.proofs.Fates.{length-refs}
 use Rattle.table.proofs.Owning.{RowFor, row-for-less}
 use Rattle.lookup.specs.declared.Place.{Place}
 use Rattle.lookup.specs.Violation.{keptAfterStore}
-use Rattle.lookup.specs.Outcome.{survivors}
-use Rattle.lookup.specs.computed.Search.{rowOf, violationPoint, allocatedRow, loadPlace, storePlace}
-use Rattle.lookup.proofs.Violations.{violates-checked, checked-after}
+use Rattle.lookup.specs.Rows.{touched}
+use Rattle.lookup.specs.Outcome.{allocateRow}
+use Rattle.lookup.specs.computed.Search.{rowOf, violationPoint, allocatedRow, placeFor, leftAfter}
+use Rattle.lookup.proofs.Violations.{violates-checked, checked-after, untouched-checked}
 use Rattle.lookup.proofs.Bankrows.{row-none, row-some, taken-room, taken-row}
 
--- the place that a load, or a store, of address a at position p is given
-abbrev pub loadAt : Table → ℕ → ℕ → Place
-loadAt t a p =
-    loadPlace (t .oldest) (t .stages) (t .live) (t .rows) (t .addresses) (t .loads) (t .stores) (bank (t .banks) a) a p
-
-abbrev pub storeAt : Table → ℕ → ℕ → Place
-storeAt t a p =
-    storePlace (t .oldest) (t .stages) (t .live) (t .rows) (t .addresses) (t .loads) (t .stores) (bank (t .banks) a) a p
+-- the place that an execution to address a at position p is given
+abbrev pub placeAt : Table → ℕ → ℕ → Place
+placeAt t a p =
+    placeFor (t .oldest) (t .stages) (t .live) (t .rows) (t .addresses) (t .loads) (t .stores) (bank (t .banks) a) a p
 
 -- a place that leaves something leaves the executing reference, and its row is the address's among what stays
 pub record Placed (t : Table) (a p : ℕ) (place : Place) : Type 0 where
   pub after : p < place .left
   pub within : place .left ≤ t .live
   pub owned : RowFor t a (place .row) (place .left)
+
+-- the place of a store: what it violates goes too
+abbrev pub storeAt : Table → ℕ → ℕ → Place
+storeAt t a p =
+    let q = placeAt t a p in
+    record { row = q .row; left = leftAfter (t .oldest) (t .stages) (t .live) (t .loads) (t .stores) (q .row) (q .left) p }
 
 module _ (t : Table) (rules : Rules t) (a p : ℕ) (live : p < t .live) where
   abbrev found : ℕ
@@ -47,72 +52,87 @@ module _ (t : Table) (rules : Rules t) (a p : ℕ) (live : p < t .live) where
   abbrev held : ℕ → ℕ
   held i = bank (t .banks) a * rowsMost + i
 
-  abbrev left-in : ℕ → ℕ
-  left-in r = violationPoint (t .oldest) (t .stages) (t .live) (getD (t .loads) r 0) (getD (t .stores) r 0) p
+  place-none : found ≡ 0 → placeAt t a p ≡ room-for
+  place-none e = rw e
 
-  load-none : found ≡ 0 → loadAt t a p ≡ room-for
-  load-none e = rw e
+  place-some : (i : ℕ) → found ≡ suc i → placeAt t a p ≡ record { row = held (suc i - 1); left = t .live }
+  place-some i e = rw (e, eqb·suc-zero i)
 
-  load-some : (i : ℕ) → found ≡ suc i → loadAt t a p ≡ record { row = held (suc i - 1); left = t .live }
-  load-some i e = rw (e, eqb·suc-zero i)
-
-  store-none : found ≡ 0 → storeAt t a p ≡ room-for
-  store-none e = rw e
-
-  store-some : (i : ℕ) → found ≡ suc i
-      → storeAt t a p ≡ record { row = held (suc i - 1); left = left-in (held (suc i - 1)) }
-  store-some i e = rw (e, eqb·suc-zero i)
-
-  own : (i : ℕ) → found ≡ suc i → RowFor t a (held (suc i - 1)) (t .live)
-  own i e =
-      let z : suc i - 1 ≡ i = omega arith in
-      rw z (row-some t rules a i e .1)
-
-  placed-none : found ≡ 0 → (room-for .left ≡ 0 → ⊥) → Placed t a p room-for
-  placed-none e some =
-      let w = taken-row t rules a p live (row-none t rules a e) some in
-      record { after = w .0; within = w .1; owned = w .2 }
-
-  pub load-left : loadAt t a p .left ≡ survivors (view t) p (loaded a)
-  load-left = go found refl
+  pub place-left : placeAt t a p .left
+      ≡ cond (touched a (view t .refs)) (length (view t .refs)) (allocateRow (view t) p (bank (t .banks) a))
+  place-left = go found refl
     where
-      go : (i : ℕ) → found ≡ i → loadAt t a p .left ≡ survivors (view t) p (loaded a)
-      go zero e = rw (load-none e, row-none t rules a e) (taken-room t rules a p live (row-none t rules a e))
-      go (suc i) e = rw (load-some i e, row-some t rules a i e .0) (sym (length-refs t))
+      go : (i : ℕ) → found ≡ i → placeAt t a p .left
+          ≡ cond (touched a (view t .refs)) (length (view t .refs)) (allocateRow (view t) p (bank (t .banks) a))
+      go zero e = rw (place-none e, row-none t rules a e) (taken-room t rules a p live (row-none t rules a e))
+      go (suc i) e = rw (place-some i e, row-some t rules a i e .0) (sym (length-refs t))
 
-  pub load-placed : (loadAt t a p .left ≡ 0 → ⊥) → Placed t a p (loadAt t a p)
-  load-placed = go found refl
+  pub placed : (placeAt t a p .left ≡ 0 → ⊥) → Placed t a p (placeAt t a p)
+  placed = go found refl
     where
-      go : (i : ℕ) → found ≡ i → (loadAt t a p .left ≡ 0 → ⊥) → Placed t a p (loadAt t a p)
+      go : (i : ℕ) → found ≡ i → (placeAt t a p .left ≡ 0 → ⊥) → Placed t a p (placeAt t a p)
       go zero e =
-          subst (λ (q : Place). (q .left ≡ 0 → ⊥) → Placed t a p q) (sym (load-none e)) (placed-none e)
+          subst (λ (q : Place). (q .left ≡ 0 → ⊥) → Placed t a p q) (sym (place-none e))
+          (λ some.
+          let w = taken-row t rules a p live (row-none t rules a e) some in
+          record { after = w .0; within = w .1; owned = w .2 })
       go (suc i) e =
-          subst (λ (q : Place). (q .left ≡ 0 → ⊥) → Placed t a p q) (sym (load-some i e))
-          (λ some. record { after = live; within = le-refl (t .live); owned = own i e })
+          subst (λ (q : Place). (q .left ≡ 0 → ⊥) → Placed t a p q) (sym (place-some i e))
+          (λ some.
+          let z : suc i - 1 ≡ i = omega arith in
+          record { after = live; within = le-refl (t .live); owned = rw z (row-some t rules a i e .1) })
 
-  pub store-left : (v : ℕ) → storeAt t a p .left ≡ survivors (view t) p (stored a v)
-  store-left v = go found refl
+  -- a place that leaves all: the row's marks are this address's, and the check of them is the list's
+  checked : t .live ≤ placeAt t a p .left
+      → (RowFor t a (placeAt t a p .row) (t .live))
+      × (violationPoint (t .oldest) (t .stages) (t .live) (getD (t .loads) (placeAt t a p .row) 0)
+      (getD (t .stores) (placeAt t a p .row) 0) p
+      ≡ keptAfterStore (view t) p a)
+  checked all =
+      let q = placed (λ z. omega (arith, all, live, z)) in
+      let whole : placeAt t a p .left ≡ t .live = omega (arith, all, q .within) in
+      let own : RowFor t a (placeAt t a p .row) (t .live) = subst (RowFor t a (placeAt t a p .row)) whole (q .owned) in
+      (own, violates-checked t rules a (placeAt t a p .row) p live own)
+
+  pub store-left : storeAt t a p .left
+      ≡ cond (touched a (view t .refs)) (keptAfterStore (view t) p a) (allocateRow (view t) p (bank (t .banks) a))
+  store-left = go (ltb (placeAt t a p .left) (t .live)) refl (touched a (view t .refs)) refl
     where
-      go : (i : ℕ) → found ≡ i → storeAt t a p .left ≡ survivors (view t) p (stored a v)
-      go zero e = rw (store-none e, row-none t rules a e) (taken-room t rules a p live (row-none t rules a e))
-      go (suc i) e =
-          rw (store-some i e, row-some t rules a i e .0) (violates-checked t rules a (held (suc i - 1)) p live (own i e))
+      go : (b : Bool) → ltb (placeAt t a p .left) (t .live) ≡ b → (c : Bool) → touched a (view t .refs) ≡ c
+          → cond b (placeAt t a p .left)
+          (violationPoint (t .oldest) (t .stages) (t .live) (getD (t .loads) (placeAt t a p .row) 0)
+          (getD (t .stores) (placeAt t a p .row) 0) p)
+          ≡ cond c (keptAfterStore (view t) p a) (allocateRow (view t) p (bank (t .banks) a))
+      go true e true f =
+          let all : placeAt t a p .left ≡ length (view t .refs) = rw f at place-left in
+          absurd (omega (arith, ltb-true (placeAt t a p .left) (t .live) e, all, length-refs t))
+      go true e false f = rw f at place-left
+      go false e true f = checked (ltb-false (placeAt t a p .left) (t .live) e) .1
+      go false e false f =
+          let room : placeAt t a p .left ≡ allocateRow (view t) p (bank (t .banks) a) = rw f at place-left in
+          let all = ltb-false (placeAt t a p .left) (t .live) e in
+          let some = placed (λ z. omega (arith, all, live, z)) in
+          checked all .1 ∙ untouched-checked (view t) p a (omega (arith, live, length-refs t)) f
+          ∙ omega (arith, room, all, some .within, length-refs t)
 
   pub store-placed : (storeAt t a p .left ≡ 0 → ⊥) → Placed t a p (storeAt t a p)
-  store-placed = go found refl
+  store-placed = go (ltb (placeAt t a p .left) (t .live)) refl
     where
-      go : (i : ℕ) → found ≡ i → (storeAt t a p .left ≡ 0 → ⊥) → Placed t a p (storeAt t a p)
-      go zero e =
-          subst (λ (q : Place). (q .left ≡ 0 → ⊥) → Placed t a p q) (sym (store-none e)) (placed-none e)
-      go (suc i) e =
-          let r = held (suc i - 1) in
-          let same : left-in r ≡ keptAfterStore (view t) p a = violates-checked t rules a r p live (own i e) in
+      point : ℕ
+      point =
+          violationPoint (t .oldest) (t .stages) (t .live) (getD (t .loads) (placeAt t a p .row) 0)
+          (getD (t .stores) (placeAt t a p .row) 0) p
+
+      go : (b : Bool) → ltb (placeAt t a p .left) (t .live) ≡ b → (cond b (placeAt t a p .left) point ≡ 0 → ⊥)
+          → Placed t a p (record { row = placeAt t a p .row; left = cond b (placeAt t a p .left) point })
+      go true e some = placed some
+      go false e some =
+          let w = checked (ltb-false (placeAt t a p .left) (t .live) e) in
           let bounds = checked-after (view t) p a (rw (length-refs t) live) in
-          let below : left-in r ≤ t .live =
-          subst (λ (n : ℕ). left-in r ≤ n) (length-refs t) (rw same (bounds .1)) in
-          subst (λ (q : Place). (q .left ≡ 0 → ⊥) → Placed t a p q) (sym (store-some i e))
-          (λ some. record {
-            after = rw same (bounds .0);
+          let below : point ≤ t .live =
+          subst (λ (n : ℕ). point ≤ n) (length-refs t) (rw (w .1) (bounds .1)) in
+          record {
+            after = rw (w .1) (bounds .0);
             within = below;
-            owned = row-for-less t a r (t .live) (left-in r) below (own i e);
-          })
+            owned = row-for-less t a (placeAt t a p .row) (t .live) point below (w .0);
+          }

@@ -12,47 +12,50 @@ use native.Mathlib.Omega.{arith}
 use lib.Dec.{eqb}
 use lib.ListN.{length, take, drop, length-drop}
 use borrow.Author.Tests.{eq-eqb, eqb-true}
-use Rattle.table.specs.Reference.{Fate, waiting, other, loaded, stored, Ref, ref, fateOf, at, State}
-use Rattle.lookup.specs.Forwarding.{wordAfter, seen}
+use Rattle.table.specs.Reference.{Side, lacks, holds, Fate, waiting, other, accessed, Ref, ref, fateOf, at, State}
+use Rattle.lookup.specs.Forwarding.{wordOr, wordAfter, seen}
 use Rattle.lookup.specs.Rows.{touches}
 use Rattle.lookup.specs.Violation.{keptFrom, keptYounger, keptAfterStore}
 use Rattle.lookup.proofs.Forwards.{seen-next}
 use Rattle.lookup.proofs.Violations.{spared-next, spared-skip, spared-all}
 
 -- a reference that is no executed store to the address leaves the word
-after-no-store : (x : Ref) (a w : ℕ) → ((m u : ℕ) → x ≡ ref m (stored a u) → ⊥) → wordAfter (fateOf x) a w ≡ w
+after-no-store : (x : Ref) (a w : ℕ) → ((m u : ℕ) (l : Bool) → x ≡ ref m (accessed a l (holds u)) → ⊥)
+    → wordAfter (fateOf x) a w ≡ w
 after-no-store (ref n waiting) a w none = refl
 after-no-store (ref n other) a w none = refl
-after-no-store (ref n (loaded b)) a w none = refl
-after-no-store (ref n (stored b v)) a w none = go (eqb b a) refl
+after-no-store (ref n (accessed b l s)) a w none = go (eqb b a) refl s none
   where
-    go : (t : Bool) → eqb b a ≡ t → cond t v w ≡ w
-    go true e = absurd (none n v (ap (λ (c : ℕ). ref n (stored c v)) (eqb-true b a e)))
-    go false e = refl
+    go : (t : Bool) → eqb b a ≡ t → (s : Side)
+        → ((m u : ℕ) (k : Bool) → ref n (accessed b l s) ≡ ref m (accessed a k (holds u)) → ⊥) → cond t (wordOr s w) w ≡ w
+    go true e lacks none = refl
+    go true e (holds v) none = absurd (none n v l (ap (λ (c : ℕ). ref n (accessed c l (holds v))) (eqb-true b a e)))
+    go false e s none = refl
 
 -- "Without one it is the memory word": no older live reference is an executed store to this address
 pub seen-none : (refs : List Ref) (p a w : ℕ) → p ≤ length refs
-    → ((k m u : ℕ) → k < p → at refs k ≡ ref m (stored a u) → ⊥) → seen (take p refs) a w ≡ w
+    → ((k m u : ℕ) (l : Bool) → k < p → at refs k ≡ ref m (accessed a l (holds u)) → ⊥) → seen (take p refs) a w ≡ w
 unfolding seen
 seen-none refs zero a w h none = refl
 seen-none refs (suc p) a w h none =
     seen-next refs p a w h
-    ∙ after-no-store (at refs p) a (seen (take p refs) a w) (λ m u. none p m u (le-refl (suc p)))
-    ∙ seen-none refs p a w (omega arith) (λ k m u l. none k m u (le-step l))
+    ∙ after-no-store (at refs p) a (seen (take p refs) a w) (λ m u l. none p m u l (le-refl (suc p)))
+    ∙ seen-none refs p a w (omega arith) (λ k m u l h. none k m u l (le-step h))
 
 -- "the value is that of the youngest executed store to this address among older live references"
-pub seen-youngest : (refs : List Ref) (p q a v w n : ℕ) → q < p → p ≤ length refs → at refs q ≡ ref n (stored a v)
-    → ((k m u : ℕ) → q < k → k < p → at refs k ≡ ref m (stored a u) → ⊥) → seen (take p refs) a w ≡ v
-seen-youngest refs zero q a v w n l h e none = absurd (not-suc-le-zero l)
-seen-youngest refs (suc p) q a v w n l h e none =
+pub seen-youngest : (refs : List Ref) (p q a v w n : ℕ) (b : Bool) → q < p → p ≤ length refs
+    → at refs q ≡ ref n (accessed a b (holds v))
+    → ((k m u : ℕ) (l : Bool) → q < k → k < p → at refs k ≡ ref m (accessed a l (holds u)) → ⊥) → seen (take p refs) a w ≡ v
+seen-youngest refs zero q a v w n b l h e none = absurd (not-suc-le-zero l)
+seen-youngest refs (suc p) q a v w n b l h e none =
     seen-next refs p a w h
     ∙ ⊎-elim
     (λ (i : q ≡ p).
     ap (λ (x : Ref). wordAfter (fateOf x) a (seen (take p refs) a w)) (ap (at refs) (sym i) ∙ e)
     ∙ ap (λ (t : Bool). cond t v (seen (take p refs) a w)) (eq-eqb a a refl))
     (λ (i : q < p).
-    after-no-store (at refs p) a (seen (take p refs) a w) (λ m u. none p m u i (le-refl (suc p)))
-    ∙ seen-youngest refs p q a v w n i (omega arith) e (λ k m u j o. none k m u j (le-step o)))
+    after-no-store (at refs p) a (seen (take p refs) a w) (λ m u l. none p m u l i (le-refl (suc p)))
+    ∙ seen-youngest refs p q a v w n b i (omega arith) e (λ k m u l j o. none k m u l j (le-step o)))
     (eq-or-lt-of-le (le-of-suc-le-suc l))
 
 module _ (P : State) (p a : ℕ) where
@@ -67,17 +70,17 @@ module _ (P : State) (p a : ℕ) where
       ∙ ap (λ (x : Ref). keptFrom (fateOf x) a (length (drop (suc q) (P .refs))) (keptYounger a (drop (suc q) (P .refs)))) e)
 
   -- "If the first one met is a load, that load and everything younger is squashed"
-  pub spared-load : (q n : ℕ) → p < q → q < length (P .refs) → at (P .refs) q ≡ ref n (loaded a)
+  pub spared-load : (q n : ℕ) (s : Side) → p < q → q < length (P .refs) → at (P .refs) q ≡ ref n (accessed a true s)
       → ((k : ℕ) → p < k → k < q → touches a (fateOf (at (P .refs) k)) ≡ false) → keptAfterStore P p a ≡ q
-  spared-load q n l h e none =
-      met-at q n (loaded a) l h e none
+  spared-load q n s l h e none =
+      met-at q n (accessed a true s) l h e none
       ∙ ap (λ (t : Bool). q + cond t 0 (suc (keptYounger a (drop (suc q) (P .refs))))) (eq-eqb a a refl) ∙ omega arith
 
   -- "If it is a store, or there is none, nothing is": it is a store
-  pub spared-store : (q n v : ℕ) → p < q → q < length (P .refs) → at (P .refs) q ≡ ref n (stored a v)
+  pub spared-store : (q n v : ℕ) → p < q → q < length (P .refs) → at (P .refs) q ≡ ref n (accessed a false (holds v))
       → ((k : ℕ) → p < k → k < q → touches a (fateOf (at (P .refs) k)) ≡ false) → keptAfterStore P p a ≡ length (P .refs)
   spared-store q n v l h e none =
-      met-at q n (stored a v) l h e none
+      met-at q n (accessed a false (holds v)) l h e none
       ∙ ap
       (λ (t : Bool). q + cond t (suc (length (drop (suc q) (P .refs)))) (suc (keptYounger a (drop (suc q) (P .refs)))))
       (eq-eqb a a refl)

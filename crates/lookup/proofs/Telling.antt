@@ -1,27 +1,28 @@
--- What `mark_at` finds of a stage is what the marks say of it.
+-- What `mark_at` finds of a stage is what its fate says of a commit.
 -- Assumes nothing.
 use mathlib.Core.Path.{_≡_, refl}
-use mathlib.Core.Bool.{Bool, true, false, cond}
+use mathlib.Core.Bool.{Bool, true, false, cond, _||_}
 use Prim.Native.Nat.{ℕ, zero, suc}
 use Rattle.table.specs.declared.Table.{Table}
-use Rattle.table.specs.Reference.{Fate, loaded, stored}
-use Rattle.table.specs.View.{storeMark, loadMark, address, value, markFate}
+use Rattle.table.specs.Reference.{Fate, accessed}
+use Rattle.table.specs.View.{storeMark, loadMark, address, value, wordIf, markFate}
 use Rattle.lookup.specs.declared.Mark.{Mark}
 use Rattle.lookup.specs.declared.Mark.the-variants.{Load, Store}
-use Rattle.lookup.specs.computed.Search.{markOf, markedFate}
+use Rattle.lookup.specs.computed.Search.{markOf, markBy}
 
-row-marked : (x y : Bool) (a v : ℕ) (m : Mark) (f : Fate) → markedFate m ≡ f
-    → markedFate (cond x (Store a v) (cond y (Load a) m)) ≡ cond x (stored a v) (cond y (loaded a) f)
-row-marked true y a v m f e = refl
+row-marked : (st ld : Bool) (a v : ℕ) (m : Mark) (f : Fate) → m ≡ markBy f
+    → cond st (Store a v) (cond ld (Load a) m) ≡ markBy (cond (ld || st) (accessed a ld (wordIf st v)) f)
+row-marked true true a v m f e = refl
+row-marked true false a v m f e = refl
 row-marked false true a v m f e = refl
 row-marked false false a v m f e = e
 
-pub marks-fate : (t : Table) (s k : ℕ)
-    → markedFate (markOf (t .addresses) (t .loads) (t .stores) (t .values) s k) ≡ markFate t s k
+pub marks-told : (t : Table) (s k : ℕ)
+    → markOf (t .addresses) (t .loads) (t .stores) (t .values) s k ≡ markBy (markFate t s k)
 unfolding markFate markOf
-marks-fate t s zero = refl
-marks-fate t s (suc k) =
+marks-told t s zero = refl
+marks-told t s (suc k) =
     row-marked (storeMark t k s) (loadMark t k s) (address t k) (value t s)
     (markOf (t .addresses) (t .loads) (t .stores) (t .values) s k)
     (markFate t s k)
-    (marks-fate t s k)
+    (marks-told t s k)

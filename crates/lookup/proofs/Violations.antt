@@ -18,22 +18,21 @@ use borrow.Author.Tests.{eq-eqb, ne-eqb, lt-ltb, le-ltb}
 use Rattle.marks.proofs.Sets.{has-or}
 use Rattle.table.specs.declared.Table.{Table}
 use Rattle.table.specs.Limits.{rowsIn}
-use Rattle.table.specs.Reference.{Fate, waiting, other, loaded, stored, Ref, ref, fateOf, at, blank, State}
+use Rattle.table.specs.Reference.{Side, lacks, holds, Fate, waiting, other, accessed, Ref, ref, fateOf, at, blank, State}
 use Rattle.table.specs.Rules.{Rules}
-use Rattle.table.specs.View.{view, stageOf, address, loadMark, storeMark, mark, fateAt}
-use Rattle.table.proofs.Fates.{neither, Fated, waits, bare, loads, stores, fated, mark-load, mark-store, length-refs, at-refs}
-use Rattle.table.proofs.Fates.{fate-load, fate-store, fate-other, fate-waiting}
+use Rattle.table.specs.View.{view, stageOf, address, loadMark, storeMark, mark, value, wordIf, fateAt}
+use Rattle.table.proofs.Fates.{neither, Fated, waits, bare, marks, fated, mark-load, mark-store, length-refs, at-refs}
+use Rattle.table.proofs.Fates.{fate-marked, fate-other, fate-waiting}
 use Rattle.table.proofs.Owning.{RowFor}
 use Rattle.lookup.specs.Rows.{touches, touched}
 use Rattle.lookup.specs.computed.Search.{seek, marked, violationPoint}
-use Rattle.lookup.specs.Violation.{keptFrom, keptYounger, keptAfterStore}
+use Rattle.lookup.specs.Violation.{keptMet, keptFrom, keptYounger, keptAfterStore}
 
 -- the walk passes a reference that has not executed to the address
 met-untouched : (f : Fate) (a all rest : ℕ) → touches a f ≡ false → keptFrom f a all rest ≡ suc rest
 met-untouched waiting a all rest e = refl
 met-untouched other a all rest e = refl
-met-untouched (loaded b) a all rest e = rw e
-met-untouched (stored b v) a all rest e = rw e
+met-untouched (accessed b l s) a all rest e = rw e
 
 spared-first : (x : Ref) (refs : List Ref) (a : ℕ)
     → keptYounger a (x ∷ refs) ≡ keptFrom (fateOf x) a (length refs) (keptYounger a refs)
@@ -79,16 +78,13 @@ spared-all refs p a h none =
 met-le : (f : Fate) (a all rest : ℕ) → rest ≤ all → keptFrom f a all rest ≤ suc all
 met-le waiting a all rest h = suc-le-suc h
 met-le other a all rest h = suc-le-suc h
-met-le (loaded b) a all rest h = go (eqb b a)
+met-le (accessed b l s) a all rest h = go (eqb b a) l s
   where
-    go : (t : Bool) → cond t 0 (suc rest) ≤ suc all
-    go true = zero-le
-    go false = suc-le-suc h
-met-le (stored b v) a all rest h = go (eqb b a)
-  where
-    go : (t : Bool) → cond t (suc all) (suc rest) ≤ suc all
-    go true = le-refl (suc all)
-    go false = suc-le-suc h
+    go : (t l : Bool) (s : Side) → cond t (keptMet l s all rest) (suc rest) ≤ suc all
+    go true true s = zero-le
+    go true false (holds v) = le-refl (suc all)
+    go true false lacks = suc-le-suc h
+    go false l s = suc-le-suc h
 
 spared-le : (refs : List Ref) (a : ℕ) → keptYounger a refs ≤ length refs
 unfolding keptYounger
@@ -141,10 +137,7 @@ module _ (t : Table) (rules : Rules t) (a r k : ℕ) (own : RowFor t a r k) wher
           ap (touches a) (fate-waiting t rules (stageOf t p) e)
           ∙ none (mark t r (stageOf t p)) (λ m. true≢false (sym (rules .executed r (stageOf t p) (own .row) m) ∙ e))
       go (bare e m) = ap (touches a) (fate-other t rules (stageOf t p) e m) ∙ sym (m r (own .row))
-      go (loads q l e) =
-          ap (touches a) (fate-load t rules q (stageOf t p) l e) ∙ same-row q p l h (mark-load t q (stageOf t p) e)
-      go (stores q l e) =
-          ap (touches a) (fate-store t rules q (stageOf t p) l e) ∙ same-row q p l h (mark-store t q (stageOf t p) e)
+      go (marks q l e) = ap (touches a) (fate-marked t rules q (stageOf t p) l e) ∙ same-row q p l h e
 
 -- what stays where the first mark younger than the store is at position m
 abbrev leaving : Table → ℕ → ℕ → ℕ
@@ -155,20 +148,30 @@ abbrev rowMarks : Table → ℕ → ℕ → Bool
 rowMarks t r = marked (t .oldest) (t .stages) (bitOr (getD (t .loads) r 0) (getD (t .stores) r 0))
 
 module _ (t : Table) (rules : Rules t) (a r : ℕ) (own : RowFor t a r (t .live)) where
-  -- a mark's kind decides
+  -- the marks decide
+  met-marked : (q all rest : ℕ) → q < t .live → mark t r (stageOf t q) ≡ true
+      → keptFrom (fateAt t (stageOf t q)) a all rest
+      ≡ keptMet (loadMark t r (stageOf t q)) (wordIf (storeMark t r (stageOf t q)) (value t (stageOf t q))) all rest
+  met-marked q all rest h m =
+      ap (λ (f : Fate). keptFrom f a all rest) (fate-marked t rules r (stageOf t q) (own .row) m)
+      ∙ ap
+      (λ (b : Bool). cond b
+      (keptMet (loadMark t r (stageOf t q)) (wordIf (storeMark t r (stageOf t q)) (value t (stageOf t q))) all rest)
+      (suc rest))
+      (eq-eqb (address t r) a (own .own q h m))
+
+  -- a load is met first
   met-load : (q all rest : ℕ) → q < t .live → loadMark t r (stageOf t q) ≡ true
       → keptFrom (fateAt t (stageOf t q)) a all rest ≡ 0
   met-load q all rest h e =
-      ap (λ (f : Fate). keptFrom f a all rest) (fate-load t rules r (stageOf t q) (own .row) e)
-      ∙ ap (λ (b : Bool). cond b 0 (suc rest))
-      (eq-eqb (address t r) a (own .own q h (mark-load t r (stageOf t q) e)))
+      met-marked q all rest h (mark-load t r (stageOf t q) e)
+      ∙ ap (λ (l : Bool). keptMet l (wordIf (storeMark t r (stageOf t q)) (value t (stageOf t q))) all rest) e
 
-  met-store : (q all rest : ℕ) → q < t .live → storeMark t r (stageOf t q) ≡ true
+  met-store : (q all rest : ℕ) → q < t .live → loadMark t r (stageOf t q) ≡ false → storeMark t r (stageOf t q) ≡ true
       → keptFrom (fateAt t (stageOf t q)) a all rest ≡ suc all
-  met-store q all rest h e =
-      ap (λ (f : Fate). keptFrom f a all rest) (fate-store t rules r (stageOf t q) (own .row) e)
-      ∙ ap (λ (b : Bool). cond b (suc all) (suc rest))
-      (eq-eqb (address t r) a (own .own q h (mark-store t r (stageOf t q) e)))
+  met-store q all rest h e d =
+      met-marked q all rest h (mark-store t r (stageOf t q) d)
+      ∙ ap₂ (λ (l w : Bool). keptMet l (wordIf w (value t (stageOf t q))) all rest) e d
 
   -- the search and the walk at position q: m is where the search stops above it, `all` references are younger
   meet : (q m all rest : ℕ) → q < t .live → suc q + all ≡ t .live → leaving t r m ≡ suc q + rest
@@ -179,7 +182,7 @@ module _ (t : Table) (rules : Rules t) (a r : ℕ) (own : RowFor t a r (t .live)
       ∙ omega (arith, met-load q all rest h e)
   meet q m all rest h l on false true e d =
       ap₂ (λ (b c : Bool). cond (b && c) q (t .live)) (lt-ltb q (t .live) h) e
-      ∙ omega (arith, met-store q all rest h d)
+      ∙ omega (arith, met-store q all rest h e d)
   meet q m all rest h l on false false e d =
       on
       ∙ omega (

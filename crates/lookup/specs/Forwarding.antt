@@ -6,14 +6,18 @@ use mathlib.Core.List.{List, [], _∷_}
 use Prim.Native.Nat.{ℕ}
 use lib.Dec.{eqb}
 use lib.ListN.{getD, take}
-use Rattle.table.specs.Reference.{Fate, waiting, other, loaded, stored, Ref, ref, State}
+use Rattle.table.specs.Reference.{Side, lacks, holds, Fate, waiting, other, accessed, Ref, ref, State}
+
+-- the word of a store, or w without one
+abbrev pub wordOr : Side → ℕ → ℕ
+wordOr lacks w = w
+wordOr (holds v) w = v
 
 -- the word at address a after a reference, where w stood there before it: an executed store to a puts its own
 abbrev pub wordAfter : Fate → ℕ → ℕ → ℕ
 wordAfter waiting a w = w
 wordAfter other a w = w
-wordAfter (loaded b) a w = w
-wordAfter (stored b v) a w = cond (eqb b a) v w
+wordAfter (accessed b l s) a w = cond (eqb b a) (wordOr s w) w
 
 -- the word at address a that a reference sees which is younger than all of these
 unfoldable pub seen : List Ref → ℕ → ℕ → ℕ

@@ -9,7 +9,7 @@ use Prim.Native.Nat.{ℕ}
 use lib.Dec.{ltb}
 use lib.ListN.{length}
 use Rattle.table.specs.Bank.{bank}
-use Rattle.table.specs.Reference.{Fate, waiting, other, loaded, stored, State}
+use Rattle.table.specs.Reference.{Side, lacks, holds, Fate, waiting, other, accessed, State}
 use Rattle.table.specs.Moves.{squashTo, withFate}
 use Rattle.lookup.specs.Violation.{keptAfterStore}
 use Rattle.lookup.specs.Rows.{touched, rowsInUse, youngestRow}
@@ -20,12 +20,16 @@ allocateRow P p h =
     cond (ltb (rowsInUse (P .banks) h (P .refs)) (P .rows)) (length (P .refs))
     (cond (ltb p (youngestRow (P .banks) h (P .refs))) (youngestRow (P .banks) h (P .refs)) 0)
 
+-- the reference at position p executes to an address with a row: where it stores, the younger marks of the row decide
+abbrev pub keptInRow : State → ℕ → ℕ → Side → ℕ
+keptInRow P p a lacks = length (P .refs)
+keptInRow P p a (holds v) = keptAfterStore P p a
+
 -- the reference at position p executes to this fate
 abbrev pub survivors : State → ℕ → Fate → ℕ
 survivors P p waiting = length (P .refs)
 survivors P p other = length (P .refs)
-survivors P p (loaded a) = cond (touched a (P .refs)) (length (P .refs)) (allocateRow P p (bank (P .banks) a))
-survivors P p (stored a v) = cond (touched a (P .refs)) (keptAfterStore P p a) (allocateRow P p (bank (P .banks) a))
+survivors P p (accessed a l s) = cond (touched a (P .refs)) (keptInRow P p a s) (allocateRow P p (bank (P .banks) a))
 
 -- the state after it
 abbrev pub executes : State → ℕ → Fate → State

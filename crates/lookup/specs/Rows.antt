@@ -8,14 +8,13 @@ use lib.Dec.{eqb}
 use lib.ListN.{length, take}
 use Rattle.marks.specs.Counting.{count, last}
 use Rattle.table.specs.Bank.{bank}
-use Rattle.table.specs.Reference.{Fate, waiting, other, loaded, stored, Ref, ref, fateOf, at}
+use Rattle.table.specs.Reference.{Fate, waiting, other, accessed, Ref, ref, fateOf, at}
 
 -- a reference with this fate has executed to address a
 abbrev pub touches : ℕ → Fate → Bool
 touches a waiting = false
 touches a other = false
-touches a (loaded b) = eqb b a
-touches a (stored b v) = eqb b a
+touches a (accessed b l s) = eqb b a
 
 -- one of these references has executed to address a: the address has a row
 unfoldable pub touched : ℕ → List Ref → Bool
@@ -30,8 +29,7 @@ firstAccess banks h b older = eqb (bank banks b) h && not (touched b older)
 abbrev pub allocatesBy : ℕ → ℕ → List Ref → Fate → Bool
 allocatesBy banks h older waiting = false
 allocatesBy banks h older other = false
-allocatesBy banks h older (loaded b) = firstAccess banks h b older
-allocatesBy banks h older (stored b v) = firstAccess banks h b older
+allocatesBy banks h older (accessed b l s) = firstAccess banks h b older
 
 -- the reference at position p is the oldest mark of a row of bank h
 abbrev pub allocatesRow : ℕ → ℕ → List Ref → ℕ → Bool

@@ -1,20 +1,25 @@
 -- Execute store: among younger live references that have executed to this address, go from the nearest on. If the first one
 -- met is a load, that load and everything younger is squashed. If it is a store, or there is none, nothing is.
 -- Assumes nothing.
-use mathlib.Core.Bool.{cond}
+use mathlib.Core.Bool.{Bool, true, false, cond}
 use mathlib.Core.List.{List, [], _∷_}
 use Prim.Native.Nat.{ℕ, suc, _+_}
 use lib.Dec.{eqb}
 use lib.ListN.{length, drop}
-use Rattle.table.specs.Reference.{Fate, waiting, other, loaded, stored, Ref, ref, State}
+use Rattle.table.specs.Reference.{Side, lacks, holds, Fate, waiting, other, accessed, Ref, ref, State}
 
--- How many of the references from one with this fate on stay: `all` are younger than it, and `rest` of those stay if the walk
--- goes on.
+-- How many of the references from one on stay which has executed to the address, with a load or not, and with this word of a
+-- store: `all` are younger than it, and `rest` of those stay if the walk goes on. The load is met first.
+abbrev pub keptMet : Bool → Side → ℕ → ℕ → ℕ
+keptMet true s all rest = 0
+keptMet false (holds v) all rest = suc all
+keptMet false lacks all rest = suc rest
+
+-- the same of one with this fate
 abbrev pub keptFrom : Fate → ℕ → ℕ → ℕ → ℕ
 keptFrom waiting a all rest = suc rest
 keptFrom other a all rest = suc rest
-keptFrom (loaded b) a all rest = cond (eqb b a) 0 (suc rest)
-keptFrom (stored b v) a all rest = cond (eqb b a) (suc all) (suc rest)
+keptFrom (accessed b l s) a all rest = cond (eqb b a) (keptMet l s all rest) (suc rest)
 
 -- how many of these younger references stay when an older store to address a executes
 unfoldable pub keptYounger : ℕ → List Ref → ℕ

@@ -8,6 +8,7 @@ ghost use mathlib.Core.Path.{_≡_};
 ghost use Prim.Native.Nat.{_-_, _≤_, _<_};
 ghost use lib.ListN.{length};
 ghost use Rattle.table.specs.Limits.{banksMost, rowsMost, stagesMost, slots};
+ghost use Rattle.table.specs.Bank.{bank};
 ghost use Rattle.table.specs.computed.Check.{marksOf};
 ghost use Rattle.lookup.specs.computed.Search.{
   find,
@@ -17,8 +18,8 @@ ghost use Rattle.lookup.specs.computed.Search.{
   bankMark,
   allocatedRow,
   rowOf,
-  loadPlace,
-  storePlace,
+  placeFor,
+  leftAfter,
 };
 
 // The position of the oldest mark of row `r`; `live` where it has none.
@@ -138,25 +139,27 @@ pub fn row_of<'a>(
     0
 }
 
-// The row in which a load at position `p` of address `a`, of bank `b`, is marked, and how many references stay.
-pub fn load_place<'a>(
-    oldest: usize,
-    stages: usize,
-    live: usize,
+// The row in which an execution at position `p` to address `a` is marked, and how many references stay.
+pub fn place_of<'a>(
+    banks: usize,
     rows: usize,
+    stages: usize,
+    oldest: usize,
+    live: usize,
     addresses: &'a [u32; SLOTS],
     loads: &'a [u32; SLOTS],
     stores: &'a [u32; SLOTS],
-    b: usize,
     a: u32,
     p: usize,
 ) -> Place
-    requires { ⌜ (oldest < stages) × (live ≤ stages) × (stages ≤ stagesMost)
-        × (0 < rows) × (rows ≤ rowsMost) × (b < banksMost) ⌝ }
+    requires { ⌜ (0 < banks) × (banks ≤ banksMost) × (0 < rows) × (rows ≤ rowsMost)
+        × (oldest < stages) × (live ≤ stages) × (stages ≤ stagesMost) ⌝ }
     requires { ⌜ (length (now addresses) ≡ slots) × (length (now loads) ≡ slots) × (length (now stores) ≡ slots) ⌝ }
-    ensures { λ r. ⌜ r
-        ≡ loadPlace oldest stages live rows (now (addresses .entry)) (now (loads .entry)) (now (stores .entry)) b a p ⌝ }
+    ensures { λ r. ⌜ (r .row < slots)
+        × (r
+        ≡ placeFor oldest stages live rows (now (addresses .entry)) (now (loads .entry)) (now (stores .entry)) (bank banks a) a p) ⌝ }
 {
+    let b = table::bank_of(banks, a);
     let i = row_of(rows, addresses, loads, stores, b, a);
     if i == 0 {
         return take_row(oldest, stages, live, rows, loads, stores, b, p);
@@ -167,32 +170,24 @@ pub fn load_place<'a>(
     }
 }
 
-// The same of a store: a younger load of the address that saw an older word is squashed.
-pub fn store_place<'a>(
+// How many references stay of a store at position `p` that is given row `r`, where `left` stay for the row's sake: a younger
+// load of the address that saw an older word is squashed.
+pub fn left_after<'a>(
     oldest: usize,
     stages: usize,
     live: usize,
-    rows: usize,
-    addresses: &'a [u32; SLOTS],
     loads: &'a [u32; SLOTS],
     stores: &'a [u32; SLOTS],
-    b: usize,
-    a: u32,
+    r: usize,
+    left: usize,
     p: usize,
-) -> Place
-    requires { ⌜ (oldest < stages) × (live ≤ stages) × (stages ≤ stagesMost)
-        × (0 < rows) × (rows ≤ rowsMost) × (b < banksMost) × (p < live) ⌝ }
-    requires { ⌜ (length (now addresses) ≡ slots) × (length (now loads) ≡ slots) × (length (now stores) ≡ slots) ⌝ }
-    ensures { λ r. ⌜ r
-        ≡ storePlace oldest stages live rows (now (addresses .entry)) (now (loads .entry)) (now (stores .entry)) b a p ⌝ }
+) -> usize
+    requires { ⌜ (oldest < stages) × (live ≤ stages) × (stages ≤ stagesMost) × (p < live) × (r < slots) ⌝ }
+    requires { ⌜ (length (now loads) ≡ slots) × (length (now stores) ≡ slots) ⌝ }
+    ensures { λ k. ⌜ k ≡ leftAfter oldest stages live (now (loads .entry)) (now (stores .entry)) r left p ⌝ }
 {
-    let i = row_of(rows, addresses, loads, stores, b, a);
-    if i == 0 {
-        return take_row(oldest, stages, live, rows, loads, stores, b, p);
+    if left < live {
+        return left;
     }
-    let r = b * ROWS + (i - 1);
-    Place {
-        row: r,
-        left: lookup_marks::first_met(oldest, stages, live, loads[r], stores[r], p),
-    }
+    lookup_marks::first_met(oldest, stages, live, loads[r], stores[r], p)
 }

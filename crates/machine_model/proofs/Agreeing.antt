@@ -28,23 +28,27 @@ use Rattle.table.specs.declared.Table.{Table}
 use Rattle.table.specs.Bank.{bank}
 use Rattle.table.specs.Limits.{rowsIn}
 use Rattle.table.specs.computed.Check.{marksBelow, lawful}
-use Rattle.table.specs.Reference.{Fate, waiting, other, loaded, stored}
+use Rattle.table.specs.Reference.{Side, Fate, waiting, other}
 use Rattle.table.specs.Rules.{Rules}
-use Rattle.table.specs.View.{stageOf, address, mark, fateAt}
+use Rattle.table.specs.View.{stageOf, address, loadMark, storeMark, mark, value, wordIf, fateAt}
 use Rattle.table.proofs.Sizes.{sizes, bank-lt}
-use Rattle.table.proofs.Fates.{Fated, waits, bare, loads, stores, fated, mark-load, mark-store, fate-load, fate-store}
-use Rattle.table.proofs.Fates.{fate-other, fate-waiting}
+use Rattle.table.proofs.Fates.{Fated, waits, bare, marks, fated, mark-load, mark-store, fate-marked, fate-other, fate-waiting}
 use Rattle.table.proofs.Lawful.{lawful-rules, taken-has, taken-from}
-use Rattle.machine_model.specs.Contract.{kindOf, placeOf, entryOf, agree}
+use Rattle.machine_model.specs.Contract.{markKind, kindOf, placeOf, entryOf, agree}
 use Rattle.engine.specs.Conditions.{refusal, when}
 use Rattle.machine_model.specs.declared.Instruction.{Instruction}
 use Rattle.machine_model.specs.declared.Instruction.the-variants.{Add, Sum, Load, Store}
+use Rattle.machine_model.specs.declared.Kind.{Kind}
+use Rattle.machine_model.specs.declared.Kind.the-variants.{Computing, Loading, Storing}
+use Rattle.machine_model.specs.declared.Fate as Entered
+use Rattle.machine_model.specs.declared.Fate.the-variants.{Waiting, Executed}
 use Rattle.machine_model.specs.declared.Entry.{Entry}
 use Rattle.machine_model.specs.declared.Machine.{Machine}
 use Rattle.machine_model.specs.Program.{decoded, instructionAt, codeOf, dOf, sOf, immOf, same, wellFormed, wellFormedAt}
-use Rattle.machine_model.specs.Program.{programFits}
-use Rattle.machine_model.specs.Window.{blankEntry, reference}
+use Rattle.machine_model.specs.Program.{kind, programFits}
+use Rattle.machine_model.specs.Window.{blankEntry, accessBy, referenceBy}
 use Rattle.machine_model.specs.Calls.{matchesProgram}
+use Rattle.machine_model.proofs.Comparing.{marked-kind}
 use Rattle.machine_model.proofs.Sounding.{agreeing, fitting, validateOf, every-same}
 use Rattle.machine_model.specs.computed.Parts.{union, marksAt, agreesBy, agreeingBy, likeBy, fittingBy, validateBy}
 
@@ -104,6 +108,17 @@ where-true : (x y z : Bool) → (x ≡ true → y ≡ z) → (x && y) ≡ (x && 
 where-true true y z f = f refl
 where-true false y z f = refl
 
+-- the marks by their kind
+kind-load : (ld st : Bool) (v : ℕ) → markKind ld (wordIf st v) ≡ 1 → ld ≡ true
+kind-load true st v e = refl
+kind-load false true v e = absurd (omega arith)
+kind-load false false v e = absurd (omega arith)
+
+kind-store : (ld st : Bool) (v : ℕ) → markKind ld (wordIf st v) ≡ 2 → st ≡ true
+kind-store ld true v e = refl
+kind-store true false v e = absurd (omega arith)
+kind-store false false v e = absurd (omega arith)
+
 module _ (t : Table) (rules : Rules t) (s : ℕ) where
   -- the stages with a mark
   abbrev all : ℕ
@@ -125,42 +140,47 @@ module _ (t : Table) (rules : Rules t) (s : ℕ) where
 
   -- the marks at address a, among load marks or among store marks
   abbrev at-address : List ℕ → ℕ → Bool
-  at-address marks a = has (marksAt (t .addresses) marks (bank (t .banks) a) a) s
+  at-address words a = has (marksAt (t .addresses) words (bank (t .banks) a) a) s
 
   abbrev of : ℕ → ℕ → Bool
   of a i = eqb (getD (t .addresses) (bank (t .banks) a * 8 + i) 0) a
 
   abbrev row : List ℕ → ℕ → ℕ → ℕ
-  row marks a i = getD marks (bank (t .banks) a * 8 + i) 0
+  row words a i = getD words (bank (t .banks) a * 8 + i) 0
 
   bank-low : (a : ℕ) → bank (t .banks) a < t .banks
   bank-low a = bank-lt (t .banks) a (sizes _ _ _ _ (rules .sizes) .some-bank)
 
-  row-found : (marks : List ℕ) (a : ℕ) → at-address marks a ≡ true
-      → (r : ℕ) × (r < rowsIn (t .banks)) × (address t r ≡ a) × (has (getD marks r 0) s ≡ true)
-  row-found marks a h =
-      let w = union-from (of a) (row marks a) 8 s h in
+  row-found : (words : List ℕ) (a : ℕ) → at-address words a ≡ true
+      → (r : ℕ) × (r < rowsIn (t .banks)) × (address t r ≡ a) × (has (getD words r 0) s ≡ true)
+  row-found words a h =
+      let w = union-from (of a) (row words a) 8 s h in
       (bank (t .banks) a * 8 + w .0, omega (arith, bank-low a, w .1), eqb-true _ _ (w .2), w .3)
 
-  row-in : (marks : List ℕ) (r a : ℕ) → r / 8 ≡ bank (t .banks) a → address t r ≡ a → has (getD marks r 0) s ≡ true
-      → at-address marks a ≡ true
-  row-in marks r a b e m =
+  row-in : (words : List ℕ) (r a : ℕ) → r / 8 ≡ bank (t .banks) a → address t r ≡ a → has (getD words r 0) s ≡ true
+      → at-address words a ≡ true
+  row-in words r a b e m =
       let q : bank (t .banks) a * 8 + r % 8 ≡ r = omega arith in
-      union-has (of a) (row marks a) 8 (r % 8) s (omega arith) (eq-eqb _ _ (ap (address t) q ∙ e))
-      (ap (λ (x : ℕ). has (getD marks x 0) s) q ∙ m)
+      union-has (of a) (row words a) 8 (r % 8) s (omega arith) (eq-eqb _ _ (ap (address t) q ∙ e))
+      (ap (λ (x : ℕ). has (getD words x 0) s) q ∙ m)
 
   -- the code's test of an entry with this fate
   abbrev tested : Fate → Bool
   tested f =
       agreesBy (t .banks) (t .executed) all (t .addresses) (t .loads) (t .stores) (kindOf f) (placeOf f) s
 
+  -- the word of the stage's store in row r
+  abbrev said : ℕ → Side
+  said r = wordIf (storeMark t r s) (value t s)
+
   of-waiting : Fated t s → tested waiting ≡ agree waiting (fateAt t s)
   of-waiting (waits e) = ap not e ∙ sym (ap (agree waiting) (fate-waiting t rules s e))
   of-waiting (bare e none) = ap not e ∙ sym (ap (agree waiting) (fate-other t rules s e none))
-  of-waiting (loads r h m) =
-      ap not (rules .executed r s h (mark-load t r s m)) ∙ sym (ap (agree waiting) (fate-load t rules r s h m))
-  of-waiting (stores r h m) =
-      ap not (rules .executed r s h (mark-store t r s m)) ∙ sym (ap (agree waiting) (fate-store t rules r s h m))
+  of-waiting (marks r h m) =
+      ap not (rules .executed r s h m)
+      ∙ sym
+      (ap (agree waiting) (fate-marked t rules r s h m)
+      ∙ ap (λ (b : Bool). b && eqb 0 (address t r)) (marked-kind (loadMark t r s) (said r) .1))
 
   -- executed, and without a mark
   abbrev plainly : Bool → Bool → Bool
@@ -171,49 +191,66 @@ module _ (t : Table) (rules : Rules t) (s : ℕ) where
       ap (λ (x : Bool). plainly x (has all s)) e ∙ sym (ap (agree other) (fate-waiting t rules s e))
   of-other (bare e none) =
       ap₂ plainly e (out-of-all none) ∙ sym (ap (agree other) (fate-other t rules s e none))
-  of-other (loads r h m) =
-      let n = mark-load t r s m in
-      ap₂ plainly (rules .executed r s h n) (in-all r h n) ∙ sym (ap (agree other) (fate-load t rules r s h m))
-  of-other (stores r h m) =
-      let n = mark-store t r s m in
-      ap₂ plainly (rules .executed r s h n) (in-all r h n) ∙ sym (ap (agree other) (fate-store t rules r s h m))
+  of-other (marks r h m) =
+      ap₂ plainly (rules .executed r s h m) (in-all r h m)
+      ∙ sym
+      (ap (agree other) (fate-marked t rules r s h m)
+      ∙ ap (λ (b : Bool). b && eqb 0 (address t r)) (marked-kind (loadMark t r s) (said r) .2))
 
-  -- no agreement with another kind
-  unlike : {P : Type 0} (f g : Fate) → fateAt t s ≡ g → agree f g ≡ false → agree f (fateAt t s) ≡ true → P
-  unlike f g e d h = absurd (false≢true (sym d ∙ sym (ap (agree f) e) ∙ h))
+  -- The marks of one kind at an address are the fate's, where rows with such a mark have no other.
+  module _ (k : ℕ) (words : List ℕ) (idle : eqb k 4 ≡ false) (bare-not : eqb k 0 ≡ false)
+      (is : (r : ℕ) → r < rowsIn (t .banks) → has (getD words r 0) s ≡ true
+      → (mark t r s ≡ true) × (markKind (loadMark t r s) (said r) ≡ k))
+      (was : (r : ℕ) → markKind (loadMark t r s) (said r) ≡ k → has (getD words r 0) s ≡ true) where
+    access-law : (a : ℕ) → at-address words a ≡ (eqb k (kindOf (fateAt t s)) && eqb a (placeOf (fateAt t s)))
+    access-law a =
+        together (at-address words a) (eqb k (kindOf (fateAt t s)) && eqb a (placeOf (fateAt t s)))
+        (λ h.
+        let w = row-found words a h in
+        let i = is (w .0) (w .1) (w .3) in
+        ap like (fate-marked t rules (w .0) s (w .1) (i .0)) ∙ ap₂ _&&_ (eq-eqb _ _ (sym (i .1))) (eq-eqb _ _ (sym (w .2))))
+        (λ h. go h (fated t s))
+      where
+        like : Fate → Bool
+        like f = eqb k (kindOf f) && eqb a (placeOf f)
 
-  of-loaded : (a : ℕ) → Fated t s → agree (loaded a) (fateAt t s) ≡ true → at-address (t .loads) a ≡ true
-  of-loaded a (waits e) h = unlike (loaded a) waiting (fate-waiting t rules s e) refl h
-  of-loaded a (bare e none) h = unlike (loaded a) other (fate-other t rules s e none) refl h
-  of-loaded a (loads r l m) h =
-      let e : a ≡ address t r = eqb-true a (address t r) (sym (ap (agree (loaded a)) (fate-load t rules r s l m)) ∙ h) in
-      row-in (t .loads) r a (rules .in-bank r s l (mark-load t r s m) ∙ ap (bank (t .banks)) (sym e)) (sym e) m
-  of-loaded a (stores r l m) h = unlike (loaded a) (stored (address t r) _) (fate-store t rules r s l m) refl h
+        go : like (fateAt t s) ≡ true → Fated t s → at-address words a ≡ true
+        go h (waits e) =
+            absurd (true≢false (sym h ∙ ap like (fate-waiting t rules s e) ∙ ap (λ (b : Bool). b && eqb a 0) idle))
+        go h (bare e none) =
+            absurd (true≢false (sym h ∙ ap like (fate-other t rules s e none) ∙ ap (λ (b : Bool). b && eqb a 0) bare-not))
+        go h (marks r l m) =
+            let both = and-eq-true-iff _ _ .0 (sym (ap like (fate-marked t rules r s l m)) ∙ h) in
+            let e : a ≡ address t r = eqb-true a (address t r) (both .1) in
+            row-in words r a (rules .in-bank r s l m ∙ ap (bank (t .banks)) (sym e)) (sym e)
+            (was r (sym (eqb-true k _ (both .0))))
 
-  of-stored : (a v : ℕ) → Fated t s → agree (stored a v) (fateAt t s) ≡ true → at-address (t .stores) a ≡ true
-  of-stored a v (waits e) h = unlike (stored a v) waiting (fate-waiting t rules s e) refl h
-  of-stored a v (bare e none) h = unlike (stored a v) other (fate-other t rules s e none) refl h
-  of-stored a v (loads r l m) h = unlike (stored a v) (loaded (address t r)) (fate-load t rules r s l m) refl h
-  of-stored a v (stores r l m) h =
-      let e : a ≡ address t r =
-      eqb-true a (address t r) (sym (ap (agree (stored a v)) (fate-store t rules r s l m)) ∙ h) in
-      row-in (t .stores) r a (rules .in-bank r s l (mark-store t r s m) ∙ ap (bank (t .banks)) (sym e)) (sym e) m
+  -- a row with a load mark there has no store mark, and the other way round
+  load-only : (r : ℕ) → r < rowsIn (t .banks) → loadMark t r s ≡ true
+      → (mark t r s ≡ true) × (markKind (loadMark t r s) (said r) ≡ 1)
+  load-only r h m = (
+    mark-load t r s m,
+    ap₂ (λ (ld st : Bool). markKind ld (wordIf st (value t s))) m (not-eq-not {b = false} .0 (rules .one-mark r s h m)),
+  )
 
-  stage-law : (f : Fate) → tested f ≡ agree f (fateAt t s)
-  stage-law waiting = of-waiting (fated t s)
-  stage-law other = of-other (fated t s)
-  stage-law (loaded a) =
-      together (at-address (t .loads) a) (agree (loaded a) (fateAt t s))
-      (λ h.
-      let w = row-found (t .loads) a h in
-      ap (agree (loaded a)) (fate-load t rules (w .0) s (w .1) (w .3)) ∙ eq-eqb a (address t (w .0)) (sym (w .2)))
-      (of-loaded a (fated t s))
-  stage-law (stored a v) =
-      together (at-address (t .stores) a) (agree (stored a v) (fateAt t s))
-      (λ h.
-      let w = row-found (t .stores) a h in
-      ap (agree (stored a v)) (fate-store t rules (w .0) s (w .1) (w .3)) ∙ eq-eqb a (address t (w .0)) (sym (w .2)))
-      (of-stored a v (fated t s))
+  store-only : (r : ℕ) → r < rowsIn (t .banks) → storeMark t r s ≡ true
+      → (mark t r s ≡ true) × (markKind (loadMark t r s) (said r) ≡ 2)
+  store-only r h m = (
+    mark-store t r s m,
+    ap₂ (λ (ld st : Bool). markKind ld (wordIf st (value t s)))
+        (not-eq-not {b = false} .0 (λ l. rules .one-mark r s h l m))
+        m,
+  )
+
+  stage-law : (i : Instruction) (f : Entered.Fate) → tested (referenceBy i f) ≡ agree (referenceBy i f) (fateAt t s)
+  stage-law i Waiting = of-waiting (fated t s)
+  stage-law i (Executed v a) = go (kind i)
+    where
+      go : (k : Kind) → tested (accessBy k v a) ≡ agree (accessBy k v a) (fateAt t s)
+      go Computing = of-other (fated t s)
+      go Loading = access-law 1 (t .loads) refl refl load-only (λ r. kind-load (loadMark t r s) (storeMark t r s) (value t s)) a
+      go Storing =
+          access-law 2 (t .stores) refl refl store-only (λ r. kind-store (loadMark t r s) (storeMark t r s) (value t s)) a
 
 -- the test of the window is the agreement of the contract
 pub agreeing-law : (m : Machine) → Rules (m .table) → (k : ℕ)
@@ -221,7 +258,8 @@ pub agreeing-law : (m : Machine) → Rules (m .table) → (k : ℕ)
     agreeingBy (t .banks) (t .oldest) (t .stages) (t .executed) (t .addresses) (t .loads) (t .stores) (m .window) k
     ≡ agreeing m k
 agreeing-law m rules k =
-    every-same _ _ k (λ p h. stage-law (m .table) rules (stageOf (m .table) p) (reference (entryOf m p)))
+    every-same _ _ k
+    (λ p h. stage-law (m .table) rules (stageOf (m .table) p) (entryOf m p .instruction) (entryOf m p .fate))
 
 -- a well-formed instruction is like another exactly where its four numbers are that one's
 same-numbers : (code d s imm : ℕ) (i : Instruction) → wellFormed code d s imm ≡ true

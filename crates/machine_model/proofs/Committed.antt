@@ -1,19 +1,19 @@
 -- Commit, past the validation. Its conditions 11, 12 and 13 are read off the oldest entry, which stands at the oldest's stage
 -- (oldest-entry). Where none holds, the oldest entry leaves the window as its reference does, by the engine's law. What it
 -- writes is told by its entry, which agrees with the table, and by the table's own word (mark-told). Assumes nothing.
-use mathlib.Core.Bool.{Bool, true, false, cond, not, and-eq-true-iff}
+use mathlib.Core.Bool.{Bool, true, false, cond, not}
 use mathlib.Core.List.{List, [], _∷_}
 use mathlib.Core.Path.{_≡_, refl, sym, ap, ap₂, _∙_}
 use Prim.Native.Nat.{ℕ, _-_, _<_}
 use native.Mathlib.Omega.{arith}
 use lib.Dec.{eqb}
 use lib.ListN.{length, getD, drop, length-drop}
-use borrow.Author.Tests.{ne-eqb, eqb-true, not-false}
+use borrow.Author.Tests.{ne-eqb, not-false}
 use Rattle.marks.specs.Circle.{firsts}
 use Rattle.marks.proofs.Turns.{stage-zero}
 use Rattle.table.specs.Limits.{rowsIn}
 use Rattle.table.specs.Reference
-use Rattle.table.specs.Reference.{waiting, other, loaded, stored, fateOf, at}
+use Rattle.table.specs.Reference.{fateOf, at}
 use Rattle.table.specs.View.{stageOf, value, view}
 use Rattle.table.specs.Moves.{retire}
 use Rattle.table.proofs.Fates.{length-refs}
@@ -27,70 +27,18 @@ use Rattle.engine.specs.Execution.{written}
 use Rattle.engine.proofs.Meeting.{judged-refused}
 use Rattle.engine.proofs.Fated.{stored-word}
 use Rattle.machine_model.specs.declared.Instruction.{Instruction}
-use Rattle.machine_model.specs.declared.Kind.{Kind}
-use Rattle.machine_model.specs.declared.Kind.the-variants.{Computing, Loading, Storing}
-use Rattle.machine_model.specs.declared.Fate.{Fate}
-use Rattle.machine_model.specs.declared.Fate.the-variants.{Waiting, Executed}
 use Rattle.machine_model.specs.declared.Entry.{Entry}
 use Rattle.machine_model.specs.declared.Machine.{Machine}
-use Rattle.machine_model.specs.Program.{kind, codeOf}
-use Rattle.machine_model.specs.Window.{blankEntry, entryAt, accessBy, referenceBy, reference}
+use Rattle.machine_model.specs.Program.{codeOf}
+use Rattle.machine_model.specs.Window.{blankEntry, entryAt, reference}
 use Rattle.machine_model.specs.Calls.{commit, waits, valueBy, addressBy, registersAfter, target, committedSays, committing}
 use Rattle.machine_model.specs.Calls.{respond}
-use Rattle.machine_model.specs.Contract.{plain, kindOf, placeOf, agree, Meets}
-use Rattle.machine_model.specs.computed.Parts.{entriesOf, markBy}
+use Rattle.machine_model.specs.Contract.{plain, agree, Meets}
+use Rattle.machine_model.specs.computed.Parts.{entriesOf, markWith}
+use Rattle.machine_model.proofs.Comparing.{agree-both, executed-by, waits-executed, mark-faults, fate-told}
 use Rattle.machine_model.proofs.Sounding.{length-entries, entry-at}
 use Rattle.machine_model.proofs.Answering.{Passed, passed-lent, refused-meets, accepted-meets}
 use Rattle.machine_model.proofs.PlainOfView.{plain-by, entries-drop, sound-agreed, reached, agreed-drop}
-
--- ---- fates by their kind and place
-
--- an entry waits where what it is to the buffer has not executed
-access-executed : (k : Kind) (v a : ℕ) → hasExecuted (accessBy k v a) ≡ true
-access-executed Computing v a = refl
-access-executed Loading v a = refl
-access-executed Storing v a = refl
-
-waits-executed : (i : Instruction) (f : Fate) → waits f ≡ not (hasExecuted (referenceBy i f))
-waits-executed i Waiting = refl
-waits-executed i (Executed v a) = ap not (sym (access-executed (kind i) v a))
-
-executed-by : (f : Reference.Fate) → hasExecuted f ≡ not (eqb (kindOf f) 4)
-executed-by waiting = refl
-executed-by other = refl
-executed-by (loaded a) = refl
-executed-by (stored a v) = refl
-
--- the fate of this kind and place, where v is the word of a store
-abbrev fateOfKind : ℕ → ℕ → ℕ → Reference.Fate
-fateOfKind k a v = cond (eqb k 1) (loaded a) (cond (eqb k 2) (stored a v) other)
-
-mark-by : (f : Reference.Fate) (v : ℕ) → markedFate (markBy f v) ≡ fateOfKind (kindOf f) (placeOf f) v
-mark-by waiting v = refl
-mark-by other v = refl
-mark-by (loaded a) v = refl
-mark-by (stored a w) v = refl
-
-mark-faults : (n : ℕ) (f : Reference.Fate) (v : ℕ) → faults n (markedFate (markBy f v)) ≡ faults n f
-mark-faults n waiting v = refl
-mark-faults n other v = refl
-mark-faults n (loaded a) v = refl
-mark-faults n (stored a w) v = refl
-
-fate-by : (g : Reference.Fate) (v : ℕ) → hasExecuted g ≡ true → ((a w : ℕ) → g ≡ stored a w → v ≡ w)
-    → fateOfKind (kindOf g) (placeOf g) v ≡ g
-fate-by waiting v h e = absurd (let z : _≡_ {A = ℕ} 0 1 = cc in omega arith)
-fate-by other v h e = refl
-fate-by (loaded a) v h e = refl
-fate-by (stored a w) v h e = ap (stored a) (e a w refl)
-
--- fates that agree are of one kind and place
-agree-both : (f g : Reference.Fate) → agree f g ≡ true → (kindOf f ≡ kindOf g) × (placeOf f ≡ placeOf g)
-agree-both f g e =
-    let both = and-eq-true-iff (eqb (kindOf f) (kindOf g)) (eqb (placeOf f) (placeOf g)) .0 e in
-    (eqb-true (kindOf f) (kindOf g) (both .0), eqb-true (placeOf f) (placeOf g) (both .1))
-
--- ---- what the call comes to
 
 -- the machine after the commit of the oldest: the window starts at stage o, with these marks and registers
 abbrev pub retiredBy : Machine → ℕ → List ℕ → List ℕ → List ℕ → Machine
@@ -184,21 +132,17 @@ module _ (program : List ℕ) (m : Machine) (w : List ℕ) (passed : Passed m pr
 
     module _ (done : waits (own .fate) ≡ false) where
       -- what its entry and the table's word tell of its mark is its reference's fate
-      mark-told : markedFate (markBy (reference own) (value (m .table) (m .table .oldest)))
+      mark-told : markedFate (markWith (reference own) (value (m .table) (m .table .oldest)))
           ≡ fateOf (at (view (m .table) .refs) 0)
       mark-told =
           let t = m .table in
-          let g = fateOf (at (view t .refs) 0) in
-          let both = agree-both (reference own) g agreed in
-          mark-by (reference own) (value t (t .oldest))
-          ∙ ap₂ (λ (k a : ℕ). fateOfKind k a (value t (t .oldest))) (both .0) (both .1)
-          ∙ fate-by g (value t (t .oldest)) (executed-too done)
-          (λ a v e. ap (value t) (sym zeroth) ∙ stored-word t 0 a v some e)
+          fate-told (own .instruction) (own .fate) (fateOf (at (view t .refs) 0)) (value t (t .oldest)) agreed (executed-too done)
+          (λ a v l e. ap (value t) (sym zeroth) ∙ stored-word t 0 a v l some e)
 
-      module _ (mark : Mark) (hm : mark ≡ markBy (reference own) (value (m .table) (m .table .oldest))) where
+      module _ (mark : Mark) (hm : mark ≡ markWith (reference own) (value (m .table) (m .table .oldest))) where
         faults-same : faults (m .table .words) (markedFate mark) ≡ faults (m .table .words) (reference own)
         faults-same =
-            ap (λ (x : Mark). faults (m .table .words) (markedFate x)) hm ∙ mark-faults (m .table .words) (reference own) _
+            ap (λ (x : Mark). faults (m .table .words) (markedFate x)) hm ∙ mark-faults (m .table .words) (own .instruction) (own .fate) _
 
         -- refusal 13: its address is W or more
         pub fault-refused : faults (m .table .words) (markedFate mark) ≡ true → Meets program m commit w (refused 13) m w []

@@ -17,7 +17,7 @@ use Rattle.marks.specs.Stages.{has}
 use Rattle.marks.proofs.Turns.{stage-lt, stage-injective}
 use Rattle.table.specs.declared.Table.{Table}
 use Rattle.table.specs.Reference
-use Rattle.table.specs.Reference.{State, Ref, waiting, other, loaded, stored, blank, fateOf, at}
+use Rattle.table.specs.Reference.{State, Ref, waiting, blank, fateOf, at}
 use Rattle.table.specs.View.{stageOf, tabulate, view}
 use Rattle.table.specs.Rules.{Rules}
 use Rattle.table.proofs.Sizes.{sizes}
@@ -69,23 +69,12 @@ use Rattle.machine_model.specs.Calls.{
 use Rattle.machine_model.specs.Calls.{survivorsOf, respond}
 use Rattle.machine_model.specs.Contract.{squashSays, entryOf, plain, agree, Sound, Meets}
 use Rattle.machine_model.specs.computed.Parts.{actionOf, second}
+use Rattle.machine_model.proofs.Comparing.{agree-same, agree-waiting}
 use Rattle.machine_model.proofs.Sounding.{length-entries, entry-at}
 use Rattle.machine_model.proofs.Operands.{fateAfter, outcome-unready, outcome-ready, reference-ready, value-ready}
 use Rattle.machine_model.proofs.Answering.{Passed, passed-lent, refused-meets, accepted-meets}
 
 -- ---- fates
-
-agree-same : (f : Reference.Fate) → agree f f ≡ true
-agree-same waiting = refl
-agree-same other = refl
-agree-same (loaded a) = eq-eqb a a refl
-agree-same (stored a v) = eq-eqb a a refl
-
-pub agree-waiting : (f : Reference.Fate) → agree waiting f ≡ true → f ≡ waiting
-agree-waiting waiting e = refl
-agree-waiting other e = absurd (let z : _≡_ {A = ℕ} 0 1 = cc in omega arith)
-agree-waiting (loaded a) e = absurd (let z : _≡_ {A = ℕ} 0 1 = cc in omega arith)
-agree-waiting (stored a v) e = absurd (let z : _≡_ {A = ℕ} 0 1 = cc in omega arith)
 
 pub waits-waiting : (i : Instruction) (f : Fate) → waits f ≡ true → referenceBy i f ≡ waiting
 waits-waiting i Waiting e = refl

@@ -23,7 +23,7 @@ use Rattle.table.specs.Reference.{fateOf, at}
 use Rattle.table.specs.View.{stageOf, tabulate, value, view}
 use Rattle.table.proofs.Sizes.{Sizes, sizes}
 use Rattle.table.proofs.Fates.{length-refs}
-use Rattle.engine.specs.computed.Steps.{within, cutMarks}
+use Rattle.engine.specs.computed.Steps.{within, cutMarks, marking}
 use Rattle.engine.proofs.Lengths.{Lengths}
 use Rattle.engine.proofs.Reaching.{within-length}
 use Rattle.lookup.specs.declared.Mark.{Mark}
@@ -43,14 +43,15 @@ use Rattle.machine_model.specs.Window.{blankEntry, registerSeen, referen
 use Rattle.machine_model.specs.Calls.{Plain, issue, execute, commit, matchesProgram, waits, valueBy, addressBy, writing}
 use Rattle.machine_model.specs.Calls.{registersAfter, target, begun, ready}
 use Rattle.machine_model.specs.Contract.{squashSays, entryOf, plain, agree, Meets}
-use Rattle.machine_model.specs.computed.Parts.{actionOf, second, markBy}
+use Rattle.machine_model.specs.computed.Parts.{actionOf, second, markWith}
 use Rattle.machine_model.proofs.Sounding.{validateOf}
 use Rattle.machine_model.proofs.Answering.{Passed, validate-passes}
 use Rattle.machine_model.proofs.Moved.{issuedOver, issue-meets}
 use Rattle.machine_model.proofs.Formed.{like-small}
-use Rattle.engine.specs.computed.Effect.{effectOf, effectAt, marking, applyEffect}
+use Rattle.engine.specs.computed.Effect.{effectOf, effectAt, applyEffect}
 use Rattle.engine.proofs.Executed.{effect-left, effect-bounds, effect-made}
-use Rattle.machine_model.proofs.Executions.{agree-waiting, waits-waiting, asked, execute-meets}
+use Rattle.machine_model.proofs.Comparing.{agree-waiting}
+use Rattle.machine_model.proofs.Executions.{waits-waiting, asked, execute-meets}
 use Rattle.machine_model.proofs.Committed.{retiredBy, fault-refused, commit-meets}
 use Rattle.machine_model.proofs.ChecksKept.{validate-lent, issue-passes, execute-passes}
 use Rattle.machine_model.proofs.OldestReady.{begun-live, begun-empty, oldest-leaves, ready-waiting, ready-executed}
@@ -417,7 +418,7 @@ length-writing registers none v = refl
 length-writing registers (some d) v = length-set registers d v
 
 module _ {program : List ℕ} {m : Machine} {w : List ℕ} {u : Machine} (prepared : Prepared program m w u) {mark : Mark}
-    (hm : mark ≡ markBy (reference (getD (u .window) (m .table .oldest) blankEntry)) (value (u .table) (m .table .oldest)))
+    (hm : mark ≡ markWith (reference (getD (u .window) (m .table .oldest) blankEntry)) (value (u .table) (m .table .oldest)))
   where
     -- the entry that commits
     abbrev last : Entry
@@ -428,11 +429,11 @@ module _ {program : List ℕ} {m : Machine} {w : List ℕ} {u : Machine} (prepar
 
     -- the mark told is the oldest's
     mark-is : mark
-        ≡ markBy (reference (getD (u .window) (u .table .oldest) blankEntry)) (value (u .table) (u .table .oldest))
+        ≡ markWith (reference (getD (u .window) (u .table .oldest) blankEntry)) (value (u .table) (u .table .oldest))
     mark-is =
         hm
         ∙ circle (prepared .along)
-        (λ (k j : ℕ). markBy (reference (getD (u .window) k blankEntry)) (value (u .table) k))
+        (λ (k j : ℕ). markWith (reference (getD (u .window) k blankEntry)) (value (u .table) k))
 
     -- a fault: the commit is refused
     pub turn-faults : faults (u .table .words) (markedFate mark) ≡ true → Meets program u commit w (refused 13) u w []

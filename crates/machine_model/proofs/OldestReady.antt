@@ -9,11 +9,10 @@ use lib.ListN.{length, getD}
 use borrow.Author.Tests.{eq-eqb, ne-eqb, lt-ltb}
 use Rattle.table.specs.Bank.{bank}
 use Rattle.table.specs.Reference
-use Rattle.table.specs.Reference.{waiting, other, loaded, stored, fateOf, at, State}
+use Rattle.table.specs.Reference.{Side, lacks, holds, waiting, other, accessed, fateOf, at, State}
 use Rattle.table.specs.View.{stageOf}
-use Rattle.lookup.specs.Outcome.{allocateRow, survivors}
+use Rattle.lookup.specs.Outcome.{allocateRow, keptInRow, survivors}
 use Rattle.lookup.specs.Rows.{touched}
-use Rattle.lookup.specs.Violation.{keptAfterStore}
 use Rattle.lookup.proofs.Violations.{checked-after}
 use Rattle.lookup.proofs.Firsts.{never-stalls}
 use Rattle.machine_model.specs.declared.Entry.{Entry}
@@ -61,16 +60,12 @@ pub oldest-leaves : (P : State) → 0 < P .rows → 0 < length (P .refs) → fat
     → (f : Reference.Fate) → survivors P 0 f ≡ 0 → ⊥
 oldest-leaves P rows live w waiting z = omega arith
 oldest-leaves P rows live w other z = omega arith
-oldest-leaves P rows live w (loaded a) z = go (touched a (P .refs)) z
+oldest-leaves P rows live w (accessed a l s) z = go (touched a (P .refs)) s z
   where
-    go : (t : Bool) → cond t (length (P .refs)) (allocateRow P 0 (bank (P .banks) a)) ≡ 0 → ⊥
-    go true y = omega arith
-    go false y = never-stalls P (bank (P .banks) a) rows live w y
-oldest-leaves P rows live w (stored a v) z = go (touched a (P .refs)) z
-  where
-    go : (t : Bool) → cond t (keptAfterStore P 0 a) (allocateRow P 0 (bank (P .banks) a)) ≡ 0 → ⊥
-    go true y = omega (arith, checked-after P 0 a live)
-    go false y = never-stalls P (bank (P .banks) a) rows live w y
+    go : (t : Bool) (s : Side) → cond t (keptInRow P 0 a s) (allocateRow P 0 (bank (P .banks) a)) ≡ 0 → ⊥
+    go true lacks y = omega arith
+    go true (holds v) y = omega (arith, checked-after P 0 a live)
+    go false s y = never-stalls P (bank (P .banks) a) rows live w y
 
 -- what ready comes to from the state begun
 abbrev readied : List ℕ → List ℕ → Plain → Plain

@@ -1,7 +1,7 @@
 -- What every call of the machine promises, for every machine, program, memory, position, limit and list.
 -- Assumes nothing.
 use mathlib.Core.Path.{_≡_}
-use mathlib.Core.Bool.{Bool, true, _&&_}
+use mathlib.Core.Bool.{Bool, true, false, _&&_}
 use mathlib.Core.List.{List}
 use mathlib.Core.Option.{Option, none, some}
 use Prim.Native.Nat.{ℕ, _/_, _<_}
@@ -9,7 +9,7 @@ use lib.Dec.{eqb}
 use lib.ListN.{length, getD, replicate}
 use Rattle.table.specs.declared.Table.{Table}
 use Rattle.table.specs.Reference
-use Rattle.table.specs.Reference.{waiting, other, loaded, stored, fateOf, at}
+use Rattle.table.specs.Reference.{Side, lacks, holds, waiting, other, accessed, fateOf, at}
 use Rattle.table.specs.View.{stageOf, tabulate, view}
 use Rattle.table.specs.Rules.{Rules}
 use Rattle.engine.specs.Conditions.{refusal}
@@ -74,20 +74,25 @@ plain m =
       next = m .next;
     }
 
--- a fate as two numbers: executed or not and with which mark, and the address
+-- the marks of an access as a number: a load's, a store's, both; 5 stands for neither, which no table has
+abbrev pub markKind : Bool → Side → ℕ
+markKind true lacks = 1
+markKind false (holds v) = 2
+markKind true (holds v) = 3
+markKind false lacks = 5
+
+-- a fate as two numbers: executed or not and with which marks, and the address
 abbrev pub kindOf : Reference.Fate → ℕ
 kindOf waiting = 4
 kindOf other = 0
-kindOf (loaded a) = 1
-kindOf (stored a v) = 2
+kindOf (accessed a l s) = markKind l s
 
 abbrev pub placeOf : Reference.Fate → ℕ
 placeOf waiting = 0
 placeOf other = 0
-placeOf (loaded a) = a
-placeOf (stored a v) = a
+placeOf (accessed a l s) = a
 
--- two fates agree: executed or not, at which address and with which mark; words are not compared
+-- two fates agree: executed or not, at which address and with which marks; words are not compared
 abbrev pub agree : Reference.Fate → Reference.Fate → Bool
 agree f g = eqb (kindOf f) (kindOf g) && eqb (placeOf f) (placeOf g)
 

@@ -16,7 +16,7 @@ ghost use lib.Dec.{ltb};
 ghost use lib.Seq.{sets};
 ghost use Rattle.machine_model.specs.Window.{reference};
 ghost use Rattle.machine_model.specs.Calls.{registersAfter};
-ghost use Rattle.machine_model.specs.computed.Parts.{markBy};
+ghost use Rattle.machine_model.specs.computed.Parts.{markWith};
 ghost use Rattle.machine_model.specs.declared.Squashed.the-variants as squashed;
 
 // The index that issue goes on with where `left` of `live` entries stay and the first that does not has this index.
@@ -61,7 +61,7 @@ pub fn write_register(registers: &mut [u32; REGISTERS], i: Instruction, v: u32)
 // The mark of the oldest stage, told by its entry `e`, which has executed and agrees with the table; `word` is the table's word
 // at that stage.
 pub fn oldest_mark(e: Entry, word: u32) -> Mark
-    ensures { λ r. ⌜ r ≡ markBy (reference e) word ⌝ }
+    ensures { λ r. ⌜ r ≡ markWith (reference e) word ⌝ }
 {
     let kind = machine_isa::entry_kind(e);
     let a = machine_isa::entry_place(e);

@@ -12,13 +12,13 @@ use lib.ListN.{length, getD, List·getD-eq-default}
 use borrow.Author.Tests.{le-leb, lt-leb, le-ltb, ne-eqb}
 use Rattle.marks.specs.Circle.{stage}
 use Rattle.table.specs.Reference
-use Rattle.table.specs.Reference.{waiting, other, loaded, stored}
 use Rattle.table.specs.View.{stageOf, tabulate}
 use Rattle.engine.specs.Conditions.{faults}
 use Rattle.machine_model.specs.declared.Entry.{Entry}
 use Rattle.machine_model.specs.declared.Machine.{Machine}
 use Rattle.machine_model.specs.Window.{blankEntry, entryAt, reference}
 use Rattle.machine_model.specs.Contract.{entryOf, plain, kindOf, placeOf}
+use Rattle.machine_model.proofs.Comparing.{faults-kind}
 use Rattle.machine_model.proofs.Sounding.{entry-at}
 use Rattle.machine_model.proofs.Finishes.{over-plain}
 use Rattle.script_model.specs.declared.Ending.the-variants.{Open, Done, Fault}
@@ -53,14 +53,6 @@ ending-live m h =
     (over-plain m ∙ ap (λ (t : Bool). t && leb (m .count) (m .next)) (ne-eqb (m .table .live) 0 (omega arith)))
     (ap reference (entry-at m 0 h))
 
--- a fault by its kind and place
-faults-kind : (words : ℕ) (f : Reference.Fate)
-    → faults words f ≡ ((eqb (kindOf f) 1 || eqb (kindOf f) 2) && leb words (placeOf f))
-faults-kind words waiting = refl
-faults-kind words other = refl
-faults-kind words (loaded a) = refl
-faults-kind words (stored a v) = refl
-
 -- by the entry there
 pub ending-entry : (m : Machine) (s : ℕ) (e : Entry) (t : Bool) → 0 < m .table .live → s ≡ stageOf (m .table) 0
     → e ≡ getD (m .window) s blankEntry
@@ -70,7 +62,7 @@ ending-entry m s e t h at is says =
     ending-live m h
     ∙ ap (λ (x : Entry). cond (faults (m .table .words) (reference x)) Fault Open)
     (sym (is ∙ ap (λ (k : ℕ). getD (m .window) k blankEntry) at))
-    ∙ ap (λ (b : Bool). cond b Fault Open) (faults-kind (m .table .words) (reference e) ∙ sym says)
+    ∙ ap (λ (b : Bool). cond b Fault Open) (faults-kind (m .table .words) (e .instruction) (e .fate) ∙ sym says)
 
 -- and past the window
 pub ending-past : (m : Machine) (s : ℕ) → 0 < m .table .live → s ≡ stageOf (m .table) 0 → length (m .window) ≤ s

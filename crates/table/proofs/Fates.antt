@@ -1,7 +1,7 @@
 -- Marks and fates: what the marks of a stage say of its fate, and every stage by its marks.
--- The fate of a stage is read off the rows one after another. A row without a mark there changes nothing (row-bare),
--- and a row with one decides alone (row-marked). By the rules at most one row has a mark there, so the fate is what
--- that row says (marked), or `other` where none has one (unmarked): induction on the rows read. Assumes nothing.
+-- The fate of a stage is read off the rows one after another. A row without a mark there changes nothing, and a row with one
+-- decides alone. By the rules at most one row has a mark there, so the fate is what that row says (marked), or `other` where
+-- none has one (unmarked): induction on the rows read. Assumes nothing.
 use mathlib.Core.Bool.{Bool, true, false, cond, _||_, true≢false, not-eq-not, or-true}
 use mathlib.Core.Logic.{_⊎_, inl, inr, ⊎-elim}
 use mathlib.Core.Path.{_≡_, refl, sym, ap, ap₂, _∙_}
@@ -12,9 +12,10 @@ use lib.ListN.{length}
 use Rattle.marks.specs.Stages.{has}
 use Rattle.table.specs.declared.Table.{Table}
 use Rattle.table.specs.Limits.{rowsIn}
-use Rattle.table.specs.Reference.{Fate, waiting, other, loaded, stored, blank, at}
+use Rattle.table.specs.Reference.{Fate, waiting, other, accessed, Side, holds, blank, at}
 use Rattle.table.specs.Rules.{Rules}
-use Rattle.table.specs.View.{address, loadMark, storeMark, mark, value, rowFate, markFate, fateAt, refAt, view}
+use Rattle.table.specs.View.{address, loadMark, storeMark, mark, value, wordIf, access, markFate, fateAt, refAt}
+use Rattle.table.specs.View.{view}
 use Rattle.table.proofs.Lists.{length-tabulate, at-tabulate}
 
 pub mark-load : (t : Table) (r s : ℕ) → loadMark t r s ≡ true → mark t r s ≡ true
@@ -41,25 +42,21 @@ mark-kind t r s = either (loadMark t r s) (storeMark t r s)
     either true b h = inl refl
     either false b h = inr h
 
--- what one row says, by its two tests: st for a store, ld for a load
-abbrev says : Bool → Bool → ℕ → ℕ → Fate → Fate
-says st ld a v d = cond st (stored a v) (cond ld (loaded a) d)
+pub side-same : (st : Bool) (v w : ℕ) → (st ≡ true → v ≡ w) → wordIf st v ≡ wordIf st w
+side-same true v w f = ap holds (f refl)
+side-same false v w f = refl
 
-row-same : (st ld : Bool) (a b v w : ℕ) (d : Fate) → ((ld || st) ≡ true → a ≡ b) → (st ≡ true → v ≡ w)
-    → says st ld a v d ≡ says st ld b w d
-row-same true ld a b v w d e f = ap₂ stored (e (or-true ld)) (f refl)
-row-same false true a b v w d e f = ap loaded (e refl)
-row-same false false a b v w d e f = refl
+-- rows with one address, and with one mark and one word at a stage, say one thing of it
+pub access-same : (t u : Table) (r q s : ℕ) → address u q ≡ address t r → loadMark u q s ≡ loadMark t r s
+    → storeMark u q s ≡ storeMark t r s → (storeMark t r s ≡ true → value u s ≡ value t s) → access u q s ≡ access t r s
+access-same t u r q s a l m v =
+    ap₂ (λ (b : ℕ) (ld : Bool). accessed b ld (wordIf (storeMark u q s) (value u s))) a l
+    ∙ ap (accessed (address t r) (loadMark t r s))
+    (ap (λ (st : Bool). wordIf st (value u s)) m ∙ side-same (storeMark t r s) (value u s) (value t s) v)
 
-row-bare : (st ld : Bool) (a v : ℕ) (d : Fate) → (ld || st) ≡ false → says st ld a v d ≡ d
-row-bare true ld a v d h = absurd (true≢false (sym (or-true ld) ∙ h))
-row-bare false true a v d h = absurd (true≢false h)
-row-bare false false a v d h = refl
-
-row-marked : (st ld : Bool) (a v : ℕ) (d e : Fate) → (ld || st) ≡ true → says st ld a v d ≡ says st ld a v e
-row-marked true ld a v d e h = refl
-row-marked false true a v d e h = refl
-row-marked false false a v d e h = absurd (true≢false (sym h))
+row-same : (m n : Bool) (x y d e : Fate) → m ≡ n → (n ≡ true → x ≡ y) → d ≡ e → cond m x d ≡ cond n y e
+row-same m true x y d e same marked below = ap (λ (b : Bool). cond b x d) same ∙ marked refl
+row-same m false x y d e same marked below = ap (λ (b : Bool). cond b x d) same ∙ below
 
 module _ (t u : Table) (s : ℕ)
     (loads : (r : ℕ) → r < rowsIn (t .banks) → loadMark u r s ≡ loadMark t r s)
@@ -70,10 +67,10 @@ module _ (t u : Table) (s : ℕ)
   unfolding markFate
   marks-same zero h = refl
   marks-same (suc k) h =
-      ap₂ (λ (st ld : Bool). says st ld (address u k) (value u s) (markFate u s k)) (stores k h) (loads k h)
-      ∙ row-same (storeMark t k s) (loadMark t k s) (address u k) (address t k) (value u s) (value t s)
-      (markFate u s k) (addresses k h) (values k h)
-      ∙ ap (rowFate t s k) (marks-same k (omega arith))
+      row-same (mark u k s) (mark t k s) (access u k s) (access t k s) (markFate u s k) (markFate t s k)
+      (ap₂ _||_ (loads k h) (stores k h))
+      (λ m. access-same t u k k s (addresses k h m) (loads k h) (stores k h) (values k h))
+      (marks-same k (omega arith))
 
 -- two tables with as many banks and the same marks at a stage, and the same addresses and values there, give it one fate
 pub fates-same : (t u : Table) (s : ℕ) → u .banks ≡ t .banks → has (u .executed) s ≡ has (t .executed) s
@@ -90,8 +87,7 @@ fates-same t u s banks executed loads stores addresses values =
 pub data Fated (t : Table) (s : ℕ) : Type 0 where
   waits : has (t .executed) s ≡ false → Fated t s
   bare : has (t .executed) s ≡ true → ((r : ℕ) → r < rowsIn (t .banks) → mark t r s ≡ false) → Fated t s
-  loads : (r : ℕ) → r < rowsIn (t .banks) → loadMark t r s ≡ true → Fated t s
-  stores : (r : ℕ) → r < rowsIn (t .banks) → storeMark t r s ≡ true → Fated t s
+  marks : (r : ℕ) → r < rowsIn (t .banks) → mark t r s ≡ true → Fated t s
 
 -- one of the first k rows has a mark at s, or none has
 abbrev Looked : Table → ℕ → ℕ → Type 0
@@ -115,8 +111,7 @@ fated t s = go (has (t .executed) s) refl
     go false e = waits e
     go true e =
         ⊎-elim
-        (λ (w : (r : ℕ) × (r < rowsIn (t .banks)) × (mark t r s ≡ true)).
-        ⊎-elim (λ m. loads (w .0) (w .1) m) (λ m. stores (w .0) (w .1) m) (mark-kind t (w .0) s (w .2)))
+        (λ (w : (r : ℕ) × (r < rowsIn (t .banks)) × (mark t r s ≡ true)). marks (w .0) (w .1) (w .2))
         (λ none. bare e none)
         (look t s (rowsIn (t .banks)))
 
@@ -124,43 +119,31 @@ unmarked : (t : Table) (s k : ℕ) → ((r : ℕ) → r < k → mark t r s ≡ f
 unfolding markFate
 unmarked t s zero h = refl
 unmarked t s (suc k) h =
-    row-bare (storeMark t k s) (loadMark t k s) (address t k) (value t s) (markFate t s k) (h k (le-refl (suc k)))
+    ap (λ (b : Bool). cond b (access t k s) (markFate t s k)) (h k (le-refl (suc k)))
     ∙ unmarked t s k (λ r l. h r (omega arith))
 
 module _ (t : Table) (rules : Rules t) where
   -- the fate that the marks of the first k rows give, where row r below k has one
   marked : (r s : ℕ) → r < rowsIn (t .banks) → mark t r s ≡ true → (k : ℕ) → k ≤ rowsIn (t .banks) → r < k
-      → markFate t s k ≡ rowFate t s r other
+      → markFate t s k ≡ access t r s
   unfolding markFate
   marked r s h m zero b l = absurd (not-suc-le-zero l)
   marked r s h m (suc k) b l =
       ⊎-elim
       (λ (e : r ≡ k).
-      row-marked (storeMark t k s) (loadMark t k s) (address t k) (value t s) (markFate t s k) other
-      (ap (λ (j : ℕ). mark t j s) (sym e) ∙ m)
-      ∙ ap (λ (j : ℕ). rowFate t s j other) (sym e))
+      ap (λ (x : Bool). cond x (access t k s) (markFate t s k)) (ap (λ (j : ℕ). mark t j s) (sym e) ∙ m)
+      ∙ ap (λ (j : ℕ). access t j s) (sym e))
       (λ (d : r < k).
-      row-bare (storeMark t k s) (loadMark t k s) (address t k) (value t s) (markFate t s k)
-      (not-eq-not .0 (λ e. ne-of-lt d (rules .one-row r k s h b m e)))
+      ap (λ (x : Bool). cond x (access t k s) (markFate t s k))
+      (not-eq-not {b = false} .0 (λ e. ne-of-lt d (rules .one-row r k s h b m e)))
       ∙ marked r s h m k (omega arith) d)
       (eq-or-lt-of-le (le-of-suc-le-suc l))
 
   -- the fate of a stage with a mark of row r
-  fate-marked : (r s : ℕ) → r < rowsIn (t .banks) → mark t r s ≡ true → fateAt t s ≡ rowFate t s r other
+  pub fate-marked : (r s : ℕ) → r < rowsIn (t .banks) → mark t r s ≡ true → fateAt t s ≡ access t r s
   fate-marked r s h m =
       ap₂ (λ (b : Bool) (f : Fate). cond b f waiting) (rules .executed r s h m)
       (marked r s h m (rowsIn (t .banks)) (le-refl (rowsIn (t .banks))) h)
-
-  pub fate-load : (r s : ℕ) → r < rowsIn (t .banks) → loadMark t r s ≡ true → fateAt t s ≡ loaded (address t r)
-  fate-load r s h m =
-      fate-marked r s h (mark-load t r s m)
-      ∙ ap₂ (λ (st ld : Bool). says st ld (address t r) (value t s) other)
-      (not-eq-not {b = false} .0 (rules .one-mark r s h m)) m
-
-  pub fate-store : (r s : ℕ) → r < rowsIn (t .banks) → storeMark t r s ≡ true → fateAt t s ≡ stored (address t r) (value t s)
-  fate-store r s h m =
-      fate-marked r s h (mark-store t r s m)
-      ∙ ap (λ (st : Bool). says st (loadMark t r s) (address t r) (value t s) other) m
 
   pub fate-other : (s : ℕ) → has (t .executed) s ≡ true → ((r : ℕ) → r < rowsIn (t .banks) → mark t r s ≡ false)
       → fateAt t s ≡ other

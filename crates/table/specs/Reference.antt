@@ -1,16 +1,28 @@
 -- The plain state: what 01 says of a table, as a list of live references in program order, oldest first.
 -- Assumes nothing.
+use mathlib.Core.Bool.{Bool, true, false}
 use mathlib.Core.List.{List}
 use Prim.Native.Nat.{ℕ}
 use lib.ListN.{getD}
 
--- What became of a reference (its status): not executed; executed without memory; a load of an address; a store at an
--- address of a word.
+-- The word of a reference's store, or that it has none.
+pub data Side : Type 0 where
+  lacks : Side
+  holds : ℕ → Side
+
+-- What became of a reference (its status): not executed; executed without memory; or executed to an address, with whether it
+-- loaded there and the word that it stored there.
 pub data Fate : Type 0 where
   waiting : Fate
   other : Fate
-  loaded : ℕ → Fate
-  stored : ℕ → ℕ → Fate
+  accessed : ℕ → Bool → Side → Fate
+
+-- a load of an address; a store at an address of a word
+abbrev pub loaded : ℕ → Fate
+loaded a = accessed a true lacks
+
+abbrev pub stored : ℕ → ℕ → Fate
+stored a v = accessed a false (holds v)
 
 -- A live reference: its issue number (sequence tag) and its fate.
 pub data Ref : Type 0 where

@@ -2,7 +2,7 @@
 -- rows, at rows of banks that the sizes do not give and at stages that are not live (specs/Same.antt says that it forgets
 -- nothing else).
 -- Assumes nothing.
-use mathlib.Core.Bool.{Bool, cond, _||_}
+use mathlib.Core.Bool.{Bool, true, false, cond, _||_}
 use mathlib.Core.List.{List, [], _∷_, _++_}
 use Prim.Native.Nat.{ℕ, zero, suc}
 use lib.ListN.{getD}
@@ -10,7 +10,7 @@ use Rattle.marks.specs.Stages.{has}
 use Rattle.marks.specs.Circle.{stage}
 use Rattle.table.specs.declared.Table.{Table}
 use Rattle.table.specs.Limits.{rowsIn}
-use Rattle.table.specs.Reference.{Fate, waiting, other, loaded, stored, Ref, ref, State}
+use Rattle.table.specs.Reference.{Side, lacks, holds, Fate, waiting, other, accessed, Ref, ref, State}
 
 -- the stage at position p of the window
 abbrev pub stageOf : Table → ℕ → ℕ
@@ -35,14 +35,19 @@ mark t r s = loadMark t r s || storeMark t r s
 abbrev pub value : Table → ℕ → ℕ
 value t s = getD (t .values) s 0
 
--- what the marks of row r say of stage s; d where it bears none there
-abbrev pub rowFate : Table → ℕ → ℕ → Fate → Fate
-rowFate t s r d = cond (storeMark t r s) (stored (address t r) (value t s)) (cond (loadMark t r s) (loaded (address t r)) d)
+-- a store mark stands for the word v
+abbrev pub wordIf : Bool → ℕ → Side
+wordIf true v = holds v
+wordIf false v = lacks
+
+-- what the marks of row r at stage s say
+abbrev pub access : Table → ℕ → ℕ → Fate
+access t r s = accessed (address t r) (loadMark t r s) (wordIf (storeMark t r s) (value t s))
 
 -- what the marks of the first k rows say of stage s; without a mark it executed without memory
 unfoldable pub markFate : Table → ℕ → ℕ → Fate
 markFate t s zero = other
-markFate t s (suc k) = rowFate t s k (markFate t s k)
+markFate t s (suc k) = cond (mark t k s) (access t k s) (markFate t s k)
 
 abbrev pub fateAt : Table → ℕ → Fate
 fateAt t s = cond (has (t .executed) s) (markFate t s (rowsIn (t .banks))) waiting

@@ -11,7 +11,7 @@ use Prim.Native.Nat.{ℕ, suc, _-_, _*_, _/_, _≤_, _<_}
 use lib.Dec.{eqb}
 use lib.ListN.{length, getD, take, drop, set, replicate}
 use Rattle.table.specs.Reference
-use Rattle.table.specs.Reference.{waiting, other, loaded, stored}
+use Rattle.table.specs.Reference.{Side, lacks, holds, waiting, other, accessed}
 use Rattle.lookup.specs.Forwarding
 use Rattle.engine.specs.Execution.{written}
 use Rattle.engine.specs.Conditions.{faults}
@@ -56,22 +56,29 @@ abbrev pub memoryAt : Core → ℕ → ℕ → ℕ
 memoryAt c p a = seenBy (take p (c .entries)) a (getD (c .memory) a 0)
 
 -- no load of address a among these entries stands before every store to a: none of them saw the word before them
+abbrev pub clearMet : Bool → Side → Bool → Bool
+clearMet true s rest = false
+clearMet false (holds v) rest = true
+clearMet false lacks rest = rest
+
 abbrev pub clearBy : Reference.Fate → ℕ → Bool → Bool
 clearBy waiting a rest = rest
 clearBy other a rest = rest
-clearBy (loaded b) a rest = cond (eqb b a) false rest
-clearBy (stored b v) a rest = cond (eqb b a) true rest
+clearBy (accessed b l s) a rest = cond (eqb b a) (clearMet l s rest) rest
 
 unfoldable pub clear : ℕ → List Entry → Bool
 clear a [] = true
 clear a (e ∷ es) = clearBy (reference e) a (clear a es)
 
 -- the entries that stay younger than one that executes to this fate: of a store, none saw the word before it
+abbrev pub SparesAt : ℕ → Side → List Entry → Type 0
+SparesAt a lacks es = Unit {0}
+SparesAt a (holds v) es = clear a es ≡ true
+
 abbrev pub Spares : Reference.Fate → List Entry → Type 0
 Spares waiting es = Unit {0}
 Spares other es = Unit {0}
-Spares (loaded a) es = Unit {0}
-Spares (stored a v) es = clear a es ≡ true
+Spares (accessed a l s) es = SparesAt a s es
 
 -- the index of the first of these entries, else the next index
 abbrev pub headIndex : List Entry → ℕ → ℕ

@@ -18,7 +18,7 @@ use borrow.Author.Tests.{eqb-true, leb-true, leb-false, lt-ltb, lt-leb}
 use Rattle.marks.specs.Counting.{every}
 use Rattle.marks.proofs.Counts.{every-at}
 use Rattle.table.specs.Reference
-use Rattle.table.specs.Reference.{waiting, other, loaded, stored}
+use Rattle.table.specs.Reference.{Side, lacks, holds, waiting, other, accessed}
 use Rattle.lookup.specs.Forwarding
 use Rattle.engine.specs.Execution.{written}
 use Rattle.engine.specs.Conditions.{faults}
@@ -33,7 +33,7 @@ use Rattle.machine_model.specs.Window.{entryAt, entryWith, writesTo, valueOf, r
 use Rattle.machine_model.specs.Calls.{waits, valueBy, addressBy, registersAfter, target}
 use Rattle.theorem.specs.Sequential.{Run, does, faultsAt, ends, step, runAfter}
 use Rattle.theorem.proofs.Core.{Core, Step, issuing, executing, squashing, committing, seenBy, registersAt, memoryAt}
-use Rattle.theorem.proofs.Core.{clear, Spares, headIndex, cutTo, afterCommit, Right, Good, Kept, fresh}
+use Rattle.theorem.proofs.Core.{clear, SparesAt, Spares, headIndex, cutTo, afterCommit, Right, Good, Kept, fresh}
 use Rattle.theorem.proofs.Knowing.{Tells, unknown-tells, good-more}
 
 -- ---- where issue goes on
@@ -96,12 +96,12 @@ told false f g w e = λ v h. h
 changed : (r : Reference.Fate) (es : List Entry) → Spares r es → (b w : ℕ) → clear b es ≡ false → w ≡ Forwarding.wordAfter r b w
 changed waiting es spared b w h = refl
 changed other es spared b w h = refl
-changed (loaded a) es spared b w h = refl
-changed (stored a v) es spared b w h = go (eqb a b) refl
+changed (accessed a l s) es spared b w h = go (eqb a b) refl s spared
   where
-    go : (t : Bool) → eqb a b ≡ t → w ≡ cond t v w
-    go true e = absurd (true≢false (sym spared ∙ ap (λ (x : ℕ). clear x es) (eqb-true a b e) ∙ h))
-    go false e = refl
+    go : (t : Bool) → eqb a b ≡ t → (s : Side) → SparesAt a s es → w ≡ cond t (Forwarding.wordOr s w) w
+    go true e lacks clears = refl
+    go true e (holds v) clears = absurd (true≢false (sym clears ∙ ap (λ (x : ℕ). clear x es) (eqb-true a b e) ∙ h))
+    go false e s clears = refl
 
 module _ (program : List ℕ) (next : ℕ) (f : Fate) where
   good-set : (p left : ℕ) (es : List Entry) (ρ : ℕ → Option ℕ) (μ : ℕ → ℕ) → p < left → left ≤ length es

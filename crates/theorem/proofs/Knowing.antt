@@ -10,7 +10,7 @@ use Prim.Native.Nat.{ℕ}
 use lib.Dec.{eqb}
 use borrow.Author.Tests.{eq-eqb}
 use Rattle.table.specs.Reference
-use Rattle.table.specs.Reference.{waiting, other, loaded, stored}
+use Rattle.table.specs.Reference.{Side, lacks, holds, waiting, other, accessed}
 use Rattle.lookup.specs.Forwarding
 use Rattle.machine_model.specs.declared.Instruction.{Instruction}
 use Rattle.machine_model.specs.declared.Instruction.the-variants.{Add, Sum, Load, Store}
@@ -19,7 +19,7 @@ use Rattle.machine_model.specs.declared.Fate.the-variants.{Waiting, Executed}
 use Rattle.machine_model.specs.declared.Entry.{Entry}
 use Rattle.machine_model.specs.Program.{sum}
 use Rattle.machine_model.specs.Window.{writesTo, valueOf, referenceBy, reference, with₂}
-use Rattle.theorem.proofs.Core.{clearBy, clear, Right, Good}
+use Rattle.theorem.proofs.Core.{clearMet, clearBy, clear, Right, Good}
 
 -- what x tells, y tells too
 abbrev pub Tells : Option ℕ → Option ℕ → Type 0
@@ -29,11 +29,14 @@ pub unknown-tells : (y : Option ℕ) → Tells none y
 unknown-tells y v e = absurd (Option·none-ne-some v e)
 
 -- the memories agree at the address that a load read
+abbrev SameLoad : Bool → ℕ → (ℕ → ℕ) → (ℕ → ℕ) → Type 0
+SameLoad true a μ μ′ = μ a ≡ μ′ a
+SameLoad false a μ μ′ = Unit {0}
+
 abbrev SameRead : Reference.Fate → (ℕ → ℕ) → (ℕ → ℕ) → Type 0
 SameRead waiting μ μ′ = Unit {0}
 SameRead other μ μ′ = Unit {0}
-SameRead (loaded a) μ μ′ = μ a ≡ μ′ a
-SameRead (stored a v) μ μ′ = Unit {0}
+SameRead (accessed a l s) μ μ′ = SameLoad l a μ μ′
 
 more₂ : {A : Type 0} (x y x′ y′ : Option ℕ) (g : ℕ → ℕ → A) (f : A) → Tells x x′ → Tells y y′ → with₂ x y g ≡ some f
     → with₂ x′ y′ g ≡ some f
@@ -63,29 +66,27 @@ tells-past : (t : Bool) (x y y′ : Option ℕ) → Tells y y′ → Tells (cond
 tells-past true x y y′ k = λ v e. e
 tells-past false x y y′ k = k
 
-past-load : (t rest : Bool) → rest ≡ false → cond t false rest ≡ false
-past-load true rest e = refl
-past-load false rest e = e
-
-past-store : (t rest : Bool) (v w w′ : ℕ) → rest ≡ false → (cond t true rest ≡ false → w ≡ w′)
-    → cond t v w ≡ cond t v w′
-past-store true rest v w w′ e agree = refl
-past-store false rest v w w′ e agree = agree e
+past-access : (t l : Bool) (s : Side) (rest : Bool) (w w′ : ℕ) → rest ≡ false
+    → (cond t (clearMet l s rest) rest ≡ false → w ≡ w′)
+    → cond t (Forwarding.wordOr s w) w ≡ cond t (Forwarding.wordOr s w′) w′
+past-access false l s rest w w′ e agree = agree e
+past-access true true lacks rest w w′ e agree = agree refl
+past-access true false lacks rest w w′ e agree = agree e
+past-access true l (holds v) rest w w′ e agree = refl
 
 -- The memories agree at each address that is not clear. So they agree at what the oldest read, and again past it.
 module _ (μ μ′ : ℕ → ℕ) (es : List Entry) where
   same-read : (r : Reference.Fate) → ((b : ℕ) → clearBy r b (clear b es) ≡ false → μ b ≡ μ′ b) → SameRead r μ μ′
   same-read waiting agree = tt
   same-read other agree = tt
-  same-read (loaded a) agree = agree a (rw (eq-eqb a a refl))
-  same-read (stored a v) agree = tt
+  same-read (accessed a true s) agree = agree a (rw (eq-eqb a a refl))
+  same-read (accessed a false s) agree = tt
 
   same-past : (r : Reference.Fate) → ((b : ℕ) → clearBy r b (clear b es) ≡ false → μ b ≡ μ′ b)
       → (b : ℕ) → clear b es ≡ false → Forwarding.wordAfter r b (μ b) ≡ Forwarding.wordAfter r b (μ′ b)
   same-past waiting agree b e = agree b e
   same-past other agree b e = agree b e
-  same-past (loaded a) agree b e = agree b (past-load (eqb a b) (clear b es) e)
-  same-past (stored a v) agree b e = past-store (eqb a b) (clear b es) v (μ b) (μ′ b) e (agree b)
+  same-past (accessed a l s) agree b e = past-access (eqb a b) l s (clear b es) (μ b) (μ′ b) e (agree b)
 
 pub good-more : (program : List ℕ) (next : ℕ) (es : List Entry) (ρ ρ′ : ℕ → Option ℕ) (μ μ′ : ℕ → ℕ)
     → ((k : ℕ) → Tells (ρ k) (ρ′ k)) → ((b : ℕ) → clear b es ≡ false → μ b ≡ μ′ b)

@@ -17,7 +17,7 @@ use lib.Seq.{take-set-lt}
 use borrow.Author.Tests.{leb-false, eqb-true, eqb-false, not-false, lt-ltb, lt-leb, eq-eqb, ne-eqb}
 use Rattle.table.specs.Limits.{sizesFit}
 use Rattle.table.specs.Reference
-use Rattle.table.specs.Reference.{waiting, other, loaded, stored, Ref, ref, numberOf, fateOf, at}
+use Rattle.table.specs.Reference.{lacks, holds, waiting, other, accessed, Ref, ref, numberOf, fateOf, at}
 use Rattle.table.proofs.Sizes.{Sizes, sizes}
 use Rattle.lookup.specs.Forwarding.{seen}
 use Rattle.engine.specs.Execution.{written}
@@ -243,8 +243,8 @@ oldest-first (e ∷ es) h = refl
 written-length : (memory : List ℕ) (f : Reference.Fate) → length (written memory f) ≡ length memory
 written-length memory waiting = refl
 written-length memory other = refl
-written-length memory (loaded a) = refl
-written-length memory (stored a v) = length-set memory a v
+written-length memory (accessed a l lacks) = refl
+written-length memory (accessed a l (holds v)) = length-set memory a v
 
 module _ (program : List ℕ) (X : Plain) (memory : List ℕ) (linked : Linked program X memory) where
   pub commit-links : Links program X memory (commits program X memory)

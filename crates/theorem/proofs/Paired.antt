@@ -14,15 +14,15 @@ use lib.Seq.{getD-take, getD-drop, getD-set-same, getD-set-other, getD-at}
 use borrow.Author.Tests.{ltb-true, ltb-false, eqb-true, eqb-false}
 use Rattle.marks.specs.Counting.{last}
 use Rattle.table.specs.Bank.{bank}
-use Rattle.table.specs.Reference.{Fate, waiting, other, loaded, stored, Ref, ref, blank, fateOf, at, State}
+use Rattle.table.specs.Reference.{Side, lacks, holds, Fate, waiting, other, accessed, Ref, ref, blank, fateOf, at, State}
 use Rattle.lookup.specs.Forwarding.{wordAfter, seen}
-use Rattle.lookup.specs.Violation.{keptFrom, keptYounger, keptAfterStore}
+use Rattle.lookup.specs.Violation.{keptMet, keptFrom, keptYounger}
 use Rattle.lookup.specs.Rows.{touched, rowsInUse, youngestRow}
-use Rattle.lookup.specs.Outcome.{allocateRow, survivors}
+use Rattle.lookup.specs.Outcome.{allocateRow, keptInRow, survivors}
 use Rattle.lookup.proofs.Violations.{checked-after, untouched-checked}
 use Rattle.machine_model.specs.declared.Entry.{Entry}
 use Rattle.machine_model.specs.Window.{blankEntry, entryAt, reference}
-use Rattle.theorem.proofs.Core.{seenBy, clearBy, clear, Spares}
+use Rattle.theorem.proofs.Core.{seenBy, clearMet, clearBy, clear, Spares}
 
 -- the lists have one length, and what stands at each position is related
 abbrev pub Each : (Ref → Entry → Type 0) → List Ref → List Entry → Type 0
@@ -93,16 +93,13 @@ clear-met : (f : Fate) (a all rest m : ℕ) (b : Bool) → suc m ≤ keptFrom f 
     → clearBy f a b ≡ true
 clear-met waiting a all rest m b l h = h (omega arith)
 clear-met other a all rest m b l h = h (omega arith)
-clear-met (loaded c) a all rest m b l h = go (eqb c a) l
+clear-met (accessed c k s) a all rest m b l h = go (eqb c a) k s l
   where
-    go : (t : Bool) → suc m ≤ cond t 0 (suc rest) → cond t false b ≡ true
-    go true i = absurd (omega arith)
-    go false i = h (omega arith)
-clear-met (stored c v) a all rest m b l h = go (eqb c a) l
-  where
-    go : (t : Bool) → suc m ≤ cond t (suc all) (suc rest) → cond t true b ≡ true
-    go true i = refl
-    go false i = h (omega arith)
+    go : (t k : Bool) (s : Side) → suc m ≤ cond t (keptMet k s all rest) (suc rest) → cond t (clearMet k s b) b ≡ true
+    go true true s i = absurd (omega arith)
+    go true false (holds v) i = refl
+    go true false lacks i = h (omega arith)
+    go false k s i = h (omega arith)
 
 -- entries that a store to the address spares are clear
 clear-spared : (rs : List Ref) (es : List Entry) (a m : ℕ) → Each Fated rs es → m ≤ keptYounger a rs → clear a (take m es) ≡ true
@@ -145,18 +142,14 @@ pub record Owed (P : State) (es : List Entry) (p left : ℕ) (f : Fate) : Type 0
   pub spares : Spares f (take (left - suc p) (drop (suc p) es))
 
 module _ (P : State) (es : List Entry) (all : Each Fated (P .refs) es) (p : ℕ) (live : p < length (P .refs)) where
-  -- nothing is owed to entries younger than a reference that is no store
-  owed-none : (f : Fate) → ((ys : List Entry) → Spares f ys) → Owed P es p (length (P .refs)) f
-  owed-none f free =
-      record {
-        after = live;
-        within = le-refl (length (P .refs));
-        spares = free (take (length (P .refs) - suc p) (drop (suc p) es));
-      }
+  -- nothing is owed to entries younger than a reference without memory
+  owed-none : (f : Fate) → Spares f (take (length (P .refs) - suc p) (drop (suc p) es)) → Owed P es p (length (P .refs)) f
+  owed-none f free = record { after = live; within = le-refl (length (P .refs)); spares = free }
 
-  -- a store that leaves no more than the check of its address's row does
-  owed-store : (a v left : ℕ) → p < left → left ≤ keptAfterStore P p a → Owed P es p left (stored a v)
-  owed-store a v left h l =
+  -- an access that leaves no more than the check of its address's row does, where it stores
+  owed-access : (a left : ℕ) (l : Bool) (s : Side) → p < left → left ≤ keptInRow P p a s → Owed P es p left (accessed a l s)
+  owed-access a left l lacks h i = record { after = h; within = i; spares = tt }
+  owed-access a left l (holds v) h i =
       record {
         after = h;
         within = omega (arith, checked-after P p a live);
@@ -165,23 +158,23 @@ module _ (P : State) (es : List Entry) (all : Each Fated (P .refs) es) (p : ℕ)
             (each-drop Fated (P .refs) es all (suc p)) (omega arith);
       }
 
+  -- what stays where the address has a row is younger than p, and all where it has none
+  kept-after : (a : ℕ) (s : Side) → p < keptInRow P p a s
+  kept-after a lacks = live
+  kept-after a (holds v) = checked-after P p a live .0
+
+  all-kept : (a : ℕ) (s : Side) → touched a (P .refs) ≡ false → keptInRow P p a s ≡ length (P .refs)
+  all-kept a lacks e = refl
+  all-kept a (holds v) e = untouched-checked P p a live e
+
   pub owed : (f : Fate) → (survivors P p f ≡ 0 → ⊥) → Owed P es p (survivors P p f) f
-  owed waiting some = owed-none waiting (λ ys. tt)
-  owed other some = owed-none other (λ ys. tt)
-  owed (loaded a) some = go (touched a (P .refs)) some
+  owed waiting some = owed-none waiting tt
+  owed other some = owed-none other tt
+  owed (accessed a l s) some = go (touched a (P .refs)) refl some
     where
-      go : (t : Bool) → (cond t (length (P .refs)) (allocateRow P p (bank (P .banks) a)) ≡ 0 → ⊥)
-          → Owed P es p (cond t (length (P .refs)) (allocateRow P p (bank (P .banks) a))) (loaded a)
-      go true none = owed-none (loaded a) (λ ys. tt)
-      go false none =
-          let h = room-after P p (bank (P .banks) a) live none in
-          record { after = h .0; within = h .1; spares = tt }
-  owed (stored a v) some = go (touched a (P .refs)) refl some
-    where
-      go : (t : Bool) → touched a (P .refs) ≡ t → (cond t (keptAfterStore P p a) (allocateRow P p (bank (P .banks) a)) ≡ 0 → ⊥)
-          → Owed P es p (cond t (keptAfterStore P p a) (allocateRow P p (bank (P .banks) a))) (stored a v)
-      go true e none =
-          owed-store a v (keptAfterStore P p a) (checked-after P p a live .0) (le-refl (keptAfterStore P p a))
+      go : (t : Bool) → touched a (P .refs) ≡ t → (cond t (keptInRow P p a s) (allocateRow P p (bank (P .banks) a)) ≡ 0 → ⊥)
+          → Owed P es p (cond t (keptInRow P p a s) (allocateRow P p (bank (P .banks) a))) (accessed a l s)
+      go true e none = owed-access a (keptInRow P p a s) l s (kept-after a s) (le-refl (keptInRow P p a s))
       go false e none =
           let h = room-after P p (bank (P .banks) a) live none in
-          owed-store a v (allocateRow P p (bank (P .banks) a)) (h .0) (rw (untouched-checked P p a live e) (h .1))
+          owed-access a (allocateRow P p (bank (P .banks) a)) l s (h .0) (rw (all-kept a s e) (h .1))

@@ -1,13 +1,13 @@
 -- What an execution comes to, found over the arrays lent, and the table that it leaves.
 -- Assumes nothing.
-use mathlib.Core.Bool.{Bool, true, false, cond, _||_}
+use mathlib.Core.Bool.{true, false, cond, _||_}
 use mathlib.Core.List.{List}
 use Prim.Native.Nat.{ℕ}
 use lib.ListN.{getD, set}
 use Rattle.table.specs.declared.Table.{Table}
 use Rattle.table.specs.Bank.{bank}
-use Rattle.engine.specs.computed.Steps.{cut, executing, withStage}
-use Rattle.lookup.specs.computed.Search.{forward, loadPlace, storePlace}
+use Rattle.engine.specs.computed.Steps.{cut, executing, marking}
+use Rattle.lookup.specs.computed.Search.{forward, placeFor, leftAfter}
 use Rattle.engine.specs.declared.Action.{Action}
 use Rattle.engine.specs.declared.Action.the-variants.{Compute, LoadAt, StoreAt}
 use Rattle.engine.specs.declared.Effect.{Effect}
@@ -17,7 +17,7 @@ abbrev pub effectOf : ℕ → ℕ → ℕ → ℕ → ℕ → List ℕ → List 
 effectOf banks rows stages oldest live addresses loads stores values p memory (Compute v) =
     record { load = false; store = false; row = 0; left = live; value = v; address = 0 }
 effectOf banks rows stages oldest live addresses loads stores values p memory (LoadAt a) =
-    let q = loadPlace oldest stages live rows addresses loads stores (bank banks a) a p in
+    let q = placeFor oldest stages live rows addresses loads stores (bank banks a) a p in
     record {
       load = true;
       store = false;
@@ -27,17 +27,20 @@ effectOf banks rows stages oldest live addresses loads stores values p memory (L
       address = a;
     }
 effectOf banks rows stages oldest live addresses loads stores values p memory (StoreAt a v) =
-    let q = storePlace oldest stages live rows addresses loads stores (bank banks a) a p in
-    record { load = false; store = true; row = q .row; left = q .left; value = v; address = a }
+    let q = placeFor oldest stages live rows addresses loads stores (bank banks a) a p in
+    record {
+      load = false;
+      store = true;
+      row = q .row;
+      left = leftAfter oldest stages live loads stores (q .row) (q .left) p;
+      value = v;
+      address = a;
+    }
 
 -- the same of a table
 abbrev pub effectAt : Table → ℕ → List ℕ → Action → Effect
 effectAt t p memory act =
     effectOf (t .banks) (t .rows) (t .stages) (t .oldest) (t .live) (t .addresses) (t .loads) (t .stores) (t .values) p memory act
-
--- stage s joins the mark word of row r, where `on`
-abbrev pub marking : List ℕ → Bool → ℕ → ℕ → List ℕ
-marking words on r s = cond on (withStage words r s) words
 
 -- the table after an execution at stage s with this effect
 abbrev pub applyEffect : Table → Effect → ℕ → Table

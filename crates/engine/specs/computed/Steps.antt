@@ -1,6 +1,6 @@
 -- The steps that the calls make on a table, as the code makes them.
 -- Assumes nothing.
-use mathlib.Core.Bool.{cond}
+use mathlib.Core.Bool.{Bool, cond}
 use mathlib.Core.List.{List, map, _++_}
 use Prim.Native.Nat.{ℕ, _+_, _%_, _^_}
 use lib.Dec.{ltb}
@@ -86,11 +86,12 @@ noted t s = executing t s (t .addresses) (t .loads) (t .stores) (t .values)
 abbrev pub withStage : List ℕ → ℕ → ℕ → List ℕ
 withStage words r s = set words r (bitOr (getD words r 0) (2 ^ s))
 
--- a load mark of stage s in row r, which is now address a's
-abbrev pub loadMarked : Table → ℕ → ℕ → ℕ → Table
-loadMarked t r s a = executing t s (set (t .addresses) r a) (withStage (t .loads) r s) (t .stores) (t .values)
+-- the same where `on`
+abbrev pub marking : List ℕ → Bool → ℕ → ℕ → List ℕ
+marking words on r s = cond on (withStage words r s) words
 
--- a store mark of stage s in row r, which is now address a's, with the word v
-abbrev pub storeMarked : Table → ℕ → ℕ → ℕ → ℕ → Table
-storeMarked t r s a v =
-    executing t s (set (t .addresses) r a) (t .loads) (withStage (t .stores) r s) (set (t .values) s v)
+-- stage s marked in row r, which is now address a's, as a load, and as a store with the word v
+abbrev pub accessMarked : Table → ℕ → ℕ → ℕ → Bool → Bool → ℕ → Table
+accessMarked t r s a load store v =
+    executing t s (set (t .addresses) r a) (marking (t .loads) load r s) (marking (t .stores) store r s)
+    (cond store (set (t .values) s v) (t .values))

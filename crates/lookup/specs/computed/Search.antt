@@ -11,7 +11,7 @@ use Rattle.marks.specs.Stages.{has}
 use Rattle.marks.specs.Circle.{stage}
 use Rattle.table.specs.Limits.{rowsMost}
 use Rattle.table.specs.computed.Check.{marksOf}
-use Rattle.table.specs.Reference.{Fate, other, loaded, stored}
+use Rattle.table.specs.Reference.{Fate, waiting, other, accessed, lacks, holds, loaded, stored}
 use Rattle.lookup.specs.declared.Place.{Place}
 use Rattle.lookup.specs.declared.Mark.{Mark}
 use Rattle.lookup.specs.declared.Mark.the-variants.{Absent, Load, Store}
@@ -91,18 +91,17 @@ allocatedRow o n live rows loads stores b p =
 abbrev pub rowOf : ℕ → List ℕ → List ℕ → List ℕ → ℕ → ℕ → ℕ
 rowOf rows addresses loads stores b a = find (belongs addresses loads stores b a) rows
 
--- the row in which a load at position p of address a in bank b is marked, and how many references stay
-abbrev pub loadPlace : ℕ → ℕ → ℕ → ℕ → List ℕ → List ℕ → List ℕ → ℕ → ℕ → ℕ → Place
-loadPlace o n live rows addresses loads stores b a p =
+-- the row in which an execution at position p to address a in bank b is marked, and how many references stay
+abbrev pub placeFor : ℕ → ℕ → ℕ → ℕ → List ℕ → List ℕ → List ℕ → ℕ → ℕ → ℕ → Place
+placeFor o n live rows addresses loads stores b a p =
     cond (eqb (rowOf rows addresses loads stores b a) 0) (allocatedRow o n live rows loads stores b p)
     (record { row = b * rowsMost + (rowOf rows addresses loads stores b a - 1); left = live })
 
--- the same of a store
-abbrev pub storePlace : ℕ → ℕ → ℕ → ℕ → List ℕ → List ℕ → List ℕ → ℕ → ℕ → ℕ → Place
-storePlace o n live rows addresses loads stores b a p =
-    cond (eqb (rowOf rows addresses loads stores b a) 0) (allocatedRow o n live rows loads stores b p)
-    (let r = b * rowsMost + (rowOf rows addresses loads stores b a - 1) in
-    record { row = r; left = violationPoint o n live (getD loads r 0) (getD stores r 0) p })
+-- How many stay of a store that is given row r, where `left` of them have it: a row that was taken from another address has
+-- squashed already, and any other row has the marks of this address alone.
+abbrev pub leftAfter : ℕ → ℕ → ℕ → List ℕ → List ℕ → ℕ → ℕ → ℕ → ℕ
+leftAfter o n live loads stores r left p =
+    cond (ltb left live) left (violationPoint o n live (getD loads r 0) (getD stores r 0) p)
 
 -- what the marks of the first k rows say of stage s
 unfoldable pub markOf : List ℕ → List ℕ → List ℕ → List ℕ → ℕ → ℕ → Mark
@@ -110,6 +109,13 @@ markOf addresses loads stores values s zero = Absent
 markOf addresses loads stores values s (suc k) =
     cond (has (getD stores k 0) s) (Store (getD addresses k 0) (getD values s 0))
     (cond (has (getD loads k 0) s) (Load (getD addresses k 0)) (markOf addresses loads stores values s k))
+
+-- what a fate says of a commit: the address, and the word of a store
+abbrev pub markBy : Fate → Mark
+markBy waiting = Absent
+markBy other = Absent
+markBy (accessed a l lacks) = Load a
+markBy (accessed a l (holds v)) = Store a v
 
 -- a mark as the fate of an executed reference
 abbrev pub markedFate : Mark → Fate

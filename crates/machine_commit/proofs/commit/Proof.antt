@@ -20,7 +20,7 @@ use Rattle.machine_model.specs.declared.Entry.{Entry}
 use Rattle.machine_model.specs.declared.Machine.{Machine}
 use Rattle.machine_model.specs.Window.{blankEntry, reference}
 use Rattle.machine_model.specs.Calls.{commit, waits}
-use Rattle.machine_model.specs.computed.Parts.{markBy}
+use Rattle.machine_model.specs.computed.Parts.{markWith}
 use Rattle.machine_model.proofs.Sounding.{validateOf}
 use Rattle.machine_model.proofs.Agreeing.{validate-law}
 use Rattle.machine_model.proofs.Answering.{Passed, validate-passes, validate-turns}
@@ -102,7 +102,7 @@ executed-at c = sym (c .before .is-waiting .ensures) ∙ c .if3 .left
 -- the mark told of the oldest
 mark-at : (c : tie.After-oldest-mark)
     → let start = some (executed (c .before .before .before .before)) in
-    c .oldest-mark .result ≡ markBy (reference (oldest start)) (value (table start) (table start .oldest))
+    c .oldest-mark .result ≡ markWith (reference (oldest start)) (value (table start) (table start .oldest))
 mark-at c = rw (c .before .at-stage .ensures) at (c .oldest-mark .ensures)
 
 validate-requires : tie.Need-validate-requires

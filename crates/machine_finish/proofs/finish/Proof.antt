@@ -23,7 +23,7 @@ use Rattle.machine_model.specs.declared.Entry.{Entry}
 use Rattle.machine_model.specs.Window.{blankEntry, reference}
 use Rattle.machine_model.specs.Calls.{finish, waits, programDone, begun}
 use Rattle.machine_model.specs.Contract.{plain}
-use Rattle.machine_model.specs.computed.Parts.{second, markBy}
+use Rattle.machine_model.specs.computed.Parts.{second, markWith}
 use Rattle.machine_model.proofs.Sounding.{validateOf}
 use Rattle.machine_model.proofs.Agreeing.{validate-law}
 use Rattle.machine_model.proofs.Answering.{Passed, validate-passes, validate-turns}
@@ -476,7 +476,7 @@ oldest-mark-requires c κs = search needs
 mark-at : (c : tie.After-oldest-mark Inv-loop μ-loop)
     → let p = prepared c in
     let o = turning p .loop .m .table .oldest in
-    c .oldest-mark .result ≡ markBy (reference (getD (p .if5 .m .window) o blankEntry)) (value (p .if5 .m .table) o)
+    c .oldest-mark .result ≡ markWith (reference (getD (p .if5 .m .window) o blankEntry)) (value (p .if5 .m .table) o)
 mark-at c = rw (c .before .at-stage .ensures) at (c .oldest-mark .ensures)
 
 mark-faults-requires : tie.Need-mark-faults-requires Inv-loop μ-loop

@@ -11,7 +11,6 @@ use Rattle.marks.specs.Stages.{has}
 use Rattle.marks.specs.Circle.{stage}
 use Rattle.marks.specs.Counting.{every}
 use Rattle.table.specs.Reference
-use Rattle.table.specs.Reference.{waiting, other, loaded, stored}
 use Rattle.table.specs.View.{tabulate}
 use Rattle.table.specs.Limits.{rowsMost, rowsIn}
 use Rattle.table.specs.Bank.{bank}
@@ -140,8 +139,5 @@ validateBy banks rows stages words oldest live executed addresses loads stores w
     ∷ [])
 
 -- the mark of the oldest stage, by what its entry is to the buffer; v is the word that the table has at that stage
-abbrev pub markBy : Reference.Fate → ℕ → Mark
-markBy waiting v = Absent
-markBy other v = Absent
-markBy (loaded a) v = mark.Load a
-markBy (stored a x) v = mark.Store a v
+abbrev pub markWith : Reference.Fate → ℕ → Mark
+markWith f v = cond (eqb (kindOf f) 1) (mark.Load (placeOf f)) (cond (eqb (kindOf f) 2) (mark.Store (placeOf f) v) Absent)

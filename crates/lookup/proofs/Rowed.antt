@@ -1,5 +1,5 @@
--- The row in which a load is marked is one of the table's 64, whatever the marks are. A row that is found is one of the
--- bank's, and so is the one chosen to be evicted; where the load stalls the row is 0. By cases on what is found.
+-- The row in which an execution is marked is one of the table's 64, whatever the marks are. A row that is found is one of the
+-- bank's, and so is the one chosen to be evicted; where it stalls the row is 0. By cases on what is found.
 -- Assumes nothing.
 use mathlib.Core.Bool.{Bool, true, false, cond}
 use mathlib.Core.List.{List}
@@ -7,10 +7,10 @@ use mathlib.Core.Path.{_≡_, refl}
 use Prim.Native.Nat.{ℕ, zero, suc, _+_, _-_, _*_, _≤_, _<_}
 use native.Mathlib.Omega.{arith}
 use lib.Dec.{eqb, ltb, eqb·suc-zero}
 use Rattle.lookup.specs.declared.Place.{Place}
-use Rattle.lookup.specs.computed.Search.{find, chosen, free, belongs, bankMark, evicted, allocatedRow, loadPlace}
+use Rattle.lookup.specs.computed.Search.{find, chosen, free, belongs, bankMark, evicted, allocatedRow, placeFor}
 use Rattle.lookup.proofs.Loops.{chosen-lt}
 use Rattle.lookup.proofs.Finds.{find-at}
 
 abbrev placed : ℕ → ℕ → Place
 placed r k = record { row = r; left = k }
@@ -35,9 +35,9 @@ module _ (b rows : ℕ) (bank : b < 8) (some : 0 < rows) (most : rows ≤ 8) whe
       go true = let w = chosen-lt f rows some in omega arith
       go false = omega arith
 
-pub load-row : (o n live rows : ℕ) (addresses loads stores : List ℕ) (b a p : ℕ) → b < 8 → 0 < rows → rows ≤ 8
-    → loadPlace o n live rows addresses loads stores b a p .row < 64
-load-row o n live rows addresses loads stores b a p bank some most =
+pub place-row : (o n live rows : ℕ) (addresses loads stores : List ℕ) (b a p : ℕ) → b < 8 → 0 < rows → rows ≤ 8
+    → placeFor o n live rows addresses loads stores b a p .row < 64
+place-row o n live rows addresses loads stores b a p bank some most =
     let mark = bankMark o n live loads stores b in
     let gone = evicted o n live rows loads stores b p in
     let room = allocatedRow o n live rows loads stores b p in
