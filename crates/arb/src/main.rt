@@ -24,16 +24,28 @@ enum Outcome {
     Lost,
 }
 
-// Reads until the input ends, which a read of no bytes tells, a read fails or the buffer is full.
+// One read: how many bytes it gave, and whether the input ended, which a read of no bytes tells.
+fn read_some(buf: &mut [u8]) -> Input
+    ensures { λ r. ⌜ r .count ≤ length (now (buf .exit)) ⌝ }
+{
+    let got = libc::read(STDIN_FILENO, buf);
+    let count = io::count(got, buf);
+    Input {
+        count,
+        whole: got == 0,
+    }
+}
+
+// Reads until the input ends, a read fails or the buffer is full.
 fn read_all(buf: &mut [u8]) -> Input
     ensures { λ r. ⌜ r .count ≤ length (now (buf .exit)) ⌝ }
 {
     let mut done: usize = 0;
     while done < buf.len() {
-        let got = libc::read(STDIN_FILENO, &mut buf[done..]);
-        let more = io::count(got, &buf[done..]);
+        let input = read_some(&mut buf[done..]);
+        let whole = input.whole;
+        let more = input.count;
         if more == 0 {
-            let whole = got == 0;
             return Input { count: done, whole };
         }
         done += more;
@@ -44,19 +56,22 @@ fn read_all(buf: &mut [u8]) -> Input
     }
 }
 
-// Whether the last of these lines is a bad line and not the end line.
-fn ends_bad(out: &[u8]) -> bool {
+// What the last of these lines says, by its first byte: a bad line or the end line.
+fn outcome_of(out: &[u8]) -> Outcome {
     let mut i = out.len();
-    while i > 1 {
-        if out[i - 2] == b'\n' {
-            return out[i - 1] == b'b';
-        }
+    let mut first = b'\n';
+    while i > 0 {
         i -= 1;
+        let byte = out[i];
+        if (byte == b'\n') & (first != b'\n') {
+            break;
+        }
+        first = byte;
     }
-    if i == 1 {
-        return out[0] == b'b';
+    if first == b'b' {
+        return Outcome::Bad;
     }
-    false
+    Outcome::All
 }
 
 // Plays on, and writes each piece, until all is printed or a write fails. A player that is over at its beginning prints nothing:
@@ -65,25 +80,18 @@ fn play(s: &[u8], whole: bool, program: &mut [u32], memory: &mut [u32], out: &mu
     requires { ⌜ longest ≤ length (now out) ⌝ }
 {
     let mut player = script::begin(s, whole, program, memory);
-    let first = player.phase;
-    if script::is_over(first) {
-        return Outcome::Nothing;
-    }
-    let mut bad = false;
+    let mut outcome = Outcome::Nothing;
     loop {
         let phase = player.phase;
         if script::is_over(phase) {
-            if bad {
-                return Outcome::Bad;
-            }
-            return Outcome::All;
+            return outcome;
         }
         let piece = script::fill(player, s, program, memory, out);
         let end = piece.end;
         if !io::write_all(STDOUT_FILENO, &out[0..end]) {
             return Outcome::Lost;
         }
-        bad = ends_bad(&out[0..end]);
+        outcome = outcome_of(&out[0..end]);
         player = piece.player;
     }
 }

@@ -53,6 +53,13 @@ module _ (t : Table) (rules : Rules t) (p : ℕ) (live : p < t .live) (w : List 
   effect-bounds (LoadAt a) stays = bounds a (placeAt t a p) (placed t rules a p live stays)
   effect-bounds (StoreAt a x) stays = bounds a (storeAt t a p) (store-placed t rules a p live stays)
 
+  -- of the effect that was found
+  pub found-bounds : (act : Action) {q : Effect} → q ≡ effectAt t p w act → (q .left ≡ 0 → ⊥)
+      → (p < q .left) × (q .left ≤ t .live) × (q .row < slots)
+  found-bounds act found stays =
+      subst (λ (x : Effect). (p < x .left) × (x .left ≤ t .live) × (x .row < slots)) (sym found)
+      (effect-bounds act (λ z. stays (ap (λ (x : Effect). x .left) found ∙ z)))
+
   pub effect-value : (act : Action) → (effectAt t p w act .left ≡ 0 → ⊥)
       → cond (effectAt t p w act .load) (effectAt t p w act .value) 0 ≡ answerOf (forwarded (view t) w p) act
   effect-value (Compute x) stays = refl

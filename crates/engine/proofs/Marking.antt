@@ -24,7 +24,7 @@ use Rattle.table.specs.Limits.{rowsIn}
 use Rattle.table.specs.Moves.{windowed, withFate}
 use Rattle.table.specs.Reference.{Fate, other, accessed, ref, numberOf, at}
 use Rattle.table.specs.Rules.{Live, Rules}
-use Rattle.table.specs.View.{stageOf, address, loadMark, storeMark, mark, value, wordIf, access, fateAt, refAt}
+use Rattle.table.specs.View.{stageOf, address, loadMark, storeMark, mark, value, wordIf, fateAt, refAt}
 use Rattle.table.specs.View.{view}
 use Rattle.table.proofs.Fates.{mark-load, mark-kind, no-load, no-store, side-same, fates-same, fate-marked, fate-other, at-refs}
 use Rattle.table.proofs.Lists.{tabulate-set}

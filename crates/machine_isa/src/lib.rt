@@ -8,7 +8,7 @@ use machine_model::Kind;
 ghost use mathlib.Core.Path.{_≡_};
 ghost use mathlib.Core.List.{[], _∷_};
 ghost use Prim.Native.Nat.{_+_, _*_, _≤_, _<_};
-ghost use lib.ListN.{length};
+ghost use lib.ListN.{length, getD};
 ghost use lib.Seq.{sets};
 ghost use Rattle.machine_model.specs.Program.{decoded, instructionAt, wellFormed, programFits, codeOf, dOf, sOf, immOf};
 ghost use Rattle.machine_model.specs.Program.{kind, destination};
@@ -16,6 +16,41 @@ ghost use Rattle.machine_model.specs.Contract.{kindOf, placeOf};
 ghost use Rattle.machine_model.specs.Window.{reference};
 ghost use Rattle.machine_model.specs.Calls.{waits, valueBy, addressBy, target};
 ghost use Rattle.machine_model.specs.computed.Parts.{registerNumber, likeBy, actionOf, second};
+
+// The four numbers of an instruction.
+struct Numbers {
+    code: u32,
+    d: u32,
+    s: u32,
+    imm: u32,
+}
+
+// Those at index `i` of the program.
+fn numbers_at(program: &[u32], i: usize) -> Numbers
+    requires { ⌜ i * 4 + 3 < length (now program) ⌝ }
+    ensures { λ r. ⌜ (r .code ≡ getD (now (program .entry)) (i * 4) 0) × (r .d ≡ getD (now (program .entry)) (i * 4 + 1) 0) ⌝ }
+    ensures { λ r. ⌜ (r .s ≡ getD (now (program .entry)) (i * 4 + 2) 0) × (r .imm ≡ getD (now (program .entry)) (i * 4 + 3) 0) ⌝ }
+{
+    let k = i * 4;
+    Numbers {
+        code: program[k],
+        d: program[k + 1],
+        s: program[k + 2],
+        imm: program[k + 3],
+    }
+}
+
+// Those of an instruction.
+fn numbers_of(i: Instruction) -> Numbers
+    ensures { λ r. ⌜ (r .code ≡ codeOf i) × (r .d ≡ dOf i) × (r .s ≡ sOf i) × (r .imm ≡ immOf i) ⌝ }
+{
+    match i {
+        Instruction::Add(d, s, imm) => Numbers { code: 1, d, s, imm },
+        Instruction::Sum(d, s, imm) => Numbers { code: 2, d, s, imm },
+        Instruction::Load(d, s, imm) => Numbers { code: 3, d, s, imm },
+        Instruction::Store(d, s, imm) => Numbers { code: 4, d, s, imm },
+    }
+}
 
 // The instruction with these four numbers.
 fn decode(code: u32, d: u32, s: u32, imm: u32) -> Instruction
@@ -60,8 +95,8 @@ pub fn program_fits(program: &[u32]) -> bool
     let mut fit = true;
     let mut i = 0;
     while i < count {
-        let k = i * 4;
-        fit = fit & well_formed(program[k], program[k + 1], program[k + 2], program[k + 3]);
+        let n = numbers_at(program, i);
+        fit = fit & well_formed(n.code, n.d, n.s, n.imm);
         i += 1;
     }
     fit
@@ -71,46 +106,23 @@ pub fn program_fits(program: &[u32]) -> bool
 pub fn code_of(i: Instruction) -> u32
     ensures { λ r. ⌜ r ≡ codeOf i ⌝ }
 {
-    match i {
-        Instruction::Add(_, _, _) => 1,
-        Instruction::Sum(_, _, _) => 2,
-        Instruction::Load(_, _, _) => 3,
-        Instruction::Store(_, _, _) => 4,
-    }
+    let n = numbers_of(i);
+    n.code
 }
 
-// An instruction's d, s and imm.
+// An instruction's d and s.
 fn d_of(i: Instruction) -> u32
     ensures { λ r. ⌜ r ≡ dOf i ⌝ }
 {
-    match i {
-        Instruction::Add(d, _, _) => d,
-        Instruction::Sum(d, _, _) => d,
-        Instruction::Load(d, _, _) => d,
-        Instruction::Store(d, _, _) => d,
-    }
+    let n = numbers_of(i);
+    n.d
 }
 
 pub fn s_of(i: Instruction) -> u32
     ensures { λ r. ⌜ r ≡ sOf i ⌝ }
 {
-    match i {
-        Instruction::Add(_, s, _) => s,
-        Instruction::Sum(_, s, _) => s,
-        Instruction::Load(_, s, _) => s,
-        Instruction::Store(_, s, _) => s,
-    }
-}
-
-fn imm_of(i: Instruction) -> u32
-    ensures { λ r. ⌜ r ≡ immOf i ⌝ }
-{
-    match i {
-        Instruction::Add(_, _, imm) => imm,
-        Instruction::Sum(_, _, r) => r,
-        Instruction::Load(_, _, imm) => imm,
-        Instruction::Store(_, _, imm) => imm,
-    }
+    let n = numbers_of(i);
+    n.s
 }
 
 // Whether the entry's instruction has the four numbers at its index in the program. They are compared as they stand: of a
@@ -118,15 +130,14 @@ fn imm_of(i: Instruction) -> u32
 pub fn entry_fits(program: &[u32], e: Entry) -> bool
     ensures { λ r. ⌜ r ≡ likeBy (now (program .entry)) e ⌝ }
 {
-    let k = (e.index as usize) * 4;
-    if k + 3 >= program.len() {
+    let at = e.index as usize;
+    if at * 4 + 3 >= program.len() {
         return false;
     }
     let i = e.instruction;
-    (program[k] == code_of(i))
-        & (program[k + 1] == d_of(i))
-        & (program[k + 2] == s_of(i))
-        & (program[k + 3] == imm_of(i))
+    let n = numbers_at(program, at);
+    let own = numbers_of(i);
+    (n.code == own.code) & (n.d == own.d) & (n.s == own.s) & (n.imm == own.imm)
 }
 
 // An entry's kind and address as the buffer has them: 0 executed without memory, 1 a load, 2 a store, 4 waiting.

@@ -6,7 +6,7 @@
 -- opened length (fitting-law). So the validation over the machine's parts is that of the contract (validate-law): where the
 -- rules are
 -- broken, both are 2. Assumes nothing.
-use mathlib.Core.Bool.{Bool, true, false, cond, not, _&&_, _||_, true≢false, false≢true, or-true, or-false, not-eq-not}
+use mathlib.Core.Bool.{Bool, true, false, cond, not, _&&_, _||_, true≢false, or-true, or-false, not-eq-not}
 use mathlib.Core.Bool.{and-eq-true-iff}
 use mathlib.Core.List.{List, [], _∷_}
 use mathlib.Core.Logic.{⊎-elim}
@@ -22,7 +22,7 @@ use borrow.Author.Tests.{eqb-true, eqb-false, eq-eqb, leb-true, ltb-true, ltb-fa
 use Rattle.marks.specs.Circle.{stage}
 use Rattle.marks.specs.Counting.{every}
 use Rattle.marks.specs.Stages.{has}
-use Rattle.marks.proofs.Counts.{every-at}
+use Rattle.marks.proofs.Counts.{every-at, every-same}
 use Rattle.marks.proofs.Sets.{has-or, has-zero}
 use Rattle.table.specs.declared.Table.{Table}
 use Rattle.table.specs.Bank.{bank}
@@ -49,7 +49,7 @@ use Rattle.machine_model.specs.Program.{kind, programFits}
 use Rattle.machine_model.specs.Window.{blankEntry, accessBy, referenceBy}
 use Rattle.machine_model.specs.Calls.{matchesProgram}
 use Rattle.machine_model.proofs.Comparing.{marked-kind}
-use Rattle.machine_model.proofs.Sounding.{agreeing, fitting, validateOf, every-same}
+use Rattle.machine_model.proofs.Sounding.{agreeing, fitting, validateOf}
 use Rattle.machine_model.specs.computed.Parts.{union, marksAt, agreesBy, agreeingBy, likeBy, fittingBy, validateBy}
 
 module _ (test : ℕ → Bool) (f : ℕ → ℕ) where
@@ -326,12 +326,14 @@ module _ (program : List ℕ) (count : ℕ) (fits : programFits program ≡ true
   fitting-law oldest stages window live =
       every-same _ _ live (λ p h. like-law (getD window (stage oldest stages p) blankEntry))
 
--- the validation over the machine's parts is that of the contract
-pub validate-law : (m : Machine) (program : List ℕ) (lent : ℕ)
-    → let t = m .table in
+-- the validation over the machine's parts, as the code finds it, is that of the contract
+abbrev pub validateIn : Machine → List ℕ → ℕ → ℕ
+validateIn m program lent =
+    let t = m .table in
     validateBy (t .banks) (t .rows) (t .stages) (t .words) (t .oldest) (t .live) (t .executed) (t .addresses) (t .loads)
     (t .stores) (m .window) (m .count) program lent
-    ≡ validateOf m program lent
+
+pub validate-law : (m : Machine) (program : List ℕ) (lent : ℕ) → validateIn m program lent ≡ validateOf m program lent
 validate-law m program lent =
     let t = m .table in
     ap

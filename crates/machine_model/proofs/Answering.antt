@@ -1,7 +1,7 @@
 -- How the contract `Meets` is met: by a refusal with 2 where the machine is not sound, by any other refusal that the
 -- definition gives, and by an accepted call whose answer, state, memory and list are the definition's. The validation is the
 -- first of the conditions 2, 3 and 4 that holds: 0 says that none does (validate-passes), and any other number is the call's
--- refusal (validate-turns), because each call's own checks begin with those of the validation. The validation looks at the window
+-- refusal (check-turns), because each call's own checks begin with those of the validation. The validation looks at the window
 -- by stage, the definition at the list of entries; they see the same entries (fits-same). Assumes nothing.
 use mathlib.Core.Bool.{Bool, true, false, cond, not, _&&_, and-eq-true-iff}
 use mathlib.Core.List.{List, [], _∷_}
@@ -12,7 +12,7 @@ use lib.Dec.{eqb}
 use lib.ListN.{length}
 use borrow.Author.Tests.{eqb-true, eqb-false, eq-eqb}
 use Rattle.marks.specs.Counting.{every}
-use Rattle.marks.proofs.Counts.{every-at}
+use Rattle.marks.proofs.Counts.{every-at, every-same}
 use Rattle.table.specs.computed.Check.{lawful}
 use Rattle.engine.specs.Contract.{refused}
 use Rattle.engine.specs.Conditions.{Check, when, refusal, wrongLength}
@@ -24,8 +24,9 @@ use Rattle.machine_model.specs.Window.{entryAt}
 use Rattle.machine_model.specs.Calls.{Call, issue, execute, squash, commit, finish, lentTo, Answer, Result}
 use Rattle.machine_model.specs.Calls.{matchesProgram, fitsProgram, programCheck, respond}
 use Rattle.machine_model.specs.Contract.{entryOf, plain, Sound, Meets}
-use Rattle.machine_model.proofs.Sounding.{agreeing, fitting, validateOf, every-same, length-entries, entry-at}
+use Rattle.machine_model.proofs.Sounding.{agreeing, fitting, validateOf, length-entries, entry-at}
 use Rattle.machine_model.proofs.Sounding.{tests-sound, broken-tests}
+use Rattle.machine_model.proofs.Agreeing.{validateIn, validate-law}
 
 -- ---- meeting the contract
 
@@ -89,6 +90,14 @@ validate-passes m program lent h =
           ap (λ (b : Bool). cond (not b) 4 (refusal checks)) (fits-same program m ∙ tests .2);
     }
 
+-- the same of the number that the code found
+module _ (m : Machine) (program : List ℕ) (lent : ℕ) {why : ℕ} (found : why ≡ validateIn m program lent) (none : why ≡ 0) where
+  pub check-none : validateOf m program lent ≡ 0
+  check-none = sym (validate-law m program lent) ∙ sym found ∙ none
+
+  pub check-passes : Passed m program lent
+  check-passes = validate-passes m program lent check-none
+
 -- a passed machine passes both checks of a call that is lent memory
 pub passed-lent : (m : Machine) (program w : List ℕ) → Passed m program (length w) → (checks : List Check)
     → refusal (wrongLength (m .table .words) w ∷ programCheck program (plain m) ∷ checks) ≡ refusal checks
@@ -125,11 +134,11 @@ program-turned m program (squash p) w e f = rw f
 program-turned m program commit w e f = rw (e, f)
 program-turned m program (finish k list) w e f = rw (e, f)
 
-pub validate-turns : (m : Machine) (program : List ℕ) (c : Call) (w : List ℕ) (k : ℕ)
-    → validateOf m program (lengthFor m c w) ≡ k → (k ≡ 0 → ⊥) → Meets program m c w (refused k) m w (lentTo c)
-validate-turns m program c w k h some =
+pub check-turns : (m : Machine) (program : List ℕ) (c : Call) (w : List ℕ) {k : ℕ}
+    → k ≡ validateIn m program (lengthFor m c w) → (k ≡ 0 → ⊥) → Meets program m c w (refused k) m w (lentTo c)
+check-turns m program c w {k} found some =
     go (lawful (m .table) && agreeing m (m .table .live)) (eqb (lengthFor m c w) (m .table .words)) (fitting program m) refl
-    refl refl h
+    refl refl (sym (found ∙ validate-law m program (lengthFor m c w)))
   where
     go : (a b d : Bool) → (lawful (m .table) && agreeing m (m .table .live)) ≡ a
         → eqb (lengthFor m c w) (m .table .words) ≡ b → fitting program m ≡ d

@@ -17,7 +17,7 @@ use Rattle.table.specs.Reference.{fateOf, at}
 use Rattle.table.specs.View.{stageOf, value, view}
 use Rattle.table.specs.Moves.{retire}
 use Rattle.table.proofs.Fates.{length-refs}
-use Rattle.engine.specs.computed.Steps.{within}
+use Rattle.engine.specs.computed.Steps.{remade, within}
 use Rattle.engine.proofs.Narrowing.{retire-rules, retire-view}
 use Rattle.lookup.specs.declared.Mark.{Mark}
 use Rattle.lookup.specs.computed.Search.{markedFate}
@@ -26,7 +26,6 @@ use Rattle.engine.specs.Contract.{refused, committed, judged}
 use Rattle.engine.specs.Execution.{written}
 use Rattle.engine.proofs.Meeting.{judged-refused}
 use Rattle.engine.proofs.Fated.{stored-word}
-use Rattle.machine_model.specs.declared.Instruction.{Instruction}
 use Rattle.machine_model.specs.declared.Entry.{Entry}
 use Rattle.machine_model.specs.declared.Machine.{Machine}
 use Rattle.machine_model.specs.Program.{codeOf}
@@ -45,21 +44,7 @@ abbrev pub retiredBy : Machine → ℕ → List ℕ → List ℕ → List ℕ �
 retiredBy m o loads stores registers =
     let t = m .table in
     record {
-      table = record {
-        banks = t .banks;
-        rows = t .rows;
-        stages = t .stages;
-        words = t .words;
-        oldest = o;
-        live = t .live - 1;
-        next = t .next;
-        executed = t .executed;
-        numbers = t .numbers;
-        addresses = t .addresses;
-        loads = loads;
-        stores = stores;
-        values = t .values;
-      };
+      table = remade t o (t .live - 1) (t .executed) (t .addresses) loads stores (t .values);
       window = m .window;
       registers = registers;
       count = m .count;

@@ -7,24 +7,24 @@ use mathlib.Core.Path.{_≡_, refl, sym, ap, ap₂, subst, _∙_}
 use mathlib.Core.Bool.{Bool, true, false, cond, _||_}
 use mathlib.Core.List.{List, []}
 use mathlib.Core.Option.{Option, none, some}
-use Prim.Native.Nat.{ℕ, _+_, _-_, _*_, _%_, _^_, _≤_, _<_}
+use Prim.Native.Nat.{ℕ, _+_, _-_, _%_, _^_, _≤_, _<_}
 use native.Mathlib.Omega.{arith}
 use lib.Bits.{bitAnd, bitOr, and-zero-r}
 use lib.Dec.{ltb}
 use lib.ListN.{length, getD, set, length-set}
 use lib.Seq.{getD-set-same}
 use Rattle.marks.specs.Circle.{stage, firsts}
-use Rattle.marks.specs.Stages.{has}
+use Rattle.marks.specs.Stages.{width}
 use Rattle.marks.proofs.Turns.{stage-zero}
 use Rattle.table.specs.declared.Table.{Table}
 use Rattle.table.specs.Limits.{stagesMost, slots, rowsIn}
 use Rattle.table.specs.Reference
 use Rattle.table.specs.Reference.{fateOf, at}
 use Rattle.table.specs.View.{stageOf, tabulate, value, view}
-use Rattle.table.proofs.Sizes.{Sizes, sizes}
+use Rattle.table.proofs.Sizes.{Sizes}
 use Rattle.table.proofs.Fates.{length-refs}
-use Rattle.engine.specs.computed.Steps.{within, cutMarks, marking}
-use Rattle.engine.proofs.Lengths.{Lengths}
+use Rattle.engine.specs.computed.Steps.{rebuilt, remade, within, cutMarks, marking}
+use Rattle.engine.proofs.Lengths.{fits, oldest-small}
 use Rattle.engine.proofs.Reaching.{within-length}
 use Rattle.lookup.specs.declared.Mark.{Mark}
 use Rattle.lookup.specs.computed.Search.{markedFate}
@@ -45,23 +45,17 @@ use Rattle.machine_model.specs.Calls.{registersAfter, target, begun, rea
 use Rattle.machine_model.specs.Contract.{squashSays, entryOf, plain, agree, Meets}
 use Rattle.machine_model.specs.computed.Parts.{actionOf, second, markWith}
 use Rattle.machine_model.proofs.Sounding.{validateOf}
+use Rattle.machine_model.proofs.Sized.{Sized}
 use Rattle.machine_model.proofs.Answering.{Passed, validate-passes}
 use Rattle.machine_model.proofs.Moved.{issuedOver, issue-meets}
 use Rattle.machine_model.proofs.Formed.{like-small}
 use Rattle.engine.specs.computed.Effect.{effectOf, effectAt, applyEffect}
-use Rattle.engine.proofs.Executed.{effect-left, effect-bounds, effect-made}
+use Rattle.engine.proofs.Executed.{effect-left, found-bounds, effect-made}
 use Rattle.machine_model.proofs.Comparing.{agree-waiting}
 use Rattle.machine_model.proofs.Executions.{waits-waiting, asked, execute-meets}
 use Rattle.machine_model.proofs.Committed.{retiredBy, fault-refused, commit-meets}
 use Rattle.machine_model.proofs.ChecksKept.{validate-lent, issue-passes, execute-passes}
 use Rattle.machine_model.proofs.OldestReady.{begun-live, begun-empty, oldest-leaves, ready-waiting, ready-executed}
-
--- the lengths of a machine's arrays, and its count in 32 bits
-pub record Sized (m : Machine) : Type 0 where
-  pub lengths : Lengths (m .table)
-  pub window : length (m .window) ≡ 16
-  pub registers : length (m .registers) ≡ 8
-  pub small : m .count < 2 ^ 32
 
 -- in the turn that begins at m with memory w: a machine with plain state Y, something live, and the same circle
 pub record Along (program : List ℕ) (m : Machine) (w : List ℕ) (Y : Plain) (b : Machine) : Type 0 where
@@ -79,21 +73,7 @@ abbrev issuedHere : Machine → ℕ → List ℕ → Instruction → Machine
 issuedHere m number numbers i =
     let t = m .table in
     record {
-      table = record {
-        banks = t .banks;
-        rows = t .rows;
-        stages = t .stages;
-        words = t .words;
-        oldest = t .oldest;
-        live = 1;
-        next = number;
-        executed = 0;
-        numbers = numbers;
-        addresses = t .addresses;
-        loads = t .loads;
-        stores = t .stores;
-        values = t .values;
-      };
+      table = rebuilt t (t .oldest) 1 number 0 numbers (t .addresses) (t .loads) (t .stores) (t .values);
       window = set (m .window) (t .oldest) (record { instruction = i; index = m .next; fate = Waiting });
       registers = m .registers;
       count = m .count;
@@ -137,8 +117,7 @@ module _ (program : List ℕ) (m : Machine) (w : List ℕ) (passes : validateOf 
         → Meets program m issue w (named (m .table .live)) b w []
     issued-meets b hb =
         let rules = passed .sound .rules in
-        let size = sizes _ _ _ _ (rules .sizes) in
-        let room : m .table .live < m .table .stages = omega (arith, size .some-stage) in
+        let room : m .table .live < m .table .stages = omega (arith, fits (m .table) rules .some-stage) in
         let lent = validate-passes m program (m .table .words) (validate-lent m program _ _ (passed .words) passes) in
         subst (λ (x : Machine). Meets program m issue w (named (m .table .live)) x w []) (sym (hb ∙ issued-same))
         (issue-meets program m lent w (sized .lengths) (sized .window) room left)
@@ -179,13 +158,18 @@ module _ {program : List ℕ} {m : Machine} {w : List ℕ} {Y : Plain} {b : Mach
   along-sizes =
       let t = b .table in
       subst (λ (n : ℕ). Sizes (t .banks) (t .rows) n (t .words)) (along .stages)
-      (sizes (t .banks) (t .rows) (t .stages) (t .words) (along-passed .sound .rules .sizes))
+      (fits t (along-passed .sound .rules))
 
   pub along-start : m .table .oldest < m .table .stages
   along-start = omega (arith, along-passed .sound .rules .start, along .oldest, along .stages)
 
   pub along-room : b .table .live ≤ m .table .stages
   along-room = omega (arith, along-passed .sound .rules .live-bounded, along .stages)
+
+  -- what is asked of a position of the circle
+  pub along-asks : (p : ℕ) → p ≤ b .table .live
+      → (m .table .oldest < m .table .stages) × (p ≤ m .table .stages) × (m .table .stages ≤ width)
+  along-asks p h = (along-start, omega (arith, h, along-room), omega (arith, along-sizes .stages))
 
   -- what is said of the circle at the turn's start
   circle : {A : Type 0} (f : ℕ → ℕ → A) → f (m .table .oldest) (m .table .stages) ≡ f (b .table .oldest) (b .table .stages)
@@ -208,21 +192,7 @@ took b o q done addresses loads stores values next =
     let t = b .table in
     let e = getD (b .window) o blankEntry in
     record {
-      table = record {
-        banks = t .banks;
-        rows = t .rows;
-        stages = t .stages;
-        words = t .words;
-        oldest = t .oldest;
-        live = q .left;
-        next = t .next;
-        executed = done;
-        numbers = t .numbers;
-        addresses = addresses;
-        loads = loads;
-        stores = stores;
-        values = values;
-      };
+      table = remade t (t .oldest) (q .left) done addresses loads stores values;
       window = set (b .window) o
           (record { instruction = e .instruction; index = e .index; fate = Executed (q .value) (q .address) });
       registers = b .registers;
@@ -311,22 +281,20 @@ module _ {program : List ℕ} {m : Machine} {w : List ℕ} {b : Machine}
         effectOf (t .banks) (t .rows) j k (t .live) (t .addresses) (t .loads) (t .stores) (t .values) 0 w act)
 
     -- it never stalls
-    stays : effectAt t 0 w act .left ≡ 0 → ⊥
+    stays : q .left ≡ 0 → ⊥
     stays e =
         let rules = passed-here .sound .rules in
         let f = fateOf (at (view t .refs) 0) in
         let x = entryOf b 0 in
-        oldest-leaves (view t) (sizes _ _ _ _ (rules .sizes) .some-row) (omega (arith, length-refs t, along .some))
+        oldest-leaves (view t) (fits t rules .some-row) (omega (arith, length-refs t, along .some))
         (agree-waiting f
         (ap (λ (g : Reference.Fate). agree g f) (sym (waits-waiting (x .instruction) (x .fate) idle-here))
         ∙ passed-here .sound .agrees 0 (along .some)))
         (fateBy act)
-        (sym (effect-left t rules 0 (along .some) w act) ∙ e)
+        (sym (effect-left t rules 0 (along .some) w act) ∙ ap (λ (k : Effect). k .left) (sym effect-is) ∙ e)
 
     pub taken-bounds : (0 < q .left) × (q .left ≤ t .live) × (q .row < slots)
-    taken-bounds =
-        subst (λ (k : Effect). (0 < k .left) × (k .left ≤ t .live) × (k .row < slots)) (sym effect-is)
-        (effect-bounds t (passed-here .sound .rules) 0 (along .some) w act stays)
+    taken-bounds = found-bounds t (passed-here .sound .rules) 0 (along .some) w act effect-is stays
 
     module _ {done : ℕ} {cutLoads cutStores addresses loads stores values : List ℕ} {f : Entry} {next : ℕ}
         (hd : done ≡ bitOr (t .executed) (2 ^ o)) (hl : cutLoads ≡ cutMarks (t .banks) o n (t .live) (q .left) (t .loads))
@@ -361,8 +329,7 @@ module _ {program : List ℕ} {m : Machine} {w : List ℕ} {b : Machine}
           []
       taken-meets =
           execute-meets b program w 0 passed-here (along .some) idle-here (along .sized .window) (along .sized .lengths) act
-          asks o (sym here) q effect-is (λ e. stays (ap (λ (k : Effect). k .left) (sym effect-is) ∙ e)) (taken .table)
-          table-is _ refl _ refl next next-is
+          asks o (sym here) q effect-is stays (taken .table) table-is _ refl _ refl next next-is
 
       taken-sized : Sized taken
       taken-sized =
@@ -386,10 +353,8 @@ module _ {program : List ℕ} {m : Machine} {w : List ℕ} {b : Machine}
             small = along .sized .small;
           }
 
-      oldest-small : o < length (b .window)
-      oldest-small =
-          let rules = passed-here .sound .rules in
-          omega (arith, along .sized .window, along .oldest, rules .start, sizes _ _ _ _ (rules .sizes) .stages)
+      window-holds : o < length (b .window)
+      window-holds = omega (arith, along .sized .window, along .oldest, oldest-small t (passed-here .sound .rules))
 
       pub ready-taken : (u : Machine) → u ≡ taken → Prepared program m w u
       ready-taken u e =
@@ -408,7 +373,7 @@ module _ {program : List ℕ} {m : Machine} {w : List ℕ} {b : Machine}
             };
             executed =
                 ap (λ (s : ℕ). waits (getD (taken .window) s blankEntry .fate)) (along .oldest)
-                ∙ ap (λ (x : Entry). waits (x .fate)) (getD-set-same (b .window) o _ blankEntry oldest-small);
+                ∙ ap (λ (x : Entry). waits (x .fate)) (getD-set-same (b .window) o _ blankEntry window-holds);
           })
 
 -- ---- committed

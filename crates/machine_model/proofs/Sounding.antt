@@ -3,9 +3,8 @@
 -- Assumes nothing.
 use mathlib.Core.Bool.{Bool, true, false, not, _&&_, true≢false, and-eq-true-iff}
 use mathlib.Core.List.{List, [], _∷_}
-use mathlib.Core.Path.{_≡_, refl, sym, ap, ap₂, _∙_}
-use Prim.Native.Nat.{ℕ, zero, suc, _*_, _<_}
-use native.Mathlib.Omega.{arith}
+use mathlib.Core.Path.{_≡_, sym, ap, ap₂, _∙_}
+use Prim.Native.Nat.{ℕ, _*_, _<_}
 use lib.Dec.{eqb}
 use lib.ListN.{length}
 use Rattle.marks.specs.Counting.{every}
@@ -41,12 +40,6 @@ validateOf m program lent =
     (when (not (lawful (m .table) && agreeing m (m .table .live))) 2 ∷ when (not (eqb lent (m .table .words))) 3
     ∷ when (not (fitting program m)) 4
     ∷ [])
-
--- two tests that agree below n
-pub every-same : (f g : ℕ → Bool) (n : ℕ) → ((k : ℕ) → k < n → f k ≡ g k) → every f n ≡ every g n
-unfolding every
-every-same f g zero h = refl
-every-same f g (suc n) h = ap₂ _&&_ (every-same f g n (λ k l. h k (omega arith))) (h n (omega arith))
 
 -- the entries of the plain state, by position
 pub length-entries : (m : Machine) → length (plain m .entries) ≡ m .table .live

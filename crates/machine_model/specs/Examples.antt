@@ -10,7 +10,7 @@ use mathlib.Core.Option.{none, some}
 use Prim.Native.Nat.{ℕ}
 use lib.Dec.{eqb}
 use lib.ListN.{replicate, set}
-use Rattle.table.specs.Reference.{ref, numberOf, at}
+use Rattle.table.specs.Moves.{withFate}
 use Rattle.engine.specs.Conditions.{refusal}
 use Rattle.engine.specs.Contract.{refused, done, named, executed, committed, finished}
 use Rattle.machine_model.specs.declared.Instruction.{Instruction}
@@ -57,17 +57,8 @@ told (spoil p e ∷ steps) = told steps
 
 abbrev pub spoiled : Plain → ℕ → Entry → Plain
 spoiled X p e =
-    let Y = X .buffer in
     record {
-      buffer = record {
-        banks = Y .banks;
-        rows = Y .rows;
-        stages = Y .stages;
-        words = Y .words;
-        oldest = Y .oldest;
-        next = Y .next;
-        refs = set (Y .refs) p (ref (numberOf (at (Y .refs) p)) (reference e));
-      };
+      buffer = withFate (X .buffer) p (reference e);
       entries = set (X .entries) p e;
       registers = X .registers;
       count = X .count;

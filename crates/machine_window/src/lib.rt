@@ -12,46 +12,40 @@ use table::SLOTS;
 use table::STAGES;
 ghost use mathlib.Core.Path.{_≡_};
 ghost use mathlib.Core.Option.{some};
-ghost use Prim.Native.Nat.{ℕ, _*_, _≤_, _<_};
+ghost use Prim.Native.Nat.{ℕ, _≤_, _<_};
 ghost use lib.ListN.{length, getD};
 ghost use Rattle.machine_model.specs.Window.{valueOf, registerSeen, with₂};
 ghost use Rattle.machine_model.specs.Program.{sOf};
 ghost use Rattle.machine_model.specs.computed.Parts.{destinationAt, writer, asNumber, actionOf, second, marksAt, agreesBy};
 ghost use Rattle.machine_model.specs.computed.Parts.{agreeingBy, fittingBy, entriesOf, wantedBy, validateBy};
-ghost use Rattle.table.specs.Limits.{banksMost, slots, stagesMost, rowsIn};
-ghost use Rattle.table.specs.computed.Check.{marksBelow};
+ghost use Rattle.table.specs.Limits.{banksMost, slots, stagesMost};
+ghost use Rattle.table.specs.Bank.{bank};
+ghost use Rattle.marks.specs.Stages.{has};
 
-// The stages that bear a mark in some row of the banks in use.
-fn marked_stages<'a>(banks: usize, loads: &'a [u32; SLOTS], stores: &'a [u32; SLOTS]) -> u32
-    requires { ⌜ (banks ≤ banksMost) × (length (now loads) ≡ slots) × (length (now stores) ≡ slots) ⌝ }
-    ensures { λ r. ⌜ r ≡ marksBelow (now (loads .entry)) (now (stores .entry)) (rowsIn banks) ⌝ }
-{
-    let end = banks * ROWS;
-    let mut all: u32 = 0;
-    let mut r = 0;
-    while r < end {
-        all = all | (loads[r] | stores[r]);
-        r += 1;
-    }
-    all
-}
-
-// The stages that bear a mark of one kind in a row of bank `b` with address `a`. Every row of the bank is read: an early exit
+// Whether stage `s` bears a mark of one kind in a row with address `a`. Every row of the address's bank is read: an early exit
 // would be a branch to guess.
-fn marks_of<'a>(addresses: &'a [u32; SLOTS], marks: &'a [u32; SLOTS], b: usize, a: u32) -> u32
-    requires { ⌜ (b < banksMost) × (length (now addresses) ≡ slots) × (length (now marks) ≡ slots) ⌝ }
-    ensures { λ r. ⌜ r ≡ marksAt (now (addresses .entry)) (now (marks .entry)) b a ⌝ }
+fn bears_mark<'a>(
+    banks: usize,
+    addresses: &'a [u32; SLOTS],
+    marks: &'a [u32; SLOTS],
+    a: u32,
+    s: usize,
+) -> bool
+    requires { ⌜ (0 < banks) × (banks ≤ banksMost) × (s < stagesMost) ⌝ }
+    requires { ⌜ (length (now addresses) ≡ slots) × (length (now marks) ≡ slots) ⌝ }
+    ensures { λ r. ⌜ r ≡ has (marksAt (now (addresses .entry)) (now (marks .entry)) (bank banks a) a) s ⌝ }
 {
+    let first = table::bank_of(banks, a) * ROWS;
     let mut all: u32 = 0;
     let mut i = 0;
     while i < ROWS {
-        let r = b * ROWS + i;
+        let r = first + i;
         if addresses[r] == a {
             all = all | marks[r];
         }
         i += 1;
     }
-    all
+    marks::contains(all, s)
 }
 
 // Whether an entry of this kind and address agrees with what the table's marks say of its stage `s`.
@@ -77,11 +71,10 @@ fn stage_agrees<'a>(
     if kind == 0 {
         return marks::contains(executed, s) & !marks::contains(marked, s);
     }
-    let b = table::bank_of(banks, place);
     if kind == 1 {
-        return marks::contains(marks_of(addresses, loads, b, place), s);
+        return bears_mark(banks, addresses, loads, place, s);
     }
-    marks::contains(marks_of(addresses, stores, b, place), s)
+    bears_mark(banks, addresses, stores, place, s)
 }
 
 // What one pass over the live entries says: whether window and table agree on them (executed or not, at which address and
@@ -110,7 +103,7 @@ fn pass_over<'a>(
         (now (stores .entry)) window live ⌝ }
     ensures { λ r. ⌜ r .fits ≡ fittingBy (now (program .entry)) oldest stages window live ⌝ }
 {
-    let marked = marked_stages(banks, loads, stores);
+    let marked = table::marks_from(loads, stores, 0, banks * ROWS);
     let mut agrees = true;
     let mut fits = true;
     let mut p = 0;

@@ -21,6 +21,12 @@ every-at f (suc n) e k h =
     ⊎-elim (λ (q : k ≡ n). ap f q ∙ both .1) (λ (l : k < n). every-at f n (both .0) k l)
     (eq-or-lt-of-le (le-of-suc-le-suc h))
 
+-- two tests that agree below n
+pub every-same : (f g : ℕ → Bool) (n : ℕ) → ((k : ℕ) → k < n → f k ≡ g k) → every f n ≡ every g n
+unfolding every
+every-same f g zero h = refl
+every-same f g (suc n) h = ap₂ _&&_ (every-same f g n (λ k l. h k (omega arith))) (h n (omega arith))
+
 pub every-from : (f : ℕ → Bool) (n : ℕ) → ((k : ℕ) → k < n → f k ≡ true) → every f n ≡ true
 unfolding every
 every-from f zero h = refl

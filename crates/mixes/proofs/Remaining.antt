@@ -75,22 +75,34 @@ module _
     {sum : ℕ}
     (mixing : Mixing name Does when turns t₀ memory₀ sum₀ left t m sum)
   where
-    -- a turn with a call
-    pub mixing-called : {said : Answer N} {u : S} {v : List ℕ} {n : Tally} {s : ℕ}
-        → 0 < left → length v ≡ length m → Does t m said u v → Tallies n (numbersIn name said) → s ≡ summed sum (listed n)
-        → Mixing name Does when turns t₀ memory₀ sum₀ (left - 1) u v s
-    mixing-called {said} some as-long does told counted =
+    -- a turn leaves state u′, memory v′ and numbers n′, with which the checksum is s: those of a call
+    pub mixing-called : {said : Answer N} {u u′ : S} {v v′ : List ℕ} {n n′ : Tally} {s : ℕ}
+        → 0 < left → s ≡ summed sum (listed n′) → v′ ≡ v → u′ ≡ u → n′ ≡ n
+        → length v ≡ length m → Does t m said u v → Tallies n (numbersIn name said)
+        → Mixing name Does when turns t₀ memory₀ sum₀ (left - 1) u′ v′ s
+    mixing-called {said} some counted hv hu hn as-long does told =
         record {
-          long = as-long ∙ mixing .long;
+          long = ap length hv ∙ as-long ∙ mixing .long;
           remains =
               remains-turn (mixing .remains) some
-              (inl (record { said = said; does = does; told = tallied name said sum told counted }));
+              (inl (record {
+                said = said;
+                does = rw (hu, hv) does;
+                told = tallied name said sum told (counted ∙ ap (λ (k : Tally). summed sum (listed k)) hn);
+              }));
         }
 
-    -- a turn with another state in its place
-    pub mixing-changed : {u : S} → 0 < left → left - 1 ≡ when → Mixing name Does when turns t₀ memory₀ sum₀ (left - 1) u m sum
-    mixing-changed some last =
-        record { long = mixing .long; remains = remains-turn (mixing .remains) some (inr (last, refl, refl)) }
+    -- another state in its place, and no number
+    pub mixing-changed : {u : S} {v′ : List ℕ} {n n′ : Tally} {s : ℕ}
+        → 0 < left → s ≡ summed sum (listed n′) → v′ ≡ m → n′ ≡ n → listed n ≡ [] → left - 1 ≡ when
+        → Mixing name Does when turns t₀ memory₀ sum₀ (left - 1) u v′ s
+    mixing-changed some counted hv hn none last =
+        record {
+          long = ap length hv ∙ mixing .long;
+          remains =
+              remains-turn (mixing .remains) some
+              (inr (last, hv, counted ∙ ap (λ (k : Tally). summed sum (listed k)) hn ∙ ap (summed sum) none));
+        }
 
     -- an opening before them, and every turn made
     pub mixed : {Opens : Answer N → S → Type 0} {n : Tally} (said : Answer N)

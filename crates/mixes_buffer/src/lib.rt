@@ -6,7 +6,6 @@
 use mixes::Tally;
 use table::STAGES;
 use table::Ticket;
-ghost use mathlib.Core.Path.{_≡_};
 ghost use Rattle.buffer_model.specs.Answers as buffer;
 ghost use Rattle.mixes.specs.computed.Turns.{Tallies, numbersIn};
 ghost use Rattle.mixes_buffer.specs.computed.Turns.{ticketed, BufferTurns};
@@ -65,11 +64,6 @@ fn ticket_drawn(
     Ticket { stage, number }
 }
 
-// Fifteen high bits of a state as a word to store.
-fn word_drawn(seed: u64) -> u32 {
-    (seed / 65536 % 32768) as u32
-}
-
 // `calls` turns of a buffer with these sizes. Of 32 turns 12 are an issue, 8 a commit, 5 a load, 5 a store, 1
 // an execution of something else and 1 a squash. In the turn after which `when` are left, the table is
 // spoiled instead.
@@ -100,54 +94,45 @@ pub extern "C" fn mixes_buffer(
         left -= 1;
         let first = mixes::advance(second);
         second = mixes::advance(first);
-        if left == when {
+        let drawn = mixes::bits(first);
+        let kind = drawn % 32;
+        let tally = if left == when {
             t = mixes::spoil(t, part, by);
-            continue;
-        }
-        let kind = mixes::bits(first) % 32;
-        if kind < 12 {
+            Tally(0, 0, 0, 0, 0)
+        } else if kind < 12 {
             let issued = buffer::issue(t);
             let said = issued.answer;
             t = issued.table;
-            sum = mixes::with_all(sum, named_tally(said));
-            continue;
-        }
-        if kind < 20 {
+            named_tally(said)
+        } else if kind < 20 {
             let committed = buffer::commit(t, memory);
             let said = committed.answer;
             t = committed.table;
-            sum = mixes::with_all(sum, named_tally(said));
-            continue;
-        }
-        let numbers = t.numbers;
-        let drawn = mixes::bits(first) / 32;
-        let ticket = ticket_drawn(t.oldest, t.stages, t.live, t.executed, numbers, drawn);
-        let address = mixes::address_drawn(mixes::bits(second));
-        if kind < 25 {
-            let loaded = buffer::execute_load(t, ticket, address, memory);
-            let said = loaded.answer;
-            t = loaded.table;
-            sum = mixes::with_all(sum, executed_tally(said));
-            continue;
-        }
-        if kind < 30 {
-            let stored = buffer::execute_store(t, ticket, address, word_drawn(second), memory);
-            let said = stored.answer;
-            t = stored.table;
-            sum = mixes::with_all(sum, executed_tally(said));
-            continue;
-        }
-        if kind < 31 {
-            let noted = buffer::execute_other(t, ticket, memory);
-            let said = noted.answer;
-            t = noted.table;
-            sum = mixes::with_all(sum, executed_tally(said));
-            continue;
-        }
-        let squashed = buffer::squash(t, ticket);
-        let said = squashed.answer;
-        t = squashed.table;
-        sum = mixes::with_all(sum, done_tally(said));
+            named_tally(said)
+        } else {
+            let numbers = t.numbers;
+            let ticket = ticket_drawn(t.oldest, t.stages, t.live, t.executed, numbers, drawn / 32);
+            if kind < 31 {
+                let word = mixes::bits(second);
+                let address = mixes::address_drawn(word);
+                let ran = if kind < 25 {
+                    buffer::execute_load(t, ticket, address, memory)
+                } else if kind < 30 {
+                    buffer::execute_store(t, ticket, address, word as u32, memory)
+                } else {
+                    buffer::execute_other(t, ticket, memory)
+                };
+                let said = ran.answer;
+                t = ran.table;
+                executed_tally(said)
+            } else {
+                let squashed = buffer::squash(t, ticket);
+                let said = squashed.answer;
+                t = squashed.table;
+                done_tally(said)
+            }
+        };
+        sum = mixes::with_all(sum, tally);
     }
     sum
 }

@@ -6,8 +6,6 @@
 use machine::Machine;
 use mixes::Tally;
 use table::STAGES;
-ghost use mathlib.Core.Path.{_≡_};
-ghost use Prim.Native.Nat.{ℕ};
 ghost use Rattle.machine_model.specs.Contract as machine;
 ghost use Rattle.mixes.specs.computed.Turns.{Tallies, numbersIn};
 ghost use Rattle.mixes_machine.specs.computed.Turns.{placed, MachineTurns, Runs};
@@ -145,51 +143,42 @@ pub extern "C" fn mixes_machine(
     while 0 < left {
         left -= 1;
         draw = mixes::advance(draw);
-        if left == when {
-            m = spoil_machine(m, part, by);
-            continue;
-        }
+        let drawn = mixes::bits(draw);
+        let kind = drawn % 32;
         let t = m.table;
-        if (t.live == 0) & (m.count <= m.next) {
+        let tally = if left == when {
+            m = spoil_machine(m, part, by);
+            Tally(0, 0, 0, 0, 0)
+        } else if (t.live == 0) & (m.count <= m.next) {
             let again = machine::open(banks, rows, stages, words, program, memory);
             let said = again.answer;
             m = again.machine;
-            sum = mixes::with_all(sum, done_tally(said));
-            continue;
-        }
-        let kind = mixes::bits(draw) % 32;
-        if kind < 12 {
+            done_tally(said)
+        } else if kind < 12 {
             let issued = machine::issue(m, program);
             let said = issued.answer;
             m = issued.machine;
-            sum = mixes::with_all(sum, issued_tally(said));
-            continue;
-        }
-        if kind < 20 {
+            issued_tally(said)
+        } else if kind < 20 {
             let committed = machine::commit(m, program, memory);
             let said = committed.answer;
             m = committed.machine;
-            sum = mixes::with_all(sum, committed_tally(said));
-            continue;
-        }
-        let p = mixes::position_drawn(
-            t.oldest,
-            t.stages,
-            t.live,
-            t.executed,
-            mixes::bits(draw) / 32,
-        );
-        if kind < 31 {
-            let ran = machine::execute(m, program, p, memory);
-            let said = ran.answer;
-            m = ran.machine;
-            sum = mixes::with_all(sum, executed_tally(said));
-            continue;
-        }
-        let squashed = machine::squash(m, program, p);
-        let said = squashed.answer;
-        m = squashed.machine;
-        sum = mixes::with_all(sum, done_tally(said));
+            committed_tally(said)
+        } else {
+            let p = mixes::position_drawn(t.oldest, t.stages, t.live, t.executed, drawn / 32);
+            if kind < 31 {
+                let ran = machine::execute(m, program, p, memory);
+                let said = ran.answer;
+                m = ran.machine;
+                executed_tally(said)
+            } else {
+                let squashed = machine::squash(m, program, p);
+                let said = squashed.answer;
+                m = squashed.machine;
+                done_tally(said)
+            }
+        };
+        sum = mixes::with_all(sum, tally);
     }
     sum
 }

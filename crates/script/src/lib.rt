@@ -12,7 +12,7 @@ pub use script_playing::fill;
 pub use script_reading::words_of;
 ghost use mathlib.Core.Path.{_≡_};
 ghost use lib.ListN.{length, replicate};
-ghost use Rattle.script_model.specs.Playing.{idle, isOver, Begins};
+ghost use Rattle.script_model.specs.Playing.{idle, isOver, wronglyLent, Begins};
 
 // Memory starts as zeros.
 fn clear(memory: &mut [u32])
@@ -41,23 +41,24 @@ fn idle(phase: Phase, program: &[u32], memory: &[u32]) -> Player
     }
 }
 
+// Whether the lent program is too short, the lent memory is not of the script's words, or the text may not be whole.
+fn wrongly_lent(s: &[u8], whole: bool, program: &[u32], memory: &[u32]) -> bool
+    ensures { λ r. ⌜ r ≡ wronglyLent (now (s .entry)) whole (now (program .entry)) (now (memory .entry)) ⌝ }
+{
+    (program.len() < PROGRAM) | (memory.len() != words_of(s)) | (!whole & (s.len() <= MOST))
+}
+
 // The player of a script, with its program read into the lent one and the lent memory cleared. `whole` says that the text lent
 // is all of the input.
 pub fn begin(s: &[u8], whole: bool, program: &mut [u32], memory: &mut [u32]) -> Player
     ensures { λ r. ⌜ Begins (now (s .entry)) whole (now (program .entry)) (now (memory .entry)) r (now (program .exit))
         (now (memory .exit)) ⌝ }
 {
-    if program.len() < PROGRAM {
-        return idle(Phase::Over, program, memory);
-    }
-    if memory.len() != words_of(s) {
+    if wrongly_lent(s, whole, program, memory) {
         return idle(Phase::Over, program, memory);
     }
     if MOST < s.len() {
         return idle(Phase::Bad(0), program, memory);
-    }
-    if !whole {
-        return idle(Phase::Over, program, memory);
     }
     let header = script_reading::read_header(s);
     match header {

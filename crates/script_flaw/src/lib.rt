@@ -8,11 +8,14 @@ use script_model::Part;
 pub use script_model::Reason;
 use script_model::Took;
 use text::Line;
+ghost use mathlib.Core.Bool.{cond};
 ghost use mathlib.Core.Path.{_≡_};
 ghost use Prim.Native.Nat.{_+_, _≤_, _<_};
 ghost use lib.ListN.{length, getD};
 ghost use lib.Seq.{slice};
 ghost use Rattle.text.specs.Fields.{empty};
+ghost use Rattle.script_model.specs.declared.Defect.the-variants.{Beyond};
+ghost use Rattle.script_model.specs.declared.Reason.the-variants.{Fine, Field};
 ghost use Rattle.script_model.specs.Flaw.{arity, commas, digitTook, took, noNumber, malformed, noSizes, unfit, unformed};
 ghost use Rattle.script_model.specs.Flaw.{ofMalformed, ofSizes, ofOperation, ofStep, reasonIn, isFine};
 ghost use Rattle.script_model.specs.Flaw.{afterOperation, afterOther, nextPart, ofEnd, flawOf};
@@ -42,16 +45,16 @@ fn take_digit(begun: bool, x: u32, d: u32) -> Took
     requires { ⌜ d < 10 ⌝ }
     ensures { λ r. ⌜ r ≡ digitTook (openOf begun x) d ⌝ }
 {
-    if !begun {
-        return Took::Grows(d);
-    }
-    if x == 0 {
+    if begun {
+        if 0 < x {
+            if x as u64 * 10 + d as u64 <= 4294967295 {
+                return Took::Grows(x * 10 + d);
+            }
+            return Took::Wrong(Defect::Large);
+        }
         return Took::Wrong(Defect::Zero);
     }
-    if x as u64 * 10 + d as u64 <= 4294967295 {
-        return Took::Grows(x * 10 + d);
-    }
-    Took::Wrong(Defect::Large)
+    Took::Grows(d)
 }
 
 // What any byte does to it.
@@ -88,17 +91,16 @@ fn find_defect(s: &[u8], letter: u8, from: usize, to: usize) -> Reason
             Took::Ends => {
                 k += 1;
                 begun = false;
-                i += 1;
             }
             Took::Grows(y) => {
                 begun = true;
                 x = y;
-                i += 1;
             }
             Took::Wrong(d) => {
                 return Reason::Field(letter, k, d);
             }
         }
+        i += 1;
     }
     if begun {
         return Reason::Fine;
@@ -117,10 +119,8 @@ fn count_commas(s: &[u8], from: usize, to: usize) -> usize
     while i < to {
         if s[i] == b',' {
             n += 1;
-            i += 1;
-        } else {
-            i += 1;
         }
+        i += 1;
     }
     n
 }
@@ -182,23 +182,51 @@ fn of_malformed(s: &[u8], from: usize, to: usize, part: Part) -> Reason
     }
 }
 
+// The leftmost of the fields 2 to 5, which have these numbers, that does not fit.
+fn leftmost(
+    letter: u8,
+    p: bool,
+    a: u32,
+    q: bool,
+    b: u32,
+    r: bool,
+    c: u32,
+    s: bool,
+    d: u32,
+) -> Reason
+    ensures { λ w. ⌜ w ≡ cond p (cond q (cond r (cond s Fine (Field letter 5 (Beyond d))) (Field letter 4 (Beyond c)))
+        (Field letter 3 (Beyond b))) (Field letter 2 (Beyond a)) ⌝ }
+{
+    if p {
+        if q {
+            if r {
+                if s {
+                    return Reason::Fine;
+                }
+                return Reason::Field(letter, 5, Defect::Beyond(d));
+            }
+            return Reason::Field(letter, 4, Defect::Beyond(c));
+        }
+        return Reason::Field(letter, 3, Defect::Beyond(b));
+    }
+    Reason::Field(letter, 2, Defect::Beyond(a))
+}
+
 // The leftmost of the sizes outside its limits.
 fn find_unfit(banks: u32, rows: u32, stages: u32, words: u32) -> Reason
     ensures { λ r. ⌜ r ≡ unfit banks rows stages words ⌝ }
 {
-    if !((banks == 1) | (banks == 2) | (banks == 4) | (banks == 8)) {
-        return Reason::Field(b'N', 2, Defect::Beyond(banks));
-    }
-    if !((1 <= rows) & (rows <= 8)) {
-        return Reason::Field(b'N', 3, Defect::Beyond(rows));
-    }
-    if !((1 <= stages) & (stages <= 16)) {
-        return Reason::Field(b'N', 4, Defect::Beyond(stages));
-    }
-    if !((1 <= words) & (words <= 4096)) {
-        return Reason::Field(b'N', 5, Defect::Beyond(words));
-    }
-    Reason::Fine
+    leftmost(
+        b'N',
+        (banks == 1) | (banks == 2) | (banks == 4) | (banks == 8),
+        banks,
+        (1 <= rows) & (rows <= 8),
+        rows,
+        (1 <= stages) & (stages <= 16),
+        stages,
+        (1 <= words) & (words <= 4096),
+        words,
+    )
 }
 
 // What is wrong with a line of sizes at its place.
@@ -219,13 +247,7 @@ fn find_unformed(letter: u8, code: u32, d: u32, s: u32, imm: u32) -> Reason
     if machine_isa::well_formed(code, d, s, imm) {
         return Reason::Fine;
     }
-    if 7 < d {
-        return Reason::Field(letter, 2, Defect::Beyond(d));
-    }
-    if 7 < s {
-        return Reason::Field(letter, 3, Defect::Beyond(s));
-    }
-    Reason::Field(letter, 4, Defect::Beyond(imm))
+    leftmost(letter, d <= 7, d, s <= 7, s, false, imm, true, imm)
 }
 
 // What is wrong with an instruction at its place.
@@ -276,11 +298,7 @@ fn reason_in(s: &[u8], from: usize, to: usize, part: Part, item: Item) -> Reason
         Item::Malformed => of_malformed(s, from, to, part),
         Item::Sizes(banks, rows, stages, words) => of_sizes(part, banks, rows, stages, words),
         Item::Operation(code, d, r, imm) => of_operation(part, letter, code, d, r, imm),
-        Item::Issue => of_step(part, letter),
-        Item::Execute(_) => of_step(part, letter),
-        Item::Squash(_) => of_step(part, letter),
-        Item::Commit => of_step(part, letter),
-        Item::Finish(_) => of_step(part, letter),
+        _ => of_step(part, letter),
     }
 }
 

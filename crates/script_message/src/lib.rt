@@ -6,7 +6,6 @@ ghost use mathlib.Core.List.{_++_};
 ghost use Prim.Native.Nat.{_+_, _≤_};
 ghost use lib.ListN.{length};
 ghost use Rattle.script_model.specs.Playing.{Writes};
-ghost use Rattle.script_model.specs.declared.Reason.the-variants.{Glued};
 ghost use Rattle.script_model.specs.Message.{ascii, byteText, placeText, fieldText, countText, reasonText, messageIn};
 
 // The room that a message needs.
@@ -14,8 +13,8 @@ pub const ROOM: usize = 256;
 
 // A field's number and name, with the form of its line.
 fn put_place(out: &mut [u8], at: usize, b: u8, k: usize) -> usize
-    requires { ⌜ at + 80 ≤ length (now out) ⌝ }
-    ensures { λ r. ⌜ Writes (now (out .entry)) at (placeText b k) (now (out .exit)) r × (r ≤ at + 80) ⌝ }
+    requires { ⌜ at + 102 ≤ length (now out) ⌝ }
+    ensures { λ r. ⌜ Writes (now (out .entry)) at (placeText b k) (now (out .exit)) r × (r ≤ at + 102) ⌝ }
 {
     let a = script_phrases::put(out, at, b"field ");
     let e = script_phrases::put_value(out, a, k as u64);
@@ -27,8 +26,8 @@ fn put_place(out: &mut [u8], at: usize, b: u8, k: usize) -> usize
 
 // What is wrong with a field.
 fn put_field(out: &mut [u8], at: usize, b: u8, k: usize, d: Defect) -> usize
-    requires { ⌜ at + 181 ≤ length (now out) ⌝ }
-    ensures { λ r. ⌜ Writes (now (out .entry)) at (fieldText b k d) (now (out .exit)) r × (r ≤ at + 181) ⌝ }
+    requires { ⌜ at + 203 ≤ length (now out) ⌝ }
+    ensures { λ r. ⌜ Writes (now (out .entry)) at (fieldText b k d) (now (out .exit)) r × (r ≤ at + 203) ⌝ }
 {
     let a = put_place(out, at, b, k);
     let e = script_phrases::put(out, a, b": found ");
@@ -39,8 +38,8 @@ fn put_field(out: &mut [u8], at: usize, b: u8, k: usize, d: Defect) -> usize
 
 // A number of fields that is not the letter's.
 fn put_count(out: &mut [u8], at: usize, b: u8, n: usize) -> usize
-    requires { ⌜ at + 181 ≤ length (now out) ⌝ }
-    ensures { λ r. ⌜ Writes (now (out .entry)) at (countText b n) (now (out .exit)) r × (r ≤ at + 181) ⌝ }
+    requires { ⌜ at + 203 ≤ length (now out) ⌝ }
+    ensures { λ r. ⌜ Writes (now (out .entry)) at (countText b n) (now (out .exit)) r × (r ≤ at + 203) ⌝ }
 {
     let a = script_phrases::put(out, at, b"fields: found ");
     let e = script_phrases::put_value(out, a, n as u64);
@@ -52,28 +51,19 @@ fn put_count(out: &mut [u8], at: usize, b: u8, n: usize) -> usize
 
 // A byte that was found, and a text.
 fn put_other(out: &mut [u8], at: usize, b: u8, s: &[u8]) -> usize
-    requires { ⌜ at + 31 + length (now s) ≤ length (now out) ⌝ }
+    requires { ⌜ at + (31 + length (now s)) ≤ length (now out) ⌝ }
     ensures { λ r. ⌜ Writes (now (out .entry)) at (ascii "found " ++ byteText b ++ now (s .entry)) (now (out .exit)) r
-        × (r ≤ at + 31 + length (now (s .entry))) ⌝ }
+        × (r ≤ at + (31 + length (now (s .entry)))) ⌝ }
 {
     let a = script_phrases::put(out, at, b"found ");
     let e = script_phrases::put_byte(out, a, b);
     script_phrases::put(out, e, s)
 }
 
-// A byte behind the letter.
-fn put_glued(out: &mut [u8], at: usize, b: u8, c: u8) -> usize
-    requires { ⌜ at + 181 ≤ length (now out) ⌝ }
-    ensures { λ r. ⌜ Writes (now (out .entry)) at (reasonText (Glued b c)) (now (out .exit)) r × (r ≤ at + 181) ⌝ }
-{
-    let a = put_other(out, at, c, b" behind the letter, expected ");
-    script_phrases::put_form(out, a, b)
-}
-
 // A reason.
 fn put_reason(out: &mut [u8], at: usize, r: Reason) -> usize
-    requires { ⌜ at + 181 ≤ length (now out) ⌝ }
-    ensures { λ e. ⌜ Writes (now (out .entry)) at (reasonText r) (now (out .exit)) e × (e ≤ at + 181) ⌝ }
+    requires { ⌜ at + 203 ≤ length (now out) ⌝ }
+    ensures { λ e. ⌜ Writes (now (out .entry)) at (reasonText r) (now (out .exit)) e × (e ≤ at + 203) ⌝ }
 {
     match r {
         Reason::Fine => at,
@@ -107,7 +97,10 @@ fn put_reason(out: &mut [u8], at: usize, r: Reason) -> usize
             b"found a second 'N' line, expected another letter",
         ),
         Reason::Letter(b) => put_other(out, at, b, b", expected A, P, L, S, i, e, q, c or x"),
-        Reason::Glued(b, c) => put_glued(out, at, b, c),
+        Reason::Glued(b, c) => {
+            let a = put_other(out, at, c, b" behind the letter, expected ");
+            script_phrases::put_form(out, a, b)
+        }
         Reason::Count(b, n) => put_count(out, at, b, n),
         Reason::Field(b, k, d) => put_field(out, at, b, k, d),
         Reason::Full => script_phrases::put(

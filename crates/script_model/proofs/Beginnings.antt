@@ -4,7 +4,7 @@
 -- player may go on (begins-left). For that the steps of a script begin behind as many lines as its program has instructions
 -- (body-behind), and the opening passes its checks (Openings), so the machine is sound and linked. Assumes nothing.
 use mathlib.Core.Path.{_≡_, refl, sym, subst, ap, ap₂, _∙_}
-use mathlib.Core.Bool.{Bool, true, false, cond, not, _&&_, _||_, false≢true, and-false}
+use mathlib.Core.Bool.{Bool, true, false, cond, not, _&&_, _||_, false≢true}
 use mathlib.Core.List.{List, [], _∷_, _++_, append-nil, append-assoc}
 use Prim.Native.Nat.{ℕ, zero, suc, _+_, _-_, _*_, _/_, _≤_, _<_, zero-le}
 use native.Mathlib.Nat.{add-zero}
@@ -12,29 +12,28 @@ use native.Mathlib.Omega.{arith}
 use lib.Dec.{eqb, leb, ltb}
 use lib.ListN.{length, replicate, take, drop, length-append}
 use lib.Seq.{take-append-seam, length-take-le}
-use borrow.Author.Tests.{lt-ltb, le-ltb, ltb-true, ltb-false, eqb-true, eq-eqb, ne-eqb, le-leb, lt-leb, not-false}
-use Rattle.text.specs.Lines.{feed, linesOf}
+use borrow.Author.Tests.{lt-ltb, le-ltb, ltb-true, ltb-false, eqb-true}
+use Rattle.text.specs.Lines.{linesOf}
 use Rattle.table.specs.Limits.{sizesFit}
 use Rattle.engine.specs.Conditions.{refusal}
 use Rattle.machine_model.specs.declared.Machine.{Machine}
-use Rattle.machine_model.specs.Calls.{Plain, Answer, openChecks, opened}
-use Rattle.machine_model.specs.Contract.{plain, Sound, Opens, freshMachine}
+use Rattle.machine_model.specs.Calls.{Plain, Answer, openChecks}
+use Rattle.machine_model.specs.Contract.{Opens, freshMachine}
 use Rattle.machine_model.proofs.Opened.{fresh-sound, fresh-plain}
 use Rattle.theorem.specs.Play.{play, start}
 use Rattle.theorem.specs.computed.Linked.{Linked}
 use Rattle.theorem.proofs.Linking.{linked-open}
 use Rattle.script_model.specs.declared.Found.{Found}
 use Rattle.script_model.specs.declared.Found.the-variants.{Nothing, Four}
-use Rattle.script_model.specs.declared.Phase.{Phase}
 use Rattle.script_model.specs.declared.Phase.the-variants.{Over, Bad, Stepping}
 use Rattle.script_model.specs.declared.Player.{Player}
-use Rattle.script_model.specs.Language.{Steps, Body, Script, unread, script}
+use Rattle.script_model.specs.Language.{Body, Script, unread, script}
 use Rattle.script_model.specs.Output.{commitLines, badLine, transcript, output, most, printed}
 use Rattle.script_model.specs.Playing.{player, scriptOf, wordsOf, wronglyLent, lineStart, idle, openedPlayer, firstPlayer}
 use Rattle.script_model.specs.Playing.{Begins}
 use Rattle.script_model.specs.Truth.{Sized}
 use Rattle.script_model.specs.computed.Parts.{foundAt, headerOf, stepsAt, bodyAt, Loads}
-use Rattle.script_model.proofs.Invariant.{standing, leftIn, left, Playing}
+use Rattle.script_model.proofs.Invariant.{standing, left, Playing}
 use Rattle.script_model.proofs.Heads.{headed, script-unheaded}
 use Rattle.script_model.proofs.Programs.{body-four, body-stop, body-full}
 use Rattle.script_model.proofs.Openings.{script-opens}
@@ -173,79 +172,60 @@ empty-list : (l : List ℕ) → length l ≡ 0 → l ≡ []
 empty-list [] e = refl
 empty-list (x ∷ l) e = absurd (omega (arith, e))
 
-module _ (text : List ℕ) (whole : Bool) (program memory : List ℕ) where
-  -- the three conditions, one after the other
-  abbrev unlent : Bool → Bool → Bool → Bool
-  unlent few other part = few || not other || part
+pub lent-rightly : (text : List ℕ) (whole : Bool) (program memory : List ℕ) → wronglyLent text whole program memory ≡ false
+    → (1024 ≤ length program) × (length memory ≡ wordsOf text)
+lent-rightly text whole program memory e =
+    go (ltb (length program) 1024) (eqb (length memory) (wordsOf text)) refl refl e
+  where
+    go : (s t : Bool) → ltb (length program) 1024 ≡ s → eqb (length memory) (wordsOf text) ≡ t
+        → (s || not t || (not whole && leb (length text) most)) ≡ false
+        → (1024 ≤ length program) × (length memory ≡ wordsOf text)
+    go true t few is f = absurd (false≢true (sym f))
+    go false false few is f = absurd (false≢true (sym f))
+    go false true few is f = (ltb-false (length program) 1024 few, eqb-true (length memory) (wordsOf text) is)
 
-  abbrev cutShort : Bool
-  cutShort = not whole && leb (length text) most
+-- the opening of the script passes its checks
+script-checked : (text : List ℕ) (s : Script) → script (linesOf text) ≡ s → Sized s
+    → refusal (openChecks (s .banks) (s .rows) (s .stages) (s .words) (s .body .program) (replicate (s .words) 0)) ≡ 0
+script-checked text s is fit =
+    subst
+    (λ (r : Script).
+    refusal (openChecks (r .banks) (r .rows) (r .stages) (r .words) (r .body .program) (replicate (r .words) 0)) ≡ 0)
+    is
+    (script-opens (linesOf text) (subst Sized (sym is) fit))
 
-  pub lent-short : length program < 1024 → wronglyLent text whole program memory ≡ true
-  lent-short h = ap (λ (t : Bool). unlent t (eqb (length memory) (wordsOf text)) cutShort) (lt-ltb (length program) 1024 h)
-
-  pub lent-other : 1024 ≤ length program → (length memory ≡ wordsOf text → ⊥) → wronglyLent text whole program memory ≡ true
-  lent-other h e =
-      ap₂ (λ (s t : Bool). unlent s t cutShort) (le-ltb (length program) 1024 h) (ne-eqb (length memory) (wordsOf text) e)
-
-  -- what is left to ask once these two are right
-  module _ (room : 1024 ≤ length program) (words : length memory ≡ wordsOf text) where
-    lent-part : wronglyLent text whole program memory ≡ cutShort
-    lent-part =
-        ap₂ (λ (s t : Bool). unlent s t cutShort) (le-ltb (length program) 1024 room)
-        (eq-eqb (length memory) (wordsOf text) words)
-
-    -- a text that is too long need not be whole
-    pub lent-long : most < length text → wronglyLent text whole program memory ≡ false
-    lent-long long =
-        lent-part ∙ ap (λ (t : Bool). not whole && t) (lt-leb (length text) most long) ∙ and-false (not whole)
-
-    pub lent-whole : whole ≡ true → wronglyLent text whole program memory ≡ false
-    lent-whole all = lent-part ∙ ap (λ (t : Bool). not t && leb (length text) most) all
-
-    pub lent-cut : whole ≡ false → length text ≤ most → wronglyLent text whole program memory ≡ true
-    lent-cut part short =
-        lent-part ∙ ap₂ (λ (t u : Bool). not t && u) part (le-leb (length text) most short)
-
-  lent-words : wronglyLent text whole program memory ≡ false → length memory ≡ wordsOf text
-  lent-words e = go (ltb (length program) 1024) (eqb (length memory) (wordsOf text)) refl e
-    where
-      go : (s t : Bool) → eqb (length memory) (wordsOf text) ≡ t → unlent s t cutShort ≡ false → length memory ≡ wordsOf text
-      go true t is f = absurd (false≢true (sym f))
-      go false false is f = absurd (false≢true (sym f))
-      go false true is f = eqb-true (length memory) (wordsOf text) is
-
-  -- ---- the ways
-  pub begins-over : (q : Player) → wronglyLent text whole program memory ≡ true → q ≡ idle Over
+-- ---- the ways
+module _ {text : List ℕ} {whole : Bool} {program memory : List ℕ} where
+  pub begins-over : {q : Player} → wronglyLent text whole program memory ≡ true → q ≡ idle Over
       → Begins text whole program memory q program memory
-  begins-over q wrong over =
+  begins-over wrong over =
       record { refuses = λ _. (over, refl, refl); begins = λ right. absurd (false≢true (sym right ∙ wrong)) }
 
-  begins-unread : (q : Player) (n : ℕ) → wronglyLent text whole program memory ≡ false → scriptOf text ≡ unread
+  begins-unread : {q : Player} (n : ℕ) → wronglyLent text whole program memory ≡ false → scriptOf text ≡ unread
       → firstPlayer text ≡ idle (Bad n) → q ≡ idle (Bad n) → Begins text whole program memory q program memory
-  begins-unread q n right none first is =
+  begins-unread n right none first is =
       record {
         refuses = λ wrong. absurd (false≢true (sym right ∙ wrong));
         begins = λ _. (
           is ∙ sym first,
           ap (λ (s : Script). s .body .program ++ drop (length (s .body .program)) program) (sym none),
-          empty-list memory (lent-words right ∙ ap (λ (s : Script). s .words) none)
+          empty-list memory (lent-rightly text whole program memory right .1 ∙ ap (λ (s : Script). s .words) none)
               ∙ ap (λ (s : Script). replicate (s .words) 0) (sym none),
         );
       }
 
-  pub begins-long : (q : Player) → wronglyLent text whole program memory ≡ false → most < length text → q ≡ idle (Bad 0)
+  pub begins-long : {q : Player} → wronglyLent text whole program memory ≡ false → most < length text → q ≡ idle (Bad 0)
       → Begins text whole program memory q program memory
-  begins-long q right long is = begins-unread q 0 right (script-long text long) (player-long text long) is
+  begins-long right long is = begins-unread 0 right (script-long text long) (player-long text long) is
 
-  pub begins-headless : (q : Player) → wronglyLent text whole program memory ≡ false → length text ≤ most
+  pub begins-headless : {q : Player} → wronglyLent text whole program memory ≡ false → length text ≤ most
       → headerOf text ≡ Nothing → q ≡ idle (Bad 1) → Begins text whole program memory q program memory
-  begins-headless q right short none is =
-      begins-unread q 1 right (script-headless text short none) (player-headless text short none) is
+  begins-headless right short none is =
+      begins-unread 1 right (script-headless text short none) (player-headless text short none) is
 
   -- the player of a script whose machine was opened as u
-  pub begins-open : (banks rows stages words from cursor line used count : ℕ) (into after : List ℕ) (said : Answer)
-      (u : Machine)
+  pub begins-open : {banks rows stages words from cursor line used count : ℕ} {into after : List ℕ} {said : Answer}
+      {u : Machine}
       → wronglyLent text whole program memory ≡ false
       → length text ≤ most
       → headerOf text ≡ Four banks rows stages words from
@@ -255,8 +235,8 @@ module _ (text : List ℕ) (whole : Bool) (program memory : List ℕ) where
       → count ≡ used
       → Opens banks rows stages words (take count into) after said u
       → Begins text whole program memory (player Stepping cursor line 0 used u) into after
-  begins-open banks rows stages words from cursor line used count into after said u right short header loads room cleared
-      all opens =
+  begins-open {banks} {rows} {stages} {words} {from} {cursor} {line} {used} {into = into} {after} {said} {u} right short header
+      loads room cleared all opens =
       let head = headed text banks rows stages words from header in
       let numbers = take used into in
       let long : length numbers ≡ used = length-take-le used into room in
@@ -267,14 +247,10 @@ module _ (text : List ℕ) (whole : Bool) (program memory : List ℕ) where
       let is : scriptOf text ≡ s = script-short text short ∙ plainly in
       let k = length numbers / 4 in
       let zeros : after ≡ replicate words 0 =
-      cleared ∙ ap (λ (n : ℕ). replicate n 0) (lent-words right ∙ ap (λ (r : Script). r .words) is) in
+      cleared ∙ ap (λ (n : ℕ). replicate n 0) (lent-rightly text whole program memory right .1 ∙ ap (λ (r : Script). r .words) is) in
       let checked : refusal (openChecks banks rows stages words numbers after) ≡ 0 =
       ap (λ (m : List ℕ). refusal (openChecks banks rows stages words numbers m)) zeros
-      ∙ subst
-      (λ (r : Script).
-      refusal (openChecks (r .banks) (r .rows) (r .stages) (r .words) (r .body .program) (replicate (r .words) 0)) ≡ 0)
-      plainly
-      (script-opens (linesOf text) (subst Sized (sym plainly) (head .fit))) in
+      ∙ script-checked text s plainly (head .fit) in
       let made : u ≡ freshMachine banks rows stages words k =
       subst (λ (n : ℕ). Opens banks rows stages words (take n into) after said u) all opens .opens checked .1 in
       let place : cursor ≡ lineStart text (suc k) =
@@ -359,11 +335,7 @@ module _ (text : List ℕ) (short : length text ≤ most) (banks rows stages wor
       let lines : length ns / 4 ≡ k = omega (arith, behind .four) in
       let first : suc (length ns / 4) ≡ 1 + k = omega (arith, lines) in
       let checked : refusal (openChecks banks rows stages words ns (replicate words 0)) ≡ 0 =
-      subst
-      (λ (r : Script).
-      refusal (openChecks (r .banks) (r .rows) (r .stages) (r .words) (r .body .program) (replicate (r .words) 0)) ≡ 0)
-      script-is
-      (script-opens (linesOf text) (subst Sized (sym script-is) (head .fit))) in
+      script-checked text read script-is (head .fit) in
       subst
       (λ (r : Script).
       Starts text (openedPlayer text r (length (r .body .program) / 4)) (r .body .program) (replicate (r .words) 0))

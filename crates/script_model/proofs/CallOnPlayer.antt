@@ -8,7 +8,6 @@ use mathlib.Core.List.{List, [], append-nil}
 use Prim.Native.Nat.{ℕ, suc, _+_, _%_, _<_}
 use native.Mathlib.Nat.{add-zero}
 use native.Mathlib.Numerals.{add-one}
-use native.Mathlib.Omega.{arith}
 use lib.Dec.{eqb}
 use lib.ListN.{length}
 use borrow.Author.Tests.{lt-ltb}
@@ -20,7 +19,7 @@ use Rattle.machine_model.specs.Calls.{issueChecks, executeChecks, squashChecks,
 use Rattle.machine_model.specs.Contract.{plain, Sound, Meets}
 use Rattle.theorem.specs.Play.{recorded, commitsIn, plays}
 use Rattle.script_model.specs.Output.{commitLine, commitLines}
-use Rattle.script_model.specs.Playing.{oneMore, toldBy, countedBy}
+use Rattle.script_model.specs.Playing.{toldBy, countedBy}
 use Rattle.script_model.proofs.Invariant.{standing}
 
 -- no finish

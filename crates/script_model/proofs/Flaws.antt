@@ -6,11 +6,11 @@ use mathlib.Core.Bool.{Bool, true, false, cond, _&&_, _||_}
 use mathlib.Core.Path.{_≡_, refl, sym, ap, subst, _∙_}
 use mathlib.Core.List.{List, [], _∷_, _++_}
 use mathlib.Core.Option.{Option, none, some}
-use Prim.Native.Nat.{ℕ, zero, suc, _+_, _-_, _*_, _<_, _≤_}
+use Prim.Native.Nat.{ℕ, zero, suc, _+_, _-_, _*_, _≤_}
 use native.Mathlib.Omega.{arith}
 use lib.Dec.{eqb, leb, ltb}
 use lib.ListN.{length, getD, length-append}
-use borrow.Author.Tests.{leb-true, ltb-true, ltb-false, eqb-true, lt-ltb, le-ltb, le-leb}
+use borrow.Author.Tests.{leb-true, ltb-true, eqb-true, lt-ltb, le-ltb}
 use Rattle.text.specs.Fields.{Open, empty, value, Reading, bad, reading, comma, digit, byte, bytes, closed, fields}
 use Rattle.text.specs.Lines.{linesOf}
 use Rattle.text.proofs.Trip.{digit-first}
@@ -20,16 +20,15 @@ use Rattle.machine_model.specs.Program.{wellFormed}
 use Rattle.script_model.specs.declared.Item.{Item}
 use Rattle.script_model.specs.declared.Item.the-variants.{Malformed, Sizes, Operation, Issue, Execute, Squash, Commit}
 use Rattle.script_model.specs.declared.Item.the-variants.{Finish}
-use Rattle.script_model.specs.declared.Part.{Part}
 use Rattle.script_model.specs.declared.Part.the-variants as part
-use Rattle.script_model.specs.declared.Defect.the-variants.{Missing, Zero, Stray, Large, Beyond}
+use Rattle.script_model.specs.declared.Defect.the-variants.{Zero, Stray, Large, Beyond}
 use Rattle.script_model.specs.declared.Took.{Took}
-use Rattle.script_model.specs.declared.Took.the-variants.{Ends, Grows, Wrong}
+use Rattle.script_model.specs.declared.Took.the-variants.{Grows, Wrong}
 use Rattle.script_model.specs.declared.Reason.{Reason}
 use Rattle.script_model.specs.declared.Reason.the-variants as why
 use Rattle.script_model.specs.declared.Flaw.{Flaw}
-use Rattle.script_model.specs.Language.{withOne, withThree, withFour, lettered, parsedLine}
-use Rattle.script_model.specs.Language.{stepOf, Steps, flawed, stepping, steps}
+use Rattle.script_model.specs.Language.{lettered, parsedLine}
+use Rattle.script_model.specs.Language.{stepOf, Steps, stepping, steps}
 use Rattle.script_model.specs.Language.{numbersOf, joining, Body, body, unread, headed, scriptBy, script}
 use Rattle.theorem.specs.Play.{Played, play}
 use Rattle.script_model.specs.Output.{commitLines, badLine, closing, scriptOpening, output, most, printed}

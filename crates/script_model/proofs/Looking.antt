@@ -1,31 +1,29 @@
 -- The first bad line as it is found, on the bytes of a slice: commas counted, fields gone through byte by byte, a malformed line
 -- by its first bytes, and one line after another.
 -- Assumes nothing.
-use mathlib.Core.Bool.{Bool, true, false, cond, _&&_, _||_}
-use mathlib.Core.Path.{_≡_, refl, sym, ap, ap₂, subst, _∙_}
+use mathlib.Core.Bool.{Bool, true, false, cond}
+use mathlib.Core.Path.{_≡_, sym, ap, ap₂, subst, _∙_}
 use mathlib.Core.List.{List, [], _∷_}
-use Prim.Native.Nat.{ℕ, suc, _+_, _-_, _*_, _<_, _≤_}
+use Prim.Native.Nat.{ℕ, suc, _+_, _-_, _<_, _≤_}
 use native.Mathlib.Numerals.{add-one}
 use native.Mathlib.Omega.{arith}
-use lib.Dec.{eqb, leb, ltb}
-use lib.ListN.{length, getD, take, drop, drop-of-length-le}
+use lib.Dec.{eqb}
+use lib.ListN.{length, getD, take, drop-of-length-le}
 use lib.Seq.{drop-cons, length-take-le, slice, slice-cons, length-slice, getD-take, getD-drop}
-use borrow.Author.Tests.{eq-eqb, ne-eqb, lt-ltb, le-ltb, le-leb, lt-leb}
+use borrow.Author.Tests.{eq-eqb, ne-eqb, lt-ltb, le-ltb}
 use Rattle.text.specs.Fields.{Open, empty, value}
-use Rattle.text.specs.declared.Line.{Line}
 use Rattle.text.specs.declared.Line.the-variants.{End, Unended, Whole}
 use Rattle.text.specs.Lines.{feed, lineAt, Lines}
-use Rattle.text.proofs.Splits.{line-end, line-unended, line-whole, LineIs, line-is}
+use Rattle.text.proofs.Splits.{line-end, line-unended, line-whole, line-is}
 use Rattle.script_model.specs.declared.Item.{Item}
 use Rattle.script_model.specs.declared.Part.{Part}
 use Rattle.script_model.specs.declared.Part.the-variants.{First}
 use Rattle.script_model.specs.declared.Outlook.the-variants.{Goes}
 use Rattle.script_model.specs.declared.Outlook.the-variants as outlook
 use Rattle.script_model.specs.declared.Flaw.{Flaw}
-use Rattle.script_model.specs.declared.Defect.{Defect}
 use Rattle.script_model.specs.declared.Defect.the-variants.{Missing}
 use Rattle.script_model.specs.declared.Took.{Took}
-use Rattle.script_model.specs.declared.Took.the-variants.{Ends, Grows, Wrong}
+use Rattle.script_model.specs.declared.Took.the-variants.{Ends}
 use Rattle.script_model.specs.declared.Reason.{Reason}
 use Rattle.script_model.specs.declared.Reason.the-variants as why
 use Rattle.script_model.specs.Flaw.{arity, commas, took, following, noNumber, behind, malformed}
@@ -60,36 +58,24 @@ commas-none s i to h k = ap commas (slice-none s i to h k)
 
 module _ (s : List ℕ) (letter j : ℕ) (o : Open) (i to : ℕ) (h : i < to) (k : to ≤ length s) where
   -- one byte more, which does this
-  byte-on : (t : Took) → took o (getD s i 0) ≡ t
-      → noNumber letter j o (slice i to s)
-      ≡ following letter j t (noNumber letter (suc j) empty (slice (i + 1) to s))
+  pub byte-on : (t : Took) → took o (getD s i 0) ≡ t
+      → following letter j t (noNumber letter (j + 1) empty (slice (i + 1) to s))
       (λ (x : ℕ). noNumber letter j (value x) (slice (i + 1) to s))
+      ≡ noNumber letter j o (slice i to s)
   unfolding noNumber
   byte-on t e =
-      ap (noNumber letter j o) (slice-more s i to h k)
+      rw (add-one j)
+      (sym
+      (ap (noNumber letter j o) (slice-more s i to h k)
       ∙ ap (λ (u : Took). following letter j u (noNumber letter (suc j) empty (slice (i + 1) to s))
-      (λ (x : ℕ). noNumber letter j (value x) (slice (i + 1) to s))) e
-
-  pub number-ends : took o (getD s i 0) ≡ Ends
-      → noNumber letter (j + 1) empty (slice (i + 1) to s) ≡ noNumber letter j o (slice i to s)
-  number-ends e = rw (add-one j) (sym (byte-on Ends e))
-
-  pub number-grows : (x : ℕ) → took o (getD s i 0) ≡ Grows x
-      → noNumber letter j (value x) (slice (i + 1) to s) ≡ noNumber letter j o (slice i to s)
-  number-grows x e = sym (byte-on (Grows x) e)
-
-  pub number-wrong : (d : Defect) → took o (getD s i 0) ≡ Wrong d → why.Field letter j d ≡ noNumber letter j o (slice i to s)
-  number-wrong d e = sym (byte-on (Wrong d) e)
+      (λ (x : ℕ). noNumber letter j (value x) (slice (i + 1) to s))) e))
 
 -- the line ends after a number, or where a number should be
-module _ (s : List ℕ) (letter j x i to : ℕ) (begun : Bool) (h : to ≤ i) (k : to ≤ length s) where
-  pub number-last : begun ≡ true → why.Fine ≡ noNumber letter j (openOf begun x) (slice i to s)
-  unfolding noNumber
-  number-last b = rw (b, slice-none s i to h k)
-
-  pub number-missing : begun ≡ false → why.Field letter j Missing ≡ noNumber letter j (openOf begun x) (slice i to s)
-  unfolding noNumber
-  number-missing b = rw (b, slice-none s i to h k)
+pub byte-last : (s : List ℕ) (letter j x i to : ℕ) (begun : Bool) → to ≤ i → to ≤ length s
+    → cond begun why.Fine (why.Field letter j Missing) ≡ noNumber letter j (openOf begun x) (slice i to s)
+unfolding noNumber
+byte-last s letter j x i to true h k = rw (slice-none s i to h k)
+byte-last s letter j x i to false h k = rw (slice-none s i to h k)
 
 -- ---- a malformed line
 

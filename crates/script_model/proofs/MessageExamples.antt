@@ -2,7 +2,6 @@
 -- Assumes nothing.
 use mathlib.Core.Path.{_≡_, refl}
 use mathlib.Core.List.{List, [], _∷_}
-use Prim.Native.Nat.{ℕ}
 use Prim.Native.String.{String, _++_ as _&_}
 use Rattle.text.specs.Decimal.{digits}
 use Rattle.text.specs.Fields.{bytes}

@@ -24,11 +24,11 @@ use Rattle.text.specs.computed.Reader.{largest}
 use Rattle.text.proofs.Splits.{line-is, line-end, line-unended, line-whole}
 use Rattle.text.proofs.Trip.{Within, written-fields}
 use Rattle.machine_model.specs.declared.Machine.{Machine}
-use Rattle.machine_model.specs.Calls.{Call, issue, execute, squash, commit, finish, Answer}
-use Rattle.machine_model.specs.Contract.{plain, Meets}
+use Rattle.machine_model.specs.Calls.{Call, issue, execute, squash, commit, Answer}
+use Rattle.machine_model.specs.Contract.{plain}
 use Rattle.theorem.specs.Play.{Played, commitsIn, play}
 use Rattle.theorem.specs.computed.Linked.{Linked}
-use Rattle.theorem.proofs.Finishing.{respond-links}
+use Rattle.theorem.proofs.Finishing.{either, respond-links}
 use Rattle.script_model.specs.declared.Item.{Item}
 use Rattle.script_model.specs.declared.Item.the-variants.{Malformed, Sizes, Operation, Issue, Execute, Squash, Commit}
 use Rattle.script_model.specs.declared.Item.the-variants.{Finish}
@@ -38,16 +38,17 @@ use Rattle.script_model.specs.declared.Ask.{Ask}
 use Rattle.script_model.specs.declared.Ask.the-variants as ask
 use Rattle.script_model.specs.declared.Order.{Order}
 use Rattle.script_model.specs.declared.Player.{Player}
-use Rattle.script_model.specs.Language.{alone, withOne, withThree, withFour, lettered, parsedLine, stepOf, Steps, flawed, before, stepping, steps}
+use Rattle.script_model.specs.Language.{withOne, withThree, lettered, parsedLine, stepOf, Steps, flawed, before, stepping}
+use Rattle.script_model.specs.Language.{steps}
 use Rattle.script_model.specs.Output.{commitLines, badLine, transcript}
-use Rattle.script_model.specs.Playing.{oneMore, askIn, orderBy, orderAt, player, turned, QuietStep, toldBy, countedBy}
-use Rattle.script_model.specs.Playing.{phaseAfter, afterCall, CallStep, LineStep, StepIn, PlayerStep, longest, PlayerSteps, still}
-use Rattle.script_model.specs.Playing.{onward, Writes, isOver, Fills}
+use Rattle.script_model.specs.Playing.{oneMore, askIn, orderBy, orderAt, player, QuietStep, toldBy, countedBy}
+use Rattle.script_model.specs.Playing.{phaseAfter, afterCall, CallStep, LineStep, StepIn, PlayerStep, longest}
+use Rattle.script_model.specs.Playing.{PlayerSteps, still, onward, Writes, isOver, Fills}
 use Rattle.script_model.specs.computed.Parts.{stepsAt}
 use Rattle.script_model.proofs.Writing.{writes-none, writes-then}
 use Rattle.script_model.proofs.Telling.{told-before}
 use Rattle.script_model.proofs.Invariant.{standing, leftIn, left, due, Usable, InUse, isPlaying, Playing, rank, weight}
-use Rattle.script_model.proofs.CallOnPlayer.{Single, Does, call-does}
+use Rattle.script_model.proofs.CallOnPlayer.{Single, call-does}
 use Rattle.script_model.proofs.Phases.{Goes}
 use Rattle.script_model.proofs.Limits.{limit-reached, finish-made}
 use Rattle.script_model.proofs.Closings.{word-goes, end-goes}
@@ -219,73 +220,39 @@ rank-share words (ask.Execute k) = omega arith
 rank-share words (ask.Squash k) = omega arith
 rank-share words ask.Commit = omega arith
 
--- a finish asks for no more commits than a number of 32 bits says
-share-one : (b k n : ℕ) → k ≤ largest → share (askIn (withOne b k) n) ≤ 4294967296
-share-one b k n h = go (eqb b 101) (eqb b 113) (eqb b 120)
-  where
-    go : (s t u : Bool)
-        → share (askIn (cond s (Execute k) (cond t (Squash k) (cond u (Finish k) Malformed))) n) ≤ 4294967296
-    go true t u = omega arith
-    go false true u = omega arith
-    go false false true = omega (arith, h)
-    go false false false = omega arith
+-- what this item of line n asks for: no more commits than a number of 32 bits says
+abbrev Few : ℕ → Item → Type 0
+Few n item = share (askIn item n) ≤ 4294967296
 
-share-alone : (b n : ℕ) → share (askIn (alone b) n) ≤ 4294967296
-share-alone b n = go (eqb b 105) (eqb b 99)
-  where
-    go : (s t : Bool) → share (askIn (cond s Issue (cond t Commit Malformed)) n) ≤ 4294967296
-    go true t = omega arith
-    go false true = omega arith
-    go false false = omega arith
+few-one : (b k n : ℕ) → k ≤ largest → Few n (withOne b k)
+few-one b k n h =
+    either (Few n) (eqb b 101) (omega arith)
+    (either (Few n) (eqb b 113) (omega arith) (either (Few n) (eqb b 120) (omega (arith, h)) (omega arith)))
 
-share-three : (b d s imm n : ℕ) → share (askIn (withThree b d s imm) n) ≤ 4294967296
-share-three b d s imm n = go (eqb b 65) (eqb b 80) (eqb b 76) (eqb b 83)
-  where
-    go : (t u v w : Bool)
-        → share
-        (askIn
-        (cond t (Operation 1 d s imm)
-        (cond u (Operation 2 d s imm) (cond v (Operation 3 d s imm) (cond w (Operation 4 d s imm) Malformed))))
-        n)
-        ≤ 4294967296
-    go true u v w = omega arith
-    go false true v w = omega arith
-    go false false true w = omega arith
-    go false false false true = omega arith
-    go false false false false = omega arith
+few-three : (b d s imm n : ℕ) → Few n (withThree b d s imm)
+few-three b d s imm n =
+    either (Few n) (eqb b 65) (omega arith)
+    (either (Few n) (eqb b 80) (omega arith)
+    (either (Few n) (eqb b 76) (omega arith) (either (Few n) (eqb b 83) (omega arith) (omega arith))))
 
-share-four : (b banks rows stages words n : ℕ) → share (askIn (withFour b banks rows stages words) n) ≤ 4294967296
-share-four b banks rows stages words n = go (eqb b 78)
-  where
-    go : (t : Bool) → share (askIn (cond t (Sizes banks rows stages words) Malformed) n) ≤ 4294967296
-    go true = omega arith
-    go false = omega arith
+few-lettered : (b n : ℕ) (o : Option (List ℕ)) → ((ns : List ℕ) → o ≡ some ns → Within largest ns) → Few n (lettered b o)
+few-lettered b n none h = omega arith
+few-lettered b n (some []) h = omega arith
+few-lettered b n (some (k ∷ [])) h = few-one b k n (h (k ∷ []) refl 0)
+few-lettered b n (some (k ∷ l ∷ [])) h = omega arith
+few-lettered b n (some (d ∷ s ∷ imm ∷ [])) h = few-three b d s imm n
+few-lettered b n (some (banks ∷ rows ∷ stages ∷ words ∷ [])) h = either (Few n) (eqb b 78) (omega arith) (omega arith)
+few-lettered b n (some (k ∷ l ∷ m ∷ o ∷ p ∷ ns)) h = omega arith
 
-share-lettered : (b n : ℕ) (o : Option (List ℕ)) → ((ns : List ℕ) → o ≡ some ns → Within largest ns)
-    → share (askIn (lettered b o) n) ≤ 4294967296
-share-lettered b n none h = omega arith
-share-lettered b n (some []) h = omega arith
-share-lettered b n (some (k ∷ [])) h = share-one b k n (h (k ∷ []) refl 0)
-share-lettered b n (some (k ∷ l ∷ [])) h = omega arith
-share-lettered b n (some (d ∷ s ∷ imm ∷ [])) h = share-three b d s imm n
-share-lettered b n (some (banks ∷ rows ∷ stages ∷ words ∷ [])) h = share-four b banks rows stages words n
-share-lettered b n (some (k ∷ l ∷ m ∷ o ∷ p ∷ ns)) h = omega arith
-
-share-small : (line : List ℕ) (n : ℕ) → share (askIn (parsedLine line) n) ≤ 4294967296
-share-small [] n = omega arith
-share-small (b ∷ []) n = share-alone b n
-share-small (b ∷ c ∷ bs) n = go (eqb c 44)
-  where
-    go : (t : Bool) → share (askIn (cond t (lettered b (fields largest bs)) Malformed) n) ≤ 4294967296
-    go true = share-lettered b n (fields largest bs) (λ ns e. written-fields largest bs ns e .1)
-    go false = omega arith
+few-parsed : (line : List ℕ) (n : ℕ) → Few n (parsedLine line)
+few-parsed [] n = omega arith
+few-parsed (b ∷ []) n = either (Few n) (eqb b 105) (omega arith) (either (Few n) (eqb b 99) (omega arith) (omega arith))
+few-parsed (b ∷ c ∷ bs) n =
+    either (Few n) (eqb c 44)
+    (few-lettered b n (fields largest bs) (λ ns e. written-fields largest bs ns e .1)) (omega arith)
 
 more-most : (n : ℕ) → oneMore n ≤ suc n
-more-most n = go (ltb n 18446744073709551615)
-  where
-    go : (t : Bool) → cond t (suc n) n ≤ suc n
-    go true = omega arith
-    go false = omega arith
+more-most n = either (λ (k : ℕ). k ≤ suc n) (ltb n 18446744073709551615) (omega arith) (omega arith)
 
 pub more-is : (n : ℕ) → n < 18446744073709551615 → oneMore n ≡ suc n
 more-is n few = ap (λ (b : Bool). cond b (suc n) n) (lt-ltb n 18446744073709551615 few)
@@ -296,33 +263,38 @@ more-stays n full = ap (λ (b : Bool). cond b (suc n) n) (le-ltb n 1844674407370
 orders : (text : List ℕ) (cursor line : ℕ) → Orders text cursor line (orderAt text cursor line)
 orders text cursor line = go (lineAt text cursor) refl
   where
+    -- where no line is taken
+    stays : (h : Phase) → ((words : ℕ) → rank words h < rank words Stepping) → due h ≡ 0
+        → ((program : List ℕ) (m : Machine) (memory : List ℕ) (n : ℕ)
+        → transcript program (standing m memory n) (stepsAt text cursor line)
+        ≡ leftIn program h (stepsAt text cursor line) (standing m memory n))
+        → Orders text cursor line (record { ask = ask.Turn h; cursor = cursor; line = line })
+    stays h less no-due asks =
+        record {
+          asks = λ few. asks;
+          within = λ w. w;
+          shared = omega (arith, no-due);
+          numbered = omega arith;
+          falls = λ words. omega (arith, less words);
+        }
+
     go : (l : Line) → lineAt text cursor ≡ l → Orders text cursor line (orderBy text cursor line l)
     go End found =
-        record {
-          asks = λ few program m memory n.
-              ap (transcript program (standing m memory n)) (steps-end text cursor line found)
-              ∙ told-end program m memory n (stepsAt text cursor line);
-          within = λ h. h;
-          shared = omega arith;
-          numbered = omega arith;
-          falls = λ words. omega arith;
-        }
+        stays (Words 0) (λ words. omega arith) refl
+        (λ program m memory n.
+        ap (transcript program (standing m memory n)) (steps-end text cursor line found)
+        ∙ told-end program m memory n (stepsAt text cursor line))
     go (Unended from) found =
-        record {
-          asks = λ few program m memory n.
-              ap (transcript program (standing m memory n)) (steps-unended text cursor line from found)
-              ∙ told-flawed program m memory n line;
-          within = λ h. h;
-          shared = omega arith;
-          numbered = omega arith;
-          falls = λ words. omega arith;
-        }
+        stays (Bad line) (λ words. omega arith) refl
+        (λ program m memory n.
+        ap (transcript program (standing m memory n)) (steps-unended text cursor line from found)
+        ∙ told-flawed program m memory n line)
     go (Whole from to) found =
         let place = line-is text cursor (Whole from to) found in
         let behind : cursor ≤ to = omega (arith, place .1) in
         let inside : to < length text = place .2 in
         let item = parsedLine (slice from to text) in
-        let small = share-small (slice from to text) line in
+        let small = few-parsed (slice from to text) line in
         record {
           asks = λ few program m memory n.
               ap (transcript program (standing m memory n))
@@ -380,11 +352,7 @@ module _ (text program : List ℕ) (cursor line n used : ℕ) (m : Machine) (mem
       }
 
   counted-most : (said : Answer) → countedBy said n ≤ suc n
-  counted-most said = go (eqb (commitsIn said) 0)
-    where
-      go : (t : Bool) → cond t n (oneMore n) ≤ suc n
-      go true = omega arith
-      go false = more-most n
+  counted-most said = either (λ (k : ℕ). k ≤ suc n) (eqb (commitsIn said) 0) (omega arith) (more-most n)
 
   -- where it asks for call c, which was made
   calls : (c : Call) (a : Ask) → Single c
@@ -521,32 +489,25 @@ pub filling-size : {text program : List ℕ} {p q : Player} {memory out after in
     → Filling text program p memory out q after into at → length into ≡ length out
 filling-size {out = out} f = ap length (f .writes .written) ∙ length-sets out 0 (f .bytes)
 
--- one step more, whose piece was written
-pub record Written (text program : List ℕ) (p : Player) (memory out : List ℕ) (at : ℕ) (q : Player) (after into : List ℕ)
-    (end : ℕ) : Type 0 where
-  pub piece : List ℕ
-  pub step : PlayerStep text program p memory piece q after
-  pub writes : Writes out at piece into end
-  pub short : end ≤ at + longest
+-- these bytes were written, no more than a step may write
+abbrev pub Puts : List ℕ → ℕ → List ℕ → List ℕ → ℕ → Type 0
+Puts out at bytes into end = Writes out at bytes into end × (end ≤ at + longest)
 
-pub filling-then : {text program : List ℕ} {p q r : Player} {memory out after later into last : List ℕ} {at end : ℕ}
+-- one step more, whose piece was written; the weight falls with it
+pub filling-then : {text program : List ℕ} {p q r : Player} {memory out after later into last piece : List ℕ} {at end : ℕ}
     → Filling text program p memory out q after into at → at + longest ≤ length into
-    → Written text program q after into at r later last end
-    → Filling text program p memory out r later last end
-filling-then {out = out} f room s =
-    let same = filling-size f in
-    record {
-      bytes = f .bytes ++ s .piece;
-      steps = onward (s .piece) (f .steps) (omega (arith, f .writes .ended, room, same)) (s .step);
-      writes = writes-then (f .writes) (s .writes);
-      within = omega (arith, same, s .short, room);
-    }
-
--- and the weight falls with it
-pub filling-falls : {text program : List ℕ} {p q r : Player} {memory out after later into last : List ℕ} {at end : ℕ}
-    → Filling text program p memory out q after into at → Written text program q after into at r later last end
-    → weight text r later < weight text q after
-filling-falls f s = step-goes (s .step) .falls
+    → PlayerStep text program q after piece r later → Puts into at piece last end
+    → (weight text r later < weight text q after) × Filling text program p memory out r later last end
+filling-then {piece = piece} f room s put =
+    let same = filling-size f in (
+      step-goes s .falls,
+      record {
+        bytes = f .bytes ++ piece;
+        steps = onward piece (f .steps) (omega (arith, f .writes .ended, room, same)) s;
+        writes = writes-then (f .writes) (put .0);
+        within = omega (arith, same, put .1, room);
+      },
+    )
 
 -- it ends where all is printed or no line more has room
 pub filling-ends : {text program : List ℕ} {p q : Player} {memory out after into : List ℕ} {at : ℕ}

@@ -10,13 +10,13 @@
 use mathlib.Core.Path.{_≡_, sym, ap, _∙_}
 use mathlib.Core.Bool.{Bool, true, false}
 use mathlib.Core.List.{List, _++_}
-use Prim.Native.Nat.{ℕ, _*_, _≤_}
+use Prim.Native.Nat.{ℕ, _≤_}
 use lib.ListN.{length}
 use Rattle.text.specs.Lines.{linesOf}
 use Rattle.theorem.proofs.Record.{record-theorem}
 use Rattle.script_model.specs.declared.Player.{Player}
 use Rattle.script_model.specs.Language.{script}
-use Rattle.script_model.specs.Output.{commitLines, wordLines, ending, endLine, closing, scriptOpening, most, printed}
+use Rattle.script_model.specs.Output.{commitLines, wordLines, ending, endLine, closing, most}
 use Rattle.script_model.specs.Playing.{isOver, wronglyLent, Begins}
 use Rattle.script_model.specs.Truth.{Sized, zeros, scriptPlayed, scriptRun, ScriptTruth, Fillings, joined}
 use Rattle.script_model.proofs.Openings.{script-opens}

@@ -1,8 +1,9 @@
--- The ways through the player's loop, each as one step whose piece was written (Written of StepContract): what the code knows on
--- a way, in the order in which it learns it. The machine's answers tell of no commit (Quiet) or of one.
+-- The ways through the player's loop, each as one step more into the buffer (Filling of StepContract), with which the weight
+-- falls: what the code knows on a way, in the order in which it learns it. The machine's answers tell of no commit (Quiet) or of
+-- one.
 -- Assumes nothing.
-use mathlib.Core.Path.{_≡_, refl, sym, ap, subst, _∙_}
-use mathlib.Core.Bool.{Bool, cond}
+use mathlib.Core.Path.{_≡_, refl, sym, ap, ap₂, subst, _∙_}
+use mathlib.Core.Bool.{Bool, false, cond}
 use mathlib.Core.List.{List, []}
 use mathlib.Core.Logic.{inl, inr}
 use Prim.Native.Nat.{ℕ, _+_, _-_, _≤_, _<_}
@@ -21,7 +22,7 @@ use Rattle.machine_model.specs.declared.CommitAnswer.{CommitAnswer}
 use Rattle.machine_model.specs.declared.CommitAnswer.the-variants as commit-answer
 use Rattle.machine_model.specs.declared.FinishAnswer.{FinishAnswer}
 use Rattle.machine_model.specs.declared.FinishAnswer.the-variants as finish-answer
-use Rattle.machine_model.specs.Calls.{Call, issue, execute, squash, commit, finish, Answer}
+use Rattle.machine_model.specs.Calls.{Call, commit, finish, Answer}
 use Rattle.machine_model.specs.Contract.{plain, Meets, doneSays, issueSays, executeSays, commitSays, finishSays}
 use Rattle.theorem.specs.Play.{commitsIn}
 use Rattle.script_model.specs.declared.Ending.{Ending}
@@ -32,14 +33,11 @@ use Rattle.script_model.specs.declared.Ask.the-variants as ask
 use Rattle.script_model.specs.declared.Order.{Order}
 use Rattle.script_model.specs.declared.Player.{Player}
 use Rattle.script_model.specs.Output.{commitLine, badLine, ending, endLine}
-use Rattle.script_model.specs.Playing.{oneMore, orderAt, player, past, QuietStep, firstLine, toldBy, countedBy, phaseAfter}
-use Rattle.script_model.specs.Playing.{afterCall, CallStep, LineStep, wordLineAt, StepIn, PlayerStep, longest, Writes}
+use Rattle.script_model.specs.Playing.{oneMore, orderAt, player, turned, past, firstLine, toldBy, countedBy, phaseAfter}
+use Rattle.script_model.specs.Playing.{afterCall, CallStep, LineStep, wordLineAt, StepIn, longest}
 use Rattle.script_model.proofs.Writing.{writes-none}
-use Rattle.script_model.proofs.StepContract.{Written}
-
--- these bytes were written, no more than a step may write
-abbrev pub Puts : List ℕ → ℕ → List ℕ → List ℕ → ℕ → Type 0
-Puts out at bytes into end = Writes out at bytes into end × (end ≤ at + longest)
+use Rattle.script_model.proofs.Invariant.{weight}
+use Rattle.script_model.proofs.StepContract.{Filling, Puts, filling-then}
 
 -- nothing is written
 put-none : (out : List ℕ) (at : ℕ) → Puts out at [] out at
@@ -76,160 +74,138 @@ finish-told : (a : FinishAnswer) (list : List ℕ) → (commitsIn (finishSays a)
 finish-told (finish-answer.Refused k) list some = absurd (some refl)
 finish-told (finish-answer.Finished n) list some = ap (λ (t : Bool). cond t [] (firstLine list)) (ne-eqb n 0 some)
 
--- the player after a finish with limit k, by whether it made no commit
-abbrev led : ℕ → ℕ → ℕ → ℕ → ℕ → Machine → Bool → Player
-led k cursor line n used u none =
-    player (cond none Stepping (Finishing (k - 1))) cursor line (cond none n (oneMore n)) used u
-
 -- ---- the ways
-module _ {text program : List ℕ} {f : Phase} {cursor line n used : ℕ} {m : Machine} {memory out : List ℕ} {at : ℕ} where
-  -- a step in phase h, which f is
-  in-phase : {h : Phase} {piece : List ℕ} {q : Player} {after into : List ℕ} {end : ℕ} → f ≡ h
-      → StepIn text program h (player f cursor line n used m) memory piece q after → Puts out at piece into end
-      → Written text program (player f cursor line n used m) memory out at q after into end
-  in-phase {piece = piece} {q} {after} e made put =
-      record {
-        piece = piece;
-        step = record { made = subst (λ (i : Phase). StepIn text program i (player f cursor line n used m) memory piece q after) (sym e) made };
-        writes = put .0;
-        short = put .1;
-      }
 
-  pub bad-way : {b : ℕ} {into : List ℕ} {end : ℕ} → f ≡ Bad b → Puts out at (badLine b) into end
-      → Written text program (player f cursor line n used m) memory out at (player Over cursor line n used m) memory into end
-  bad-way e put = in-phase e (record { prints = refl; leads = refl; keeps = refl }) put
+-- player q stands at the loop's head, with room for a step
+pub record Ready (text program : List ℕ) (p : Player) (memory₀ out₀ : List ℕ) (q : Player) (memory out : List ℕ) (at : ℕ)
+    : Type 0 where
+  pub filling : Filling text program p memory₀ out₀ q memory out at
+  pub room : at + longest ≤ length out
 
-  -- a step that takes a line, by its order and what it asks for
-  line-way : {o : Order} {piece : List ℕ} {q : Player} {after into : List ℕ} {end : ℕ} (a : Ask) → f ≡ Stepping
-      → o ≡ orderAt text cursor line → o .ask ≡ a
-      → LineStep program a (past (player f cursor line n used m) o) memory piece q after → Puts out at piece into end
-      → Written text program (player f cursor line n used m) memory out at q after into end
-  line-way {o} {piece} {q} {after} a e order is s put =
-      in-phase e
-      (subst (λ (x : Order). LineStep program (x .ask) (past (player f cursor line n used m) x) memory piece q after) order
-      (subst (λ (b : Ask). LineStep program b (past (player f cursor line n used m) o) memory piece q after) (sym is) s))
-      put
+-- and at a line of order o
+pub record AtLine {text program : List ℕ} {p : Player} {memory₀ out₀ : List ℕ} {q : Player} {memory out : List ℕ} {at : ℕ}
+    (here : Ready text program p memory₀ out₀ q memory out at) (o : Order) : Type 0 where
+  pub stepping : q .phase ≡ Stepping
+  pub order : o ≡ orderAt text (q .cursor) (q .line)
 
-  pub turn-way : {o : Order} {h : Phase} → f ≡ Stepping → o ≡ orderAt text cursor line → o .ask ≡ ask.Turn h
-      → Written text program (player f cursor line n used m) memory out at (player h (o .cursor) (o .line) n used m) memory out at
-  turn-way {h = h} e order is =
-      line-way (ask.Turn h) e order is (record { prints = refl; leads = refl; keeps = refl }) (put-none out at)
+-- the buffer is filled on up to `end`, and the weight falls
+abbrev Onward : {text program : List ℕ} {p : Player} {memory₀ out₀ : List ℕ} {q : Player} {memory out : List ℕ} {at : ℕ}
+    → Ready text program p memory₀ out₀ q memory out at → Player → List ℕ → List ℕ → ℕ → Type 0
+Onward {text} {program} {p} {memory₀} {out₀} {q} {memory} here r after into end =
+    (weight text r after < weight text q memory) × Filling text program p memory₀ out₀ r after into end
 
-  -- a call that the line asked for
-  call-way : {o : Order} {u : Machine} {after list into : List ℕ} {j end : ℕ} (c : Call) (a : Ask) (said : Answer)
-      → ((p q : Player) (piece : List ℕ) → CallStep program c p memory piece q after → LineStep program a p memory piece q after)
-      → f ≡ Stepping → o ≡ orderAt text cursor line → o .ask ≡ a → Meets program m c memory said u after list
-      → length after ≡ length memory → phaseAfter c said ≡ Stepping → j ≡ countedBy said n → Puts out at (toldBy said list) into end
-      → Written text program (player f cursor line n used m) memory out at (player f (o .cursor) (o .line) j used u) after into end
-  call-way {o} {u} {after} {list} {j = j} c a said as-asked e order is meets lent phase counted put =
-      line-way a e order is
-      (as-asked _ _ _
-      (record {
-        said = said;
-        machine = u;
-        list = list;
-        meets = meets;
-        prints = refl;
-        leads = ap (λ (h : Phase). player h (o .cursor) (o .line) j used u) (e ∙ sym phase)
-            ∙ ap (λ (k : ℕ). player (phaseAfter c said) (o .cursor) (o .line) k used u) counted;
-        lent = lent;
-      }))
-      put
+-- a call that was made, by where it leads
+called : {program : List ℕ} {c : Call} {from r : Player} {memory after list : List ℕ} {said : Answer} {u : Machine}
+    → Meets program (from .machine) c memory said u after list → length after ≡ length memory → r ≡ afterCall c said u from
+    → CallStep program c from memory (toldBy said list) r after
+called {list = list} {said} {u} meets lent leads =
+    record { said = said; machine = u; list = list; meets = meets; prints = refl; leads = leads; lent = lent }
 
-  -- one that tells of no commit
-  module _ {o : Order} {said : Answer} {u : Machine} {after : List ℕ} (stepping : f ≡ Stepping)
-      (order : o ≡ orderAt text cursor line) where
-    quiet-way : (c : Call) (a : Ask)
-        → ((p q : Player) (piece : List ℕ) → CallStep program c p memory piece q after → LineStep program a p memory piece q after)
-        → phaseAfter c said ≡ Stepping → o .ask ≡ a → Meets program m c memory said u after [] → length after ≡ length memory
-        → Quiet said
-        → Written text program (player f cursor line n used m) memory out at (player f (o .cursor) (o .line) n used u) after out at
-    quiet-way c a as-asked phase is meets lent quiet =
-        call-way c a said as-asked stepping order is meets lent phase (sym (quiet .uncounted n))
-        (subst (λ (l : List ℕ). Puts out at l out at) (sym (quiet .silent)) (put-none out at))
+-- what is asked for is a call of c
+abbrev Asks : List ℕ → List ℕ → Ask → Player → Call → Type 0
+Asks program memory a from c = (piece : List ℕ) (r : Player) (after : List ℕ)
+    → CallStep program c from memory piece r after → LineStep program a from memory piece r after
 
-    pub issue-way : o .ask ≡ ask.Issue → Meets program m issue memory said u after [] → length after ≡ length memory
-        → Quiet said → Written text program (player f cursor line n used m) memory out at (player f (o .cursor) (o .line) n used u) after out at
-    issue-way = quiet-way issue ask.Issue (λ p q piece s. s) refl
-
-    pub execute-way : {k : ℕ} → o .ask ≡ ask.Execute k → Meets program m (execute k) memory said u after []
-        → length after ≡ length memory → Quiet said
-        → Written text program (player f cursor line n used m) memory out at (player f (o .cursor) (o .line) n used u) after out at
-    execute-way {k} = quiet-way (execute k) (ask.Execute k) (λ p q piece s. s) refl
-
-    pub squash-way : {k : ℕ} → o .ask ≡ ask.Squash k → Meets program m (squash k) memory said u after []
-        → length after ≡ length memory → Quiet said
-        → Written text program (player f cursor line n used m) memory out at (player f (o .cursor) (o .line) n used u) after out at
-    squash-way {k} = quiet-way (squash k) (ask.Squash k) (λ p q piece s. s) refl
-
-    pub refused-way : o .ask ≡ ask.Commit → Meets program m commit memory said u after [] → length after ≡ length memory
-        → Quiet said → Written text program (player f cursor line n used m) memory out at (player f (o .cursor) (o .line) n used u) after out at
-    refused-way = quiet-way commit ask.Commit (λ p q piece s. s) refl
-
-  -- a commit that was made
-  pub commit-way : {o : Order} {u : Machine} {after into : List ℕ} {i code r v j end : ℕ} (a : CommitAnswer) → f ≡ Stepping
-      → o ≡ orderAt text cursor line → o .ask ≡ ask.Commit → Meets program m commit memory (commitSays a) u after []
-      → length after ≡ length memory → a ≡ commit-answer.Committed i code r v → j ≡ oneMore n
-      → Puts out at (commitLine i code r v) into end
-      → Written text program (player f cursor line n used m) memory out at (player f (o .cursor) (o .line) j used u) after into end
-  commit-way {into = into} {end = end} a e order is meets lent said counted put =
-      call-way commit ask.Commit (commitSays a) (λ p q piece s. s) e order is meets lent refl
-      (counted ∙ ap (λ (b : CommitAnswer). countedBy (commitSays b) n) (sym said))
-      (subst (λ (b : CommitAnswer). Puts out at (toldBy (commitSays b) []) into end) (sym said) put)
-
-  -- a finish whose limit is reached
-  pub limit-way : {k : ℕ} → f ≡ Finishing k → k ≡ 0
-      → Written text program (player f cursor line n used m) memory out at (player Stepping cursor line n used m) memory out at
-  limit-way e none = in-phase e (inl (none, record { prints = refl; leads = refl; keeps = refl })) (put-none out at)
-
-  -- a finish with a list of one commit
-  module _ {k : ℕ} {u : Machine} {after list : List ℕ} (a : FinishAnswer) (finishing : f ≡ Finishing k) (some : k ≡ 0 → ⊥)
-      (meets : Meets program m (finish k (replicate 4 0)) memory (finishSays a) u after list)
-      (lent : length after ≡ length memory) where
-    finish-made : {q : Player} {into : List ℕ} {end : ℕ}
-        → q ≡ afterCall (finish k (replicate 4 0)) (finishSays a) u (player f cursor line n used m)
-        → Puts out at (toldBy (finishSays a) list) into end
-        → Written text program (player f cursor line n used m) memory out at q after into end
-    finish-made leads put =
-        in-phase finishing
-        (inr (
-          some,
-          record {
-            said = finishSays a;
-            machine = u;
-            list = list;
-            meets = meets;
-            prints = refl;
-            leads = leads;
-            lent = lent;
-          },
-        ))
+module _ {text program : List ℕ} {p : Player} {memory₀ out₀ : List ℕ} {q : Player} {memory out : List ℕ} {at : ℕ} where
+  module _ (here : Ready text program p memory₀ out₀ q memory out at) where
+    -- a step in phase h, which the player's is
+    in-phase : {h : Phase} {piece : List ℕ} {r : Player} {after into : List ℕ} {end : ℕ} → q .phase ≡ h
+        → StepIn text program h q memory piece r after → Puts out at piece into end → Onward here r after into end
+    in-phase {piece = piece} {r} {after} e made put =
+        filling-then (here .filling) (here .room)
+        (record { made = subst (λ (i : Phase). StepIn text program i q memory piece r after) (sym e) made })
         put
 
-    pub stop-way : commitsIn (finishSays a) ≡ 0
-        → Written text program (player f cursor line n used m) memory out at (player Stepping cursor line n used u) after out at
-    stop-way none =
-        finish-made (ap (led k cursor line n used u) (sym (eq-eqb (commitsIn (finishSays a)) 0 none)))
-        (subst (λ (l : List ℕ). Puts out at l out at) (sym (finish-silent a list none)) (put-none out at))
+    pub bad-way : {b : ℕ} {into : List ℕ} {end : ℕ} → q .phase ≡ Bad b → Puts out at (badLine b) into end
+        → Onward here (turned q Over) memory into end
+    bad-way e put = in-phase e (record { prints = refl; leads = refl; keeps = refl }) put
 
-    pub finish-way : {j end : ℕ} {into : List ℕ} → (commitsIn (finishSays a) ≡ 0 → ⊥) → j ≡ oneMore n
-        → Puts out at (firstLine list) into end
-        → Written text program (player f cursor line n used m) memory out at (player (Finishing (k - 1)) cursor line j used u)
-        after into end
-    finish-way {end = end} {into} one counted put =
-        finish-made
-        (ap (λ (i : ℕ). player (Finishing (k - 1)) cursor line i used u) counted
-        ∙ ap (led k cursor line n used u) (sym (ne-eqb (commitsIn (finishSays a)) 0 one)))
-        (subst (λ (l : List ℕ). Puts out at l into end) (sym (finish-told a list one)) put)
+    -- a finish whose limit is reached
+    pub limit-way : {k : ℕ} → q .phase ≡ Finishing k → k ≡ 0 → Onward here (turned q Stepping) memory out at
+    limit-way e none = in-phase e (inl (none, record { prints = refl; leads = refl; keeps = refl })) (put-none out at)
 
-  -- the closing lines
-  pub word-way : {a end : ℕ} {into : List ℕ} → f ≡ Words a → a < length memory → Puts out at (wordLineAt memory a) into end
-      → Written text program (player f cursor line n used m) memory out at (player (Words (a + 1)) cursor line n used m) memory into end
-  word-way e h put = in-phase e (inl (h, record { prints = refl; leads = refl; keeps = refl })) put
+    -- a finish with a list of one commit
+    module _ {k : ℕ} {u : Machine} {after list : List ℕ} (a : FinishAnswer) (finishing : q .phase ≡ Finishing k)
+        (some : k ≡ 0 → ⊥)
+        (meets : Meets program (q .machine) (finish k (replicate 4 0)) memory (finishSays a) u after list)
+        (lent : length after ≡ length memory) where
+      -- the player after it, by whether it made no commit
+      abbrev led : ℕ → Bool → Player
+      led j none = player (cond none Stepping (Finishing (k - 1))) (q .cursor) (q .line) (cond none (q .commits) j) (q .used) u
 
-  pub end-way : {a end : ℕ} {into : List ℕ} {x : Ending} → f ≡ Words a → length memory ≤ a → x ≡ ending (plain m)
-      → Puts out at (endLine x n) into end
-      → Written text program (player f cursor line n used m) memory out at (player Over cursor line n used m) memory into end
-  end-way {end = end} {into} e h is put =
-      in-phase e (inr (h, record { prints = refl; leads = refl; keeps = refl }))
-      (subst (λ (y : Ending). Puts out at (endLine y n) into end) is put)
+      finish-made : {r : Player} {into : List ℕ} {end : ℕ} → r ≡ led (oneMore (q .commits)) (eqb (commitsIn (finishSays a)) 0)
+          → Puts out at (toldBy (finishSays a) list) into end → Onward here r after into end
+      finish-made leads put =
+          in-phase finishing (inr (some, called meets lent leads)) put
+
+      pub stop-way : commitsIn (finishSays a) ≡ 0
+          → Onward here (player Stepping (q .cursor) (q .line) (q .commits) (q .used) u) after out at
+      stop-way none =
+          finish-made (ap (led (oneMore (q .commits))) (sym (eq-eqb (commitsIn (finishSays a)) 0 none)))
+          (subst (λ (l : List ℕ). Puts out at l out at) (sym (finish-silent a list none)) (put-none out at))
+
+      pub finish-way : {j end : ℕ} {into : List ℕ} → (commitsIn (finishSays a) ≡ 0 → ⊥) → j ≡ oneMore (q .commits)
+          → Puts out at (firstLine list) into end
+          → Onward here (player (Finishing (k - 1)) (q .cursor) (q .line) j (q .used) u) after into end
+      finish-way {end = end} {into} one counted put =
+          finish-made
+          (ap (λ (i : ℕ). led i false) counted
+          ∙ ap (led (oneMore (q .commits))) (sym (ne-eqb (commitsIn (finishSays a)) 0 one)))
+          (subst (λ (l : List ℕ). Puts out at l into end) (sym (finish-told a list one)) put)
+
+    -- the closing lines
+    pub word-way : {a end : ℕ} {into : List ℕ} → q .phase ≡ Words a → a < length memory
+        → Puts out at (wordLineAt memory a) into end → Onward here (turned q (Words (a + 1))) memory into end
+    word-way e h put = in-phase e (inl (h, record { prints = refl; leads = refl; keeps = refl })) put
+
+    pub end-way : {a end : ℕ} {into : List ℕ} {x : Ending} → q .phase ≡ Words a → length memory ≤ a
+        → x ≡ ending (plain (q .machine)) → Puts out at (endLine x (q .commits)) into end
+        → Onward here (turned q Over) memory into end
+    end-way {end = end} {into} e h is put =
+        in-phase e (inr (h, record { prints = refl; leads = refl; keeps = refl }))
+        (subst (λ (y : Ending). Puts out at (endLine y (q .commits)) into end) is put)
+
+  module _ {here : Ready text program p memory₀ out₀ q memory out at} {o : Order} {a : Ask} (line : AtLine here o)
+      (asked : o .ask ≡ a) where
+    -- a step that takes a line
+    line-way : {piece : List ℕ} {r : Player} {after into : List ℕ} {end : ℕ} → LineStep program a (past q o) memory piece r after
+        → Puts out at piece into end → Onward here r after into end
+    line-way {piece} {r} {after} s put =
+        in-phase here (line .stepping)
+        (subst (λ (x : Order). LineStep program (x .ask) (past q x) memory piece r after) (line .order)
+        (subst (λ (b : Ask). LineStep program b (past q o) memory piece r after) (sym asked) s))
+        put
+
+    -- a call that the line asked for
+    call-way : {c : Call} {said : Answer} {u : Machine} {after list into : List ℕ} {j end : ℕ}
+        → Meets program (q .machine) c memory said u after list → length after ≡ length memory → j ≡ countedBy said (q .commits)
+        → Puts out at (toldBy said list) into end → phaseAfter c said ≡ Stepping → Asks program memory a (past q o) c
+        → Onward here (player (q .phase) (o .cursor) (o .line) j (q .used) u) after into end
+    call-way {u = u} meets lent counted put phase as-asked =
+        line-way
+        (as-asked _ _ _
+        (called meets lent
+        (ap₂ (λ (h : Phase) (k : ℕ). player h (o .cursor) (o .line) k (q .used) u) (line .stepping ∙ sym phase) counted)))
+        put
+
+    -- one that tells of no commit
+    pub quiet-way : {c : Call} {said : Answer} {u : Machine} {after : List ℕ}
+        → Meets program (q .machine) c memory said u after [] → length after ≡ length memory → Quiet said
+        → phaseAfter c said ≡ Stepping → Asks program memory a (past q o) c
+        → Onward here (player (q .phase) (o .cursor) (o .line) (q .commits) (q .used) u) after out at
+    quiet-way meets lent quiet =
+        call-way meets lent (sym (quiet .uncounted (q .commits)))
+        (subst (λ (l : List ℕ). Puts out at l out at) (sym (quiet .silent)) (put-none out at))
+
+  module _ {here : Ready text program p memory₀ out₀ q memory out at} {o : Order} (line : AtLine here o) where
+    pub turn-way : {h : Phase} → o .ask ≡ ask.Turn h → Onward here (turned (past q o) h) memory out at
+    turn-way asked = line-way line asked (record { prints = refl; leads = refl; keeps = refl }) (put-none out at)
+
+    -- a commit that was made
+    pub commit-way : {u : Machine} {after into : List ℕ} {i code r v j end : ℕ} (a : CommitAnswer) → o .ask ≡ ask.Commit
+        → Meets program (q .machine) commit memory (commitSays a) u after [] → length after ≡ length memory
+        → a ≡ commit-answer.Committed i code r v → j ≡ oneMore (q .commits) → Puts out at (commitLine i code r v) into end
+        → Onward here (player (q .phase) (o .cursor) (o .line) j (q .used) u) after into end
+    commit-way {into = into} {end = end} a asked meets lent said counted put =
+        call-way line asked meets lent (counted ∙ ap (λ (b : CommitAnswer). countedBy (commitSays b) (q .commits)) (sym said))
+        (subst (λ (b : CommitAnswer). Puts out at (toldBy (commitSays b) []) into end) (sym said) put) refl (λ piece r after s. s)

@@ -11,8 +11,7 @@ use lib.Seq.{sets, length-sets}
 use Rattle.text.specs.Decimal.{decimal}
 use Rattle.text.proofs.Digits.{decimal-length}
 use Rattle.text.proofs.Stores.{sets-append}
-use Rattle.script_model.specs.declared.Ending.{Ending}
-use Rattle.script_model.specs.Output.{letter, numberField, commitLine, fate, endLine}
+use Rattle.script_model.specs.Output.{letter, numberField, commitLine}
 use Rattle.script_model.specs.Playing.{Writes}
 
 pub writes-then : {out mid into xs ys : List ℕ} {at m e : ℕ} → Writes out at xs mid m → Writes mid m ys into e
@@ -64,11 +63,3 @@ writes-commit i code r v x {one = one} {a = a} h p q w =
     subst (λ (y : ℕ). Writes one a (y ∷ 44 ∷ []) (set (set one a x) (a + 1) 44) (a + 2)) h (writes-two one a x 44)
     in
     writes-then (writes-then (writes-then p lettered) q) w
-
--- the end line of the ending that it is
-pub writes-end : {e f : Ending} (n : ℕ) {out mid into : List ℕ} {at m end : ℕ} → e ≡ f
-    → Writes out at ((101 ∷ 110 ∷ 100 ∷ 44 ∷ []) ++ fate f ++ (44 ∷ [])) mid m
-    → Writes mid m (numberField n 10) into end
-    → Writes out at (endLine e n) into end
-writes-end n {out} {mid} {into} {at} {m} {end} h p q =
-    subst (λ (g : Ending). Writes out at (endLine g n) into end) (sym h) (writes-then p q)

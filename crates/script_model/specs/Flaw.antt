@@ -20,7 +20,6 @@ use Rattle.script_model.specs.declared.Item.the-variants.{Malformed, Siz
 use Rattle.script_model.specs.declared.Item.the-variants.{Finish}
 use Rattle.script_model.specs.declared.Part.{Part}
 use Rattle.script_model.specs.declared.Part.the-variants.{First, Program, Steps}
-use Rattle.script_model.specs.declared.Defect.{Defect}
 use Rattle.script_model.specs.declared.Defect.the-variants.{Missing, Zero, Stray, Large, Beyond}
 use Rattle.script_model.specs.declared.Took.{Took}
 use Rattle.script_model.specs.declared.Took.the-variants.{Ends, Grows, Wrong}

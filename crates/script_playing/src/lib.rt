@@ -30,22 +30,11 @@ fn play_on(p: Player, s: &[u8], program: &[u32], memory: &mut [u32], out: &mut [
     while at + LINE <= out.len() {
         match phase {
             Phase::Over => {
-                return Piece {
-                    player: Player {
-                        phase,
-                        cursor,
-                        line,
-                        commits,
-                        used,
-                        machine,
-                    },
-                    end: at,
-                };
+                break;
             }
             Phase::Bad(b) => {
                 at = script_printing::put_bad(out, at, b);
                 phase = Phase::Over;
-                continue;
             }
             Phase::Stepping => {
                 let order = script_steps::next_order(s, cursor, line);
@@ -55,22 +44,18 @@ fn play_on(p: Player, s: &[u8], program: &[u32], memory: &mut [u32], out: &mut [
                 match ask {
                     Ask::Turn(h) => {
                         phase = h;
-                        continue;
                     }
                     Ask::Issue => {
                         let done = machine::issue(machine, program);
                         machine = done.machine;
-                        continue;
                     }
                     Ask::Execute(k) => {
                         let done = machine::execute(machine, program, k as usize, memory);
                         machine = done.machine;
-                        continue;
                     }
                     Ask::Squash(k) => {
                         let done = machine::squash(machine, program, k as usize);
                         machine = done.machine;
-                        continue;
                     }
                     Ask::Commit => {
                         let done = machine::commit(machine, program, memory);
@@ -78,13 +63,10 @@ fn play_on(p: Player, s: &[u8], program: &[u32], memory: &mut [u32], out: &mut [
                         machine = done.machine;
                         let more = script_steps::one_more(commits);
                         match said {
-                            CommitAnswer::Refused(_) => {
-                                continue;
-                            }
+                            CommitAnswer::Refused(_) => {}
                             CommitAnswer::Committed(i, code, r, v) => {
                                 at = script_printing::put_commit(out, at, i, code, r, v);
                                 commits = more;
-                                continue;
                             }
                         }
                     }
@@ -107,7 +89,6 @@ fn play_on(p: Player, s: &[u8], program: &[u32], memory: &mut [u32], out: &mut [
                 commits = script_steps::one_more(commits);
                 let fewer = k - 1;
                 phase = Phase::Finishing(fewer);
-                continue;
             }
             Phase::Words(a) => {
                 if a < memory.len() {
@@ -118,7 +99,6 @@ fn play_on(p: Player, s: &[u8], program: &[u32], memory: &mut [u32], out: &mut [
                 }
                 at = script_printing::put_end(out, at, script_steps::ending_of(machine), commits);
                 phase = Phase::Over;
-                continue;
             }
         }
     }

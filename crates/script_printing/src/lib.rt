@@ -68,18 +68,10 @@ pub fn put_end(out: &mut [u8], at: usize, e: Ending, commits: u64) -> usize
     requires { ⌜ at + longest ≤ length (now out) ⌝ }
     ensures { λ r. ⌜ Writes (now (out .entry)) at (endLine e commits) (now (out .exit)) r × (r ≤ at + longest) ⌝ }
 {
-    match e {
-        Ending::Open => {
-            let a = text::put_text(out, at, b"end,open,");
-            put_number(out, a, commits, b'\n')
-        }
-        Ending::Done => {
-            let a = text::put_text(out, at, b"end,done,");
-            put_number(out, a, commits, b'\n')
-        }
-        Ending::Fault => {
-            let a = text::put_text(out, at, b"end,fault,");
-            put_number(out, a, commits, b'\n')
-        }
-    }
+    let a = match e {
+        Ending::Open => text::put_text(out, at, b"end,open,"),
+        Ending::Done => text::put_text(out, at, b"end,done,"),
+        Ending::Fault => text::put_text(out, at, b"end,fault,"),
+    };
+    put_number(out, a, commits, b'\n')
 }

@@ -6,72 +6,102 @@ use script_model::Loaded;
 use script_model::MOST;
 use text::Line;
 use text::Numbers;
+ghost use mathlib.Core.Bool.{cond};
 ghost use mathlib.Core.Path.{_≡_};
 ghost use Prim.Native.Nat.{ℕ, _+_, _≤_, _<_};
 ghost use lib.ListN.{length};
 ghost use lib.Seq.{slice};
 ghost use Rattle.text.specs.declared.Line.the-variants.{Whole};
 ghost use Rattle.text.specs.computed.Reader.{parsedFields};
+ghost use Rattle.script_model.specs.declared.Found.the-variants.{Nothing};
+ghost use Rattle.script_model.specs.declared.Item.the-variants.{Malformed};
 ghost use Rattle.script_model.specs.Language.{alone, withOne, withThree, withFour, lettered, parsedLine};
 ghost use Rattle.script_model.specs.Playing.{wordsOf};
 ghost use Rattle.script_model.specs.computed.Parts.{headerOf, foundIn, foundBy, foundAt, Loads};
+
+// The item of the first test that holds; malformed where none does.
+fn choose(p: bool, a: Item, q: bool, b: Item, r: bool, c: Item, s: bool, d: Item) -> Item
+    ensures { λ i. ⌜ i ≡ cond p a (cond q b (cond r c (cond s d Malformed))) ⌝ }
+{
+    if p {
+        return a;
+    }
+    if q {
+        return b;
+    }
+    if r {
+        return c;
+    }
+    if s {
+        return d;
+    }
+    Item::Malformed
+}
 
 // A letter alone.
 fn say_alone(b: u8) -> Item
     ensures { λ r. ⌜ r ≡ alone b ⌝ }
 {
-    if b == b'i' {
-        return Item::Issue;
-    }
-    if b == b'c' {
-        return Item::Commit;
-    }
-    Item::Malformed
+    let none = Item::Malformed;
+    choose(
+        b == b'i',
+        Item::Issue,
+        b == b'c',
+        Item::Commit,
+        false,
+        none,
+        false,
+        none,
+    )
 }
 
 // A letter and one number.
 fn say_one(b: u8, k: u32) -> Item
     ensures { λ r. ⌜ r ≡ withOne b k ⌝ }
 {
-    if b == b'e' {
-        return Item::Execute(k);
-    }
-    if b == b'q' {
-        return Item::Squash(k);
-    }
-    if b == b'x' {
-        return Item::Finish(k);
-    }
-    Item::Malformed
+    choose(
+        b == b'e',
+        Item::Execute(k),
+        b == b'q',
+        Item::Squash(k),
+        b == b'x',
+        Item::Finish(k),
+        false,
+        Item::Malformed,
+    )
 }
 
 // A letter and three numbers.
 fn say_three(b: u8, d: u32, s: u32, imm: u32) -> Item
     ensures { λ r. ⌜ r ≡ withThree b d s imm ⌝ }
 {
-    if b == b'A' {
-        return Item::Operation(1, d, s, imm);
-    }
-    if b == b'P' {
-        return Item::Operation(2, d, s, imm);
-    }
-    if b == b'L' {
-        return Item::Operation(3, d, s, imm);
-    }
-    if b == b'S' {
-        return Item::Operation(4, d, s, imm);
-    }
-    Item::Malformed
+    choose(
+        b == b'A',
+        Item::Operation(1, d, s, imm),
+        b == b'P',
+        Item::Operation(2, d, s, imm),
+        b == b'L',
+        Item::Operation(3, d, s, imm),
+        b == b'S',
+        Item::Operation(4, d, s, imm),
+    )
 }
 
 // A letter and four numbers.
 fn say_four(b: u8, banks: u32, rows: u32, stages: u32, words: u32) -> Item
     ensures { λ r. ⌜ r ≡ withFour b banks rows stages words ⌝ }
 {
-    if b == b'N' {
-        return Item::Sizes(banks, rows, stages, words);
-    }
-    Item::Malformed
+    let none = Item::Malformed;
+    choose(
+        b == b'N',
+        Item::Sizes(banks, rows, stages, words),
+        false,
+        none,
+        false,
+        none,
+        false,
+        none,
+    )
 }
 
 // A letter and these fields.
@@ -80,19 +110,23 @@ fn say_fields(b: u8, n: Numbers) -> Item
     ensures { λ r. ⌜ r ≡ lettered b (parsedFields n) ⌝ }
 {
     let k = n.count;
-    if !n.good {
-        return Item::Malformed;
-    }
-    if k == 1 {
-        return say_one(b, n.values[0]);
-    }
-    if k == 3 {
-        return say_three(b, n.values[0], n.values[1], n.values[2]);
-    }
-    if k == 4 {
-        return say_four(b, n.values[0], n.values[1], n.values[2], n.values[3]);
-    }
-    Item::Malformed
+    let good = n.good;
+    let first = n.values[0];
+    let second = n.values[1];
+    let third = n.values[2];
+    let one = say_one(b, first);
+    let three = say_three(b, first, second, third);
+    let four = say_four(b, first, second, third, n.values[3]);
+    choose(
+        good & (k == 1),
+        one,
+        good & (k == 3),
+        three,
+        good & (k == 4),
+        four,
+        false,
+        Item::Malformed,
+    )
 }
 
 // What the line from `from` up to `to` says.
@@ -113,8 +147,17 @@ pub fn read_item(s: &[u8], from: usize, to: usize) -> Item
     say_fields(b, text::read_fields(s, from + 2, to))
 }
 
-// The four numbers that an item gives, and where the next line begins: on the first line sizes within the limits, on a later one
-// a well-formed instruction.
+// What was found, if the test holds.
+fn found_if(t: bool, found: Found) -> Found
+    ensures { λ r. ⌜ r ≡ cond t found Nothing ⌝ }
+{
+    if t {
+        return found;
+    }
+    Found::Nothing
+}
+
+// The four numbers that an item gives: on the first line sizes within the limits, on a later one a well-formed instruction.
 fn take_four(item: Item, first: bool, at: usize) -> Found
     ensures { λ r. ⌜ r ≡ foundIn first item at ⌝ }
 {
@@ -127,23 +170,13 @@ fn take_four(item: Item, first: bool, at: usize) -> Found
                 stages as usize,
                 words as usize,
             );
-            if first & fit {
-                return Found::Four(banks, rows, stages, words, at);
-            }
-            Found::Nothing
+            found_if(first & fit, Found::Four(banks, rows, stages, words, at))
         }
         Item::Operation(code, d, s, imm) => {
             let formed = machine_isa::well_formed(code, d, s, imm);
-            if !first & formed {
-                return Found::Four(code, d, s, imm, at);
-            }
-            Found::Nothing
+            found_if(!first & formed, Found::Four(code, d, s, imm, at))
         }
-        Item::Issue => Found::Nothing,
-        Item::Execute(_) => Found::Nothing,
-        Item::Squash(_) => Found::Nothing,
-        Item::Commit => Found::Nothing,
-        Item::Finish(_) => Found::Nothing,
+        _ => Found::Nothing,
     }
 }
 

@@ -1,5 +1,5 @@
 // Plays scripts and compares what they print. The arguments are pairs of files: a script, and what it must print (at most 4,000
-// bytes). A script that prints something else is shown with both outputs from the first difference on.
+// bytes). A script that prints something else is shown with both outputs.
 use libc::STDOUT_FILENO;
 ghost use Prim.Native.Nat.{_≤_};
 ghost use lib.ListN.{length};
@@ -26,23 +26,6 @@ fn play(s: &[u8], program: &mut [u32], memory: &mut [u32], out: &mut [u8]) -> us
     piece.end
 }
 
-// How many bytes at the start of both are the same.
-fn same_start(a: &[u8], b: &[u8]) -> usize
-    ensures { λ r. ⌜ (r ≤ length (now (a .entry))) × (r ≤ length (now (b .entry))) ⌝ }
-{
-    let mut i = 0;
-    while i < a.len() {
-        if i >= b.len() {
-            return i;
-        }
-        if a[i] != b[i] {
-            return i;
-        }
-        i += 1;
-    }
-    i
-}
-
 fn say(s: &[u8]) {
     io::write_all(STDOUT_FILENO, s);
 }
@@ -57,17 +40,16 @@ fn say_name(i: usize) {
 // Whether a script printed what it must; if not, shows it.
 fn compare(i: usize, s: &[u8], out: &[u8], wanted: &[u8]) -> bool {
     say_name(i);
-    let same = same_start(out, wanted);
-    if (same == out.len()) & (same == wanted.len()) {
+    if check::same(out, wanted) {
         say(b" as expected\n");
         return true;
     }
     say(b" FAILED\n---- script\n");
     say(s);
-    say(b"---- printed, from the first difference on\n");
-    say(&out[same..]);
+    say(b"---- printed\n");
+    say(out);
     say(b"---- expected\n");
-    say(&wanted[same..]);
+    say(wanted);
     false
 }
 

@@ -12,7 +12,7 @@ use lib.ListN.{length}
 use Rattle.marks.specs.Stages.{has}
 use Rattle.table.specs.declared.Table.{Table}
 use Rattle.table.specs.Limits.{rowsIn}
-use Rattle.table.specs.Reference.{Fate, waiting, other, accessed, Side, holds, blank, at}
+use Rattle.table.specs.Reference.{Fate, waiting, other, accessed, holds, blank, at}
 use Rattle.table.specs.Rules.{Rules}
 use Rattle.table.specs.View.{address, loadMark, storeMark, mark, value, wordIf, access, markFate, fateAt, refAt}
 use Rattle.table.specs.View.{view}

@@ -7,7 +7,7 @@ ghost use lib.ListN.{length, drop};
 ghost use Rattle.marks.specs.Counting.{every};
 ghost use Rattle.table.specs.Limits.{banksMost, rowsMost, slots, rowsIn, sizesFit};
 ghost use Rattle.table.specs.Bank.{bank};
-ghost use Rattle.table.specs.computed.Check.{marksBelow, otherAddress, rowFits, lawfulBy};
+ghost use Rattle.table.specs.computed.Check.{marksOf, marksBelow, otherAddress, rowFits, lawfulBy};
 
 // The limits of the sizes: stages, rows a bank, banks, words. SLOTS is the length of the arrays by row.
 pub const STAGES: usize = 16;
@@ -132,6 +132,14 @@ pub fn sizes_fit(banks: usize, rows: usize, stages: usize, words: usize) -> bool
         & ((1 <= words) & (words <= WORDS))
 }
 
+// The stages that bear a mark in row `r`.
+pub fn marks_in<'a>(loads: &'a [u32; SLOTS], stores: &'a [u32; SLOTS], r: usize) -> u32
+    requires { ⌜ (r < slots) × (length (now loads) ≡ slots) × (length (now stores) ≡ slots) ⌝ }
+    ensures { λ m. ⌜ m ≡ marksOf (now (loads .entry)) (now (stores .entry)) r ⌝ }
+{
+    loads[r] | stores[r]
+}
+
 // Whether no marked row among the first `i` of bank `b` has address `a`.
 pub fn address_alone<'a>(
     addresses: &'a [u32; SLOTS],
@@ -149,7 +157,7 @@ pub fn address_alone<'a>(
     let mut k = 0;
     while k < i {
         let r = b * ROWS + k;
-        alone = alone & (((loads[r] | stores[r]) == 0) | !(addresses[r] == a));
+        alone = alone & ((marks_in(loads, stores, r) == 0) | !(addresses[r] == a));
         k += 1;
     }
     alone
@@ -185,17 +193,20 @@ pub fn row_fits<'a>(
     own & address_alone(addresses, loads, stores, r / ROWS, address, r % ROWS)
 }
 
-// The stages that bear a mark in bank `b`.
-pub fn bank_marks<'a>(loads: &'a [u32; SLOTS], stores: &'a [u32; SLOTS], b: usize) -> u32
-    requires { ⌜ (b < banksMost) × (length (now loads) ≡ slots) × (length (now stores) ≡ slots) ⌝ }
-    ensures { λ r. ⌜ r
-        ≡ marksBelow (drop (b * rowsMost) (now (loads .entry))) (drop (b * rowsMost) (now (stores .entry))) rowsMost ⌝ }
+// The stages that bear a mark in `count` rows from row `first` on.
+pub fn marks_from<'a>(
+    loads: &'a [u32; SLOTS],
+    stores: &'a [u32; SLOTS],
+    first: usize,
+    count: usize,
+) -> u32
+    requires { ⌜ (first + count ≤ slots) × (length (now loads) ≡ slots) × (length (now stores) ≡ slots) ⌝ }
+    ensures { λ r. ⌜ r ≡ marksBelow (drop first (now (loads .entry))) (drop first (now (stores .entry))) count ⌝ }
 {
     let mut all: u32 = 0;
     let mut i = 0;
-    while i < ROWS {
-        let r = b * ROWS + i;
-        all = all | (loads[r] | stores[r]);
+    while i < count {
+        all = all | marks_in(loads, stores, first + i);
         i += 1;
     }
     all
@@ -224,7 +235,7 @@ pub fn bank_fits<'a>(
     while i < ROWS {
         let r = b * ROWS + i;
         fit = fit & row_fits(banks, rows, allowed, marked, addresses, loads, stores, r);
-        marked = marked | (loads[r] | stores[r]);
+        marked = marked | marks_in(loads, stores, r);
         i += 1;
     }
     fit
@@ -250,7 +261,7 @@ pub fn rows_fit<'a>(
     let mut before: u32 = 0;
     let mut b = 0;
     while b < banks {
-        let used = bank_marks(loads, stores, b);
+        let used = marks_from(loads, stores, b * ROWS, ROWS);
         if used != 0 {
             fit = fit & bank_fits(banks, rows, allowed, before, addresses, loads, stores, b);
         }

@@ -34,13 +34,24 @@ taken : (limit x d : ℕ) (ns : List ℕ) → (ltb 0 x && leb (x * 10 + d) limit
     → digit limit d (value x) ns ≡ reading ns (value (x * 10 + d))
 taken limit x d ns e = rw e
 
+second : (s t : Bool) → (s && t) ≡ true → t ≡ true
+second true t e = e
+second false t e = absurd (let z : _≡_ {A = ℕ} 0 1 = cc in omega arith)
+
 -- a digit that is taken does not wrap
 pub digit-fits : (x d : ℕ) → (ltb 0 x && leb (x * 10 + d) largest) ≡ true → x * 10 + d ≤ largest
-digit-fits x d e = go (ltb 0 x) e
-  where
-    go : (t : Bool) → (t && leb (x * 10 + d) largest) ≡ true → x * 10 + d ≤ largest
-    go true p = leb-true (x * 10 + d) largest p
-    go false p = absurd (let z : _≡_ {A = ℕ} 0 1 = cc in omega arith)
+digit-fits x d e = leb-true (x * 10 + d) largest (second (ltb 0 x) (leb (x * 10 + d) largest) e)
+
+-- a byte more after r, if t says that r stands: it makes q, or is of no use; bad stays bad
+stepped : (t : Bool) (r q : Reading) (b : ℕ) → (t ≡ true → q ≡ few (byte largest r b))
+    → cond t q bad ≡ few (byte largest (cond t r bad) b)
+stepped true r q b f = f refl
+stepped false r q b f = refl
+
+spoils : (t : Bool) (r : Reading) (b : ℕ) → (t ≡ true → bad ≡ few (byte largest r b))
+    → bad ≡ few (byte largest (cond t r bad) b)
+spoils true r b f = f refl
+spoils false r b f = refl
 
 module _ (count : ℕ) (values : List ℕ) (long : length values ≡ 64) where
   held : ltb count 64 ≡ true → length (take count values) ≡ count
@@ -55,70 +66,47 @@ module _ (count : ℕ) (values : List ℕ) (long : length values ≡ 64) where
   -- the first digit of a field; a digit more; a digit too many
   pub first-digit : (good begun : Bool) (x d : ℕ) → begun ≡ false → d < 10
       → state good true count d values ≡ few (byte largest (state good begun count x values) (48 + d))
-  first-digit good begun x d b h = rw b (go good (ltb count 64) refl)
-    where
-      go : (g t : Bool) → ltb count 64 ≡ t
-          → cond (g && t) (reading (take count values) (value d)) bad
-          ≡ few (byte largest (cond (g && t) (reading (take count values) empty) bad) (48 + d))
-      go false t e = refl
-      go true false e = refl
-      go true true e =
-          sym
-          (ap few
-          (digit-byte largest d empty (take count values) h ∙ digit-first largest d (take count values) (omega arith))
-          ∙ kept (value d) e)
+  first-digit good begun x d b h =
+      rw b
+      (stepped (good && ltb count 64) (reading (take count values) empty) (reading (take count values) (value d)) (48 + d)
+      (λ e. sym (ap few
+      (digit-byte largest d empty (take count values) h ∙ digit-first largest d (take count values) (omega arith))
+      ∙ kept (value d) (second good (ltb count 64) e))))
 
   pub next-digit : (good begun : Bool) (x d : ℕ) → begun ≡ true → d < 10 → (ltb 0 x && leb (x * 10 + d) largest) ≡ true
       → state good begun count (x * 10 + d) values ≡ few (byte largest (state good begun count x values) (48 + d))
-  next-digit good begun x d b h p = rw b (go good (ltb count 64) refl)
-    where
-      go : (g t : Bool) → ltb count 64 ≡ t
-          → cond (g && t) (reading (take count values) (value (x * 10 + d))) bad
-          ≡ few (byte largest (cond (g && t) (reading (take count values) (value x)) bad) (48 + d))
-      go false t e = refl
-      go true false e = refl
-      go true true e =
-          sym
-          (ap few (digit-byte largest d (value x) (take count values) h ∙ taken largest x d (take count values) p)
-          ∙ kept (value (x * 10 + d)) e)
+  next-digit good begun x d b h p =
+      rw b
+      (stepped (good && ltb count 64) (reading (take count values) (value x)) (reading (take count values) (value (x * 10 + d)))
+      (48 + d)
+      (λ e. sym (ap few (digit-byte largest d (value x) (take count values) h ∙ taken largest x d (take count values) p)
+      ∙ kept (value (x * 10 + d)) (second good (ltb count 64) e))))
 
   pub no-digit : (good begun : Bool) (x d : ℕ) → begun ≡ true → d < 10 → (ltb 0 x && leb (x * 10 + d) largest) ≡ false
       → bad ≡ few (byte largest (state good begun count x values) (48 + d))
-  no-digit good begun x d b h p = rw b (go good (ltb count 64))
-    where
-      go : (g t : Bool) → bad ≡ few (byte largest (cond (g && t) (reading (take count values) (value x)) bad) (48 + d))
-      go false t = refl
-      go true false = refl
-      go true true =
-          sym
-          (ap few (digit-byte largest d (value x) (take count values) h ∙ refused largest x d (take count values) p))
+  no-digit good begun x d b h p =
+      rw b
+      (spoils (good && ltb count 64) (reading (take count values) (value x)) (48 + d)
+      (λ e. sym (ap few (digit-byte largest d (value x) (take count values) h ∙ refused largest x d (take count values) p))))
 
   -- a comma after a field, with room for one more; without
   pub next-field : (good begun : Bool) (x : ℕ) → begun ≡ true → count < 63
       → state good false (count + 1) x (set values count x) ≡ few (byte largest (state good begun count x values) 44)
   next-field good begun x b h =
-      rw (b, lt-ltb count 64 (omega arith), lt-ltb (count + 1) 64 (omega arith)) (go good)
-    where
-      go : (g : Bool)
-          → cond (g && true) (reading (take (count + 1) (set values count x)) empty) bad
-          ≡ few (byte largest (cond (g && true) (reading (take count values) (value x)) bad) 44)
-      go false = refl
-      go true =
-          ap (λ (l : List ℕ). reading l empty) (grown x (omega arith))
-          ∙ sym
-          (few-in (take count values ++ (x ∷ [])) empty
-          (omega (arith, length-snoc (take count values) x, held (lt-ltb count 64 (omega arith)))))
+      rw (b, lt-ltb count 64 (omega arith), lt-ltb (count + 1) 64 (omega arith))
+      (stepped (good && true) (reading (take count values) (value x)) (reading (take (count + 1) (set values count x)) empty) 44
+      (λ e. ap (λ (l : List ℕ). reading l empty) (grown x (omega arith))
+      ∙ sym
+      (few-in (take count values ++ (x ∷ [])) empty
+      (omega (arith, length-snoc (take count values) x, held (lt-ltb count 64 (omega arith)))))))
 
   pub no-room : (good begun : Bool) (x : ℕ) → begun ≡ true → 63 ≤ count
       → bad ≡ few (byte largest (state good begun count x values) 44)
-  no-room good begun x b h = rw b (go good (ltb count 64) refl)
-    where
-      go : (g t : Bool) → ltb count 64 ≡ t
-          → bad ≡ few (byte largest (cond (g && t) (reading (take count values) (value x)) bad) 44)
-      go false t e = refl
-      go true false e = refl
-      go true true e =
-          sym (few-out (take count values ++ (x ∷ [])) empty (omega (arith, length-snoc (take count values) x, held e)))
+  no-room good begun x b h =
+      rw b
+      (spoils (good && ltb count 64) (reading (take count values) (value x)) 44
+      (λ e. sym (few-out (take count values ++ (x ∷ [])) empty
+      (omega (arith, length-snoc (take count values) x, held (second good (ltb count 64) e))))))
 
   -- the end of a line with an open field
   pub last-field : (good begun : Bool) (x : ℕ) → good ≡ true → begun ≡ true → count < 64
@@ -134,11 +122,8 @@ module _ (count : ℕ) (values : List ℕ) (long : length values ≡ 64) where
 -- a comma without a field
 pub no-field : (good begun : Bool) (count x : ℕ) (values : List ℕ) → begun ≡ false
     → bad ≡ few (byte largest (state good begun count x values) 44)
-no-field good begun count x values b = rw b (go (good && ltb count 64))
-  where
-    go : (t : Bool) → bad ≡ few (byte largest (cond t (reading (take count values) empty) bad) 44)
-    go false = refl
-    go true = refl
+no-field good begun count x values b =
+    rw b (spoils (good && ltb count 64) (reading (take count values) empty) 44 (λ e. refl))
 
 -- a byte that is neither comma nor digit
 pub below-digits : (r : Reading) (b : ℕ) → (b ≡ 44 → ⊥) → b < 48 → bad ≡ few (byte largest r b)
@@ -173,17 +158,13 @@ data Many : Reading → Type 0 where
   spoilt : Many bad
   full : {ns : List ℕ} {o : Open} → 64 ≤ length ns → Many (reading ns o)
 
+many-if : (t : Bool) (ns : List ℕ) (o : Open) → 64 ≤ length ns → Many (cond t (reading ns o) bad)
+many-if true ns o h = full h
+many-if false ns o h = spoilt
+
 many-digit : (limit d : ℕ) (o : Open) (ns : List ℕ) → 64 ≤ length ns → Many (digit limit d o ns)
-many-digit limit d empty ns h = go (leb d limit)
-  where
-    go : (t : Bool) → Many (cond t (reading ns (value d)) bad)
-    go true = full h
-    go false = spoilt
-many-digit limit d (value x) ns h = go (ltb 0 x && leb (x * 10 + d) limit)
-  where
-    go : (t : Bool) → Many (cond t (reading ns (value (x * 10 + d))) bad)
-    go true = full h
-    go false = spoilt
+many-digit limit d empty ns h = many-if (leb d limit) ns (value d) h
+many-digit limit d (value x) ns h = many-if (ltb 0 x && leb (x * 10 + d) limit) ns (value (x * 10 + d)) h
 
 many-comma : (o : Open) (ns : List ℕ) → 64 ≤ length ns → Many (comma o ns)
 many-comma empty ns h = spoilt

@@ -2,21 +2,17 @@
 -- (rules-at). An early refusal is the definition's (turned-down); past it the ticket is ready (ready-at), and the effect found
 -- is the definition's (found-at). Where it leaves nothing the execution stalls; else what it changes lies in its bounds
 -- (bounds-at), and the table changed in place is the one with the effect applied (executes-meets). Assumes nothing.
-use mathlib.Core.Path.{_≡_, refl, sym, ap, subst, _∙_}
+use mathlib.Core.Path.{_≡_, refl, sym, _∙_}
 use Prim.Native.Nat.{_≤_, _<_}
 use native.Mathlib.Omega.{arith}
-use borrow.Author.Tests.{not-true, not-false}
-use Rattle.table.specs.Limits.{banksMost, stagesMost, slots}
+use Rattle.table.specs.Limits.{stagesMost, slots}
 use Rattle.table.specs.Rules.{Rules}
 use Rattle.table.specs.View.{view}
-use Rattle.table.proofs.Lawful.{lawful-rules}
-use Rattle.table.proofs.Sizes.{Sizes, sizes}
-use Rattle.engine.proofs.Lengths.{Lengths}
-use Rattle.engine.specs.declared.Effect.{Effect}
+use Rattle.engine.proofs.Lengths.{Lengths, lengths-of, fits, circle-asks, effect-asks}
 use Rattle.engine.specs.computed.Effect.{effectAt}
-use Rattle.engine.proofs.Executed.{effect-bounds}
+use Rattle.engine.proofs.Executed.{found-bounds}
 use Rattle.buffer_model.specs.Refusals.{place}
-use Rattle.buffer_model.proofs.MeetingContract.{broken-meets}
+use Rattle.buffer_model.proofs.MeetingContract.{checked-rules, broken-meets}
 use Rattle.buffer_model.proofs.Executing.{earlyBy, Ready, ready, turned-down, stalls, executes-meets}
 use borrow.Author.Needs.{needs}
 use Rattle.buffer_execute.proofs.execute.Statement.{statement}
@@ -38,20 +34,10 @@ rowed c = c .before .before .before .before .before .before .before .before .bef
     .before .before .before .before
 
 lengths-at : (c : tie.Start) → Lengths (c .args .t1)
-lengths-at c =
-    record {
-      numbers = search needs;
-      addresses = search needs;
-      loads = search needs;
-      stores = search needs;
-      values = search needs;
-    }
+lengths-at c = lengths-of (c .args .t1) (c .good .0)
 
 rules-at : (c : tie.Else1) → Rules (entry c .args .t1)
-rules-at c = lawful-rules _ (sym (c .before .keeps-rules .ensures) ∙ not-false _ (c .if1 .left))
-
-fits-at : (c : tie.Else1) → let t = entry c .args .t1 in Sizes (t .banks) (t .rows) (t .stages) (t .words)
-fits-at c = sizes _ _ _ _ (rules-at c .sizes)
+rules-at c = checked-rules _ (c .before .keeps-rules .ensures) (c .if1 .left)
 
 -- past the refusal none of the conditions holds
 passed-at : (c : tie.Else2)
@@ -75,31 +61,21 @@ found-at c = rw (c .before .position-of .ensures) at (c .effect-of .ensures)
 bounds-at : (c : tie.Else3)
     → let args = entry (checked (named c)) .args in
     let found = c .before .effect-of .result in
-    (found .left ≤ args .t1 .stages) × (found .row < slots) × (args .ticket .stage < stagesMost)
+    (found .left ≤ args .t1 .live) × (found .row < slots) × (args .ticket .stage < stagesMost)
 bounds-at c =
-    let at = checked (named c) in
-    let args = entry at .args in
-    let t = args .t1 in
-    let p = place (view t) (args .ticket) in
-    let found = found-at (c .before) in
-    let b = subst (λ (q : Effect). (p < q .left) × (q .left ≤ t .live) × (q .row < slots)) (sym found)
-    (effect-bounds t (rules-at at) p (ready-at (named c) .live) (args .memory .now) (args .action)
-    (λ z. c .if3 .left (ap (λ (q : Effect). q .left) found ∙ z))) in
-    (omega (arith, b .1, rules-at at .live-bounded), b .2, omega (arith, ready-at (named c) .stage, fits-at at .stages))
-
-keeps-rules-requires : tie.Need-keeps-rules-requires
-keeps-rules-requires c κs = search needs
+    let args = entry (checked (named c)) .args in
+    let rules = rules-at (checked (named c)) in
+    let ready = ready-at (named c) in
+    let b = found-bounds _ rules _ (ready .live) (args .memory .now) (args .action) (found-at (c .before)) (c .if3 .left) in
+    (b .1, b .2, omega (arith, ready .stage, fits _ rules .stages))
 
 returns : tie.Need-returns
-returns c = broken-meets _ _ _ (sym (c .before .keeps-rules .ensures) ∙ not-true _ (c .if1 .taken))
+returns c = broken-meets _ _ _ (c .before .keeps-rules .ensures) (c .if1 .taken)
 
 execution-refusal-requires : tie.Need-execution-refusal-requires
-execution-refusal-requires c κs = let at = c .before .before in (
-  rules-at at .start,
-  fits-at at .stages,
-  lengths-at (entry at)
-      .numbers,
-)
+execution-refusal-requires c κs =
+    let rules = rules-at (c .before .before) in
+    (rules .start, fits _ rules .stages, lengths-at (entry (c .before .before)) .numbers)
 
 returns-2 : tie.Need-returns-2
 returns-2 c =
@@ -112,28 +88,14 @@ returns-2 c =
 position-of-requires : tie.Need-position-of-requires
 position-of-requires c κs =
     let past = c .before .before .before .before .before in
-    let at = checked past in (rules-at at .start, ready-at past .stage, omega (arith, fits-at at .stages))
+    let rules = rules-at (checked past) in
+    (rules .start, ready-at past .stage, omega (arith, fits _ rules .stages))
 
 effect-of-requires : tie.Need-effect-of-requires
 effect-of-requires c κs =
     let past = c .before .before .before .before .before .before in
     let at = checked past in
-    let rules = rules-at at in
-    let fit = fits-at at in
-    let has = lengths-at (entry at) in
-    let live = ready-at past .live in (
-      (
-        fit .some-bank,
-        fit .banks,
-        fit .some-row,
-        fit .rows,
-        rules .start,
-        rules .live-bounded,
-        fit .stages,
-        rw (c .position-of .ensures) live,
-      ),
-      (has .addresses, has .loads, has .stores, has .values),
-    )
+    effect-asks _ (rules-at at) (lengths-at (entry at)) _ (rw (c .position-of .ensures) (ready-at past .live))
 
 returns-3 : tie.Need-returns-3
 returns-3 c =
@@ -147,21 +109,21 @@ squashed-from-requires : tie.Need-squashed-from-requires
 squashed-from-requires c κs =
     let at = checked (named (c .before .before)) in
     let rules = rules-at at in
-    (rules .start, rules .live-bounded, fits-at at .stages, lengths-at (entry at) .numbers)
+    (rules .start, rules .live-bounded, fits _ rules .stages, lengths-at (entry at) .numbers)
 
 cut-requires : tie.Need-cut-requires
 cut-requires c κs =
     let row = c .before .before .before .before in
     let at = checked (named row) in
-    let fit = fits-at at in
-    ((fit .banks, lengths-at (entry at) .loads), (rules-at at .start, bounds-at row .0, omega (arith, fit .stages)))
+    let rules = rules-at at in
+    ((fits _ rules .banks, lengths-at (entry at) .loads), circle-asks _ rules _ (bounds-at row .0))
 
 cut-requires-2 : tie.Need-cut-requires-2
 cut-requires-2 c κs =
     let row = c .before .before .before .before .before .before in
     let at = checked (named row) in
-    let fit = fits-at at in
-    ((fit .banks, lengths-at (entry at) .stores), (rules-at at .start, bounds-at row .0, omega (arith, fit .stages)))
+    let rules = rules-at at in
+    ((fits _ rules .banks, lengths-at (entry at) .stores), circle-asks _ rules _ (bounds-at row .0))
 
 including-requires : tie.Need-including-requires
 including-requires c κs = let bounds = bounds-at (c .before .before .before .before .before .before .before) in omega arith
@@ -180,9 +142,6 @@ add-mark-requires-2 c κs = let bounds = bounds-at (c .before .before .before .b
 set-value-requires : tie.Need-set-value-requires
 set-value-requires c κs = bounds-at (c .before .before .before .before .before .before .before .before .before .before .before
     .before .before .before .before .before) .2
-
-answered-requires : tie.Need-answered-requires
-answered-requires c κs = search needs
 
 returns-4 : tie.Need-returns-4
 returns-4 c =
@@ -207,21 +166,6 @@ returns-4 c =
 pub execute-spec : {M : Type 1} → statement M
 execute-spec =
     tie.close
-    (tie.spec
-    keeps-rules-requires
-    returns
-    execution-refusal-requires
-    returns-2
-    position-of-requires
-    effect-of-requires
-    returns-3
-    squashed-from-requires
-    cut-requires
-    cut-requires-2
-    including-requires
-    set-word-requires
-    add-mark-requires
-    add-mark-requires-2
-    set-value-requires
-    answered-requires
-    returns-4)
+    (tie.spec (λ c κs. search needs) returns execution-refusal-requires returns-2 position-of-requires effect-of-requires
+    returns-3 squashed-from-requires cut-requires cut-requires-2 including-requires set-word-requires
+    add-mark-requires add-mark-requires-2 set-value-requires (search needs) returns-4)

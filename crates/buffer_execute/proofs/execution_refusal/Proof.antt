@@ -1,11 +1,12 @@
 -- `buffer_execute::execution_refusal` meets its contract: each return is the definition's first condition that holds. Past the
 -- second test the ticket's stage is one of the table's. Assumes nothing.
 use mathlib.Core.Path.{_≡_, sym, _∙_}
-use mathlib.Core.Bool.{true, and-eq-true-iff}
+use mathlib.Core.Bool.{true, cond, and-eq-true-iff}
 use native.Mathlib.Omega.{arith}
 use borrow.Author.Needs.{needs}
 use borrow.Author.Tests.{ltb-true, eq-eqb, ne-eqb, not-true, not-false}
-use Rattle.buffer_model.specs.computed.Parts.{namedBy}
+use Rattle.marks.specs.Stages.{has}
+use Rattle.buffer_model.specs.computed.Parts.{namedBy, executeRefusal}
 use Rattle.buffer_execute.proofs.execution_refusal.Statement.{statement}
 use Rattle.buffer_execute.proofs.execution_refusal.Tie as tie
 
@@ -14,11 +15,16 @@ named-at : (c : tie.Else2) → let args = c .before .before .before .args in
     namedBy (args .oldest) (args .stages) (args .live) (args .numbers .now) (args .s) (args .number) ≡ true
 named-at c = sym (c .before .named .ensures) ∙ not-false _ (c .if2 .left)
 
+-- past it only condition 8 is left
+last-at : (c : tie.After-contains) → let args = c .before .before .before .before .args in
+    executeRefusal (args .words) (args .«words-lent»)
+    (namedBy (args .oldest) (args .stages) (args .live) (args .numbers .now) (args .s) (args .number))
+    (has (args .executed) (args .s))
+    ≡ cond (c .contains .result) 8 0
+last-at c = rw (eq-eqb _ _ (c .before .before .before .if1 .left), named-at (c .before), c .contains .ensures)
+
 returns : tie.Need-returns
 returns c = rw (ne-eqb _ _ (c .if1 .taken))
-
-named-requires : tie.Need-named-requires
-named-requires c κs = search needs
 
 returns-2 : tie.Need-returns-2
 returns-2 c =
@@ -30,23 +36,11 @@ contains-requires c κs =
     omega (arith, ltb-true (args .s) (args .stages) (and-eq-true-iff _ _ .0 (named-at c) .0))
 
 returns-3 : tie.Need-returns-3
-returns-3 c =
-    rw (
-      eq-eqb _ _ (c .before .before .before .before .if1 .left),
-      named-at (c .before .before),
-      ← c .before .contains .ensures,
-      c .if3 .taken,
-    )
+returns-3 c = sym (rw (c .if3 .taken) at (last-at (c .before)))
 
 returns-4 : tie.Need-returns-4
-returns-4 c =
-    rw (
-      eq-eqb _ _ (c .before .before .before .before .if1 .left),
-      named-at (c .before .before),
-      ← c .before .contains .ensures,
-      c .if3 .left,
-    )
+returns-4 c = sym (rw (c .if3 .left) at (last-at (c .before)))
 
 pub execution-refusal-spec : {M : Type 1} → statement M
 execution-refusal-spec =
-    tie.close (tie.spec returns named-requires returns-2 contains-requires returns-3 returns-4)
+    tie.close (tie.spec returns (search needs) returns-2 contains-requires returns-3 returns-4)

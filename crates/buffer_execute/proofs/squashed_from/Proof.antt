@@ -14,9 +14,6 @@ below-at c =
     let start = c .before .before .pre .0 in
     omega (arith, stage-lt _ _ start (c .before .before .args .left) (omega arith))
 
-stage-at-requires : tie.Need-stage-at-requires
-stage-at-requires c κs = search needs
-
 mul-t8 : tie.Need-mul-t8
 mul-t8 c = omega (arith, below-at c)
 
@@ -31,4 +28,4 @@ returns-2 c = rw (le-ltb _ _ (c .if1 .left))
 
 pub squashed-from-spec : {M : Type 1} → statement M
 squashed-from-spec =
-    tie.close (tie.spec stage-at-requires mul-t8 element-copy-out-t11 returns returns-2)
+    tie.close (tie.spec (search needs) mul-t8 element-copy-out-t11 returns returns-2)

@@ -3,22 +3,18 @@
 -- a reference is live, the oldest has executed, it does not fault. Assumes nothing.
 use mathlib.Core.Bool.{true, false}
 use mathlib.Core.Path.{_≡_, sym, ap, _∙_}
-use Prim.Native.Nat.{ℕ, _<_, _≤_}
+use Prim.Native.Nat.{ℕ, _<_}
 use native.Mathlib.Omega.{arith}
 use lib.ListN.{length}
 use borrow.Author.Needs.{needs}
 use borrow.Author.Tests.{not-true, not-false}
-use Rattle.marks.proofs.Turns.{stage-lt}
 use Rattle.marks.specs.Stages.{has}
 use Rattle.table.specs.declared.Table.{Table}
-use Rattle.table.specs.Limits.{banksMost}
 use Rattle.table.specs.Rules.{Rules}
-use Rattle.table.proofs.Lawful.{lawful-rules}
-use Rattle.table.proofs.Sizes.{sizes}
-use Rattle.engine.proofs.Lengths.{Lengths}
+use Rattle.engine.proofs.Lengths.{Lengths, lengths-of, fits, circle-asks, oldest-small, next-asks}
 use Rattle.lookup.specs.computed.Search.{markedFate}
 use Rattle.engine.specs.Conditions.{faults}
-use Rattle.buffer_model.proofs.MeetingContract.{broken-meets}
+use Rattle.buffer_model.proofs.MeetingContract.{checked-rules, broken-meets}
 use Rattle.buffer_model.proofs.Committing.{
   oldestFate,
   length-refused,
@@ -58,27 +54,11 @@ abbrev lawful : tie.Else4 → tie.Else1
 lawful c = checked (lent (live c))
 
 lengths : (c : tie.Start) → Lengths (table c)
-lengths c =
-    record {
-      numbers = search needs;
-      addresses = search needs;
-      loads = search needs;
-      stores = search needs;
-      values = search needs;
-    }
+lengths c = lengths-of (table c) (c .good .0)
 
 -- past the check the table keeps its rules
 rules-at : (c : tie.Else1) → Rules (table (entry c))
-rules-at c = lawful-rules _ (sym (c .before .keeps-rules .ensures) ∙ not-false _ (c .if1 .left))
-
-most-stages : (c : tie.Else1) → table (entry c) .stages ≤ 16
-most-stages c = sizes _ _ _ _ (rules-at c .sizes) .stages
-
-most-banks : (c : tie.Else1) → table (entry c) .banks ≤ banksMost
-most-banks c = sizes _ _ _ _ (rules-at c .sizes) .banks
-
-oldest-below : (c : tie.Else1) → table (entry c) .oldest < 16
-oldest-below c = omega (arith, most-stages c, rules-at c .start)
+rules-at c = checked-rules _ (c .before .keeps-rules .ensures) (c .if1 .left)
 
 length-at : (c : tie.Else2) → let start = entry (checked c) in length (start .args .memory .now) ≡ table start .words
 length-at c = search needs
@@ -102,11 +82,8 @@ faultless-at : (c : tie.Else5) → let t = table (entry (lawful (executed c))) i
     faults (t .words) (oldestFate t) ≡ false
 faultless-at c = sym (fault-at (c .before)) ∙ c .if5 .left
 
-keeps-rules-requires : tie.Need-keeps-rules-requires
-keeps-rules-requires c κs = search needs
-
 returns : tie.Need-returns
-returns c = broken-meets _ _ _ (sym (c .before .keeps-rules .ensures) ∙ not-true _ (c .if1 .taken))
+returns c = broken-meets _ _ _ (c .before .keeps-rules .ensures) (c .if1 .taken)
 
 returns-2 : tie.Need-returns-2
 returns-2 c = length-refused _ (rules-at (c .before)) _ (c .if2 .taken)
@@ -115,7 +92,7 @@ returns-3 : tie.Need-returns-3
 returns-3 c = empty-refused _ (rules-at (c .before .before)) _ (length-at (c .before)) (c .if3 .taken)
 
 contains-requires : tie.Need-contains-requires
-contains-requires c κs = omega (arith, oldest-below (checked (lent c)))
+contains-requires c κs = omega (arith, oldest-small _ (rules-at (checked (lent c))))
 
 returns-4 : tie.Need-returns-4
 returns-4 c =
@@ -126,11 +103,9 @@ returns-4 c =
 mark-at-requires : tie.Need-mark-at-requires
 mark-at-requires c κs =
     let past = lawful (c .before .before .before .before .before) in
+    let rules = rules-at past in
     let l = lengths (entry past) in
-    ((most-banks past, oldest-below past, l .addresses, l .loads), (l .stores, l .values))
-
-mark-faults-requires : tie.Need-mark-faults-requires
-mark-faults-requires c κs = search needs
+    ((fits _ rules .banks, oldest-small _ rules, l .addresses, l .loads), (l .stores, l .values))
 
 returns-5 : tie.Need-returns-5
 returns-5 c =
@@ -145,42 +120,29 @@ write-back-requires c κs =
     ∙ sym (c .before .before .mark-faults .ensures) ∙ c .before .if5 .left
 
 mul-number : tie.Need-mul-number
-mul-number c = omega (arith, oldest-below (lawful (executed (c .before .before .before .before))))
+mul-number c = omega (arith, oldest-small _ (rules-at (lawful (executed (c .before .before .before .before)))))
 
 element-copy-out-number : tie.Need-element-copy-out-number
-element-copy-out-number c = oldest-below (lawful (executed (c .before .before .before .before)))
+element-copy-out-number c = oldest-small _ (rules-at (lawful (executed (c .before .before .before .before))))
 
 stage-at-requires : tie.Need-stage-at-requires
 stage-at-requires c κs =
-    let past = lawful (executed (c .before .before .before .before .before)) in
-    let rules = rules-at past in
-    (rules .start, omega (arith, rules .start), omega (arith, most-stages past))
-
-sub-first-stages : tie.Need-sub-first-stages
-sub-first-stages c = search needs
+    let past = executed (c .before .before .before .before .before) in
+    circle-asks _ (rules-at (lawful past)) 1 (live-at (live past))
 
 first-stages-requires : tie.Need-first-stages-requires
 first-stages-requires c κs =
-    let past = lawful (executed (c .before .before .before .before .before .before)) in
-    let rules = rules-at past in
-    let first = stage-lt _ _ (rules .start) 1 (omega (arith, rules .start)) in
-    (rw (c .stage-at .ensures) first, omega (arith, rules .live-bounded), omega (arith, most-stages past))
-
-sub-t : tie.Need-sub-t
-sub-t c = search needs
+    next-asks _ (rules-at (lawful (executed (c .before .before .before .before .before .before)))) (c .stage-at .ensures)
 
 keep-requires : tie.Need-keep-requires
 keep-requires c κs =
     let past = lawful (executed (c .before .before .before .before .before .before .before .before)) in
-    (most-banks past, lengths (entry past) .loads)
+    (fits _ (rules-at past) .banks, lengths (entry past) .loads)
 
 keep-requires-2 : tie.Need-keep-requires-2
 keep-requires-2 c κs =
     let past = lawful (executed (c .before .before .before .before .before .before .before .before .before .before)) in
-    (most-banks past, lengths (entry past) .stores)
-
-same-length : tie.Need-same-length
-same-length c = search needs
+    (fits _ (rules-at past) .banks, lengths (entry past) .stores)
 
 returns-6 : tie.Need-returns-6
 returns-6 c =
@@ -200,24 +162,6 @@ returns-6 c =
 pub commit-spec : {M : Type 1} → statement M
 commit-spec =
     tie.close
-    (tie.spec
-    keeps-rules-requires
-    returns
-    returns-2
-    returns-3
-    contains-requires
-    returns-4
-    mark-at-requires
-    mark-faults-requires
-    returns-5
-    write-back-requires
-    mul-number
-    element-copy-out-number
-    stage-at-requires
-    sub-first-stages
-    first-stages-requires
-    sub-t
-    keep-requires
-    keep-requires-2
-    same-length
-    returns-6)
+    (tie.spec (λ c κs. search needs) returns returns-2 returns-3 contains-requires returns-4 mark-at-requires (search needs)
+    returns-5 write-back-requires mul-number element-copy-out-number stage-at-requires (search needs)
+    first-stages-requires (search needs) keep-requires keep-requires-2 (search needs) returns-6)

@@ -1,31 +1,20 @@
 -- `buffer_moves::issue` meets its contract: broken rules are refused with 2 (broken-meets), and a full window with 5
 -- (issue-full). Past both the table that it changes in place is the step `grown`, by what its callees ensure.
 -- Assumes nothing.
-use mathlib.Core.Path.{sym, _∙_}
-use Prim.Native.Nat.{_≤_, _<_}
+use Prim.Native.Nat.{_<_}
 use native.Mathlib.Nat.{le-refl}
 use native.Mathlib.Omega.{arith}
 use borrow.Author.Needs.{needs}
-use borrow.Author.Tests.{not-true, not-false}
 use Rattle.table.specs.Rules.{Rules}
-use Rattle.table.proofs.Lawful.{lawful-rules}
-use Rattle.table.proofs.Sizes.{sizes}
-use Rattle.engine.proofs.Lengths.{Lengths, stage-small}
+use Rattle.engine.proofs.Lengths.{Lengths, lengths-of, fits, circle-asks, stage-small}
 use Rattle.buffer_model.specs.Calls.{issue}
-use Rattle.buffer_model.proofs.MeetingContract.{broken-meets}
+use Rattle.buffer_model.proofs.MeetingContract.{checked-rules, broken-meets}
 use Rattle.buffer_model.proofs.Moving.{issue-full, issue-meets}
 use Rattle.buffer_moves.proofs.issue.Statement.{statement}
 use Rattle.buffer_moves.proofs.issue.Tie as tie
 
 lengths : (c : tie.Start) → Lengths (c .args .t1)
-lengths c =
-    record {
-      numbers = search needs;
-      addresses = search needs;
-      loads = search needs;
-      stores = search needs;
-      values = search needs;
-    }
+lengths c = lengths-of (c .args .t1) (c .good .0)
 
 -- the entry, seen from past the check of the rules
 abbrev entry : tie.Else1 → tie.Start
@@ -33,43 +22,30 @@ entry c = c .before .before .before .before .before .before
 
 -- past the check the table keeps its rules
 rules-at : (c : tie.Else1) → Rules (entry c .args .t1)
-rules-at c = lawful-rules _ (sym (c .before .keeps-rules .ensures) ∙ not-false _ (c .if1 .left))
-
-most-at : (c : tie.Else1) → entry c .args .t1 .stages ≤ 16
-most-at c = sizes _ _ _ _ (rules-at c .sizes) .stages
+rules-at c = checked-rules _ (c .before .keeps-rules .ensures) (c .if1 .left)
 
 -- past the second test there is room
 room-at : (c : tie.Else2) → let t = entry (c .before) .args .t1 in t .live < t .stages
-room-at c = let room = rules-at (c .before) .live-bounded in omega (arith, c .if2 .left)
+room-at c = omega (arith, rules-at (c .before) .live-bounded, c .if2 .left)
 
 -- the new reference's stage is an index of the numbers
 small-at : (c : tie.After-stage-at) → c .stage-at .result < 16
 small-at c = rw (c .stage-at .ensures) (stage-small _ (rules-at (c .before .before)) _ (le-refl _))
 
-keeps-rules-requires : tie.Need-keeps-rules-requires
-keeps-rules-requires c κs = search needs
-
 returns : tie.Need-returns
-returns c m = broken-meets _ issue m (sym (c .before .keeps-rules .ensures) ∙ not-true _ (c .if1 .taken))
+returns c m = broken-meets _ issue m (c .before .keeps-rules .ensures) (c .if1 .taken)
 
 returns-2 : tie.Need-returns-2
 returns-2 c = issue-full _ (rules-at (c .before)) (c .if2 .taken)
 
 stage-at-requires : tie.Need-stage-at-requires
-stage-at-requires c κs =
-    let rules = rules-at (c .before) in (rules .start, rules .live-bounded, omega (arith, most-at (c .before)))
+stage-at-requires c κs = circle-asks _ (rules-at (c .before)) _ (le-refl _)
 
 add-t : tie.Need-add-t
-add-t c = omega (arith, room-at (c .before), most-at (c .before .before))
-
-wrapping-add-u32-requires : tie.Need-wrapping-add-u32-requires
-wrapping-add-u32-requires c κs = search needs
+add-t c = omega (arith, room-at (c .before), fits _ (rules-at (c .before .before)) .stages)
 
 first-stages-requires : tie.Need-first-stages-requires
-first-stages-requires c κs =
-    let checked = c .before .before .before in
-    let rules = rules-at checked in
-    (rules .start, rules .live-bounded, omega (arith, most-at checked))
+first-stages-requires c κs = circle-asks _ (rules-at (c .before .before .before)) _ (le-refl _)
 
 mul-t : tie.Need-mul-t
 mul-t c = omega (arith, small-at (c .before .before))
@@ -87,14 +63,5 @@ returns-3 c m =
 pub issue-spec : {M : Type 1} → statement M
 issue-spec =
     tie.close
-    (tie.spec
-    keeps-rules-requires
-    returns
-    returns-2
-    stage-at-requires
-    add-t
-    wrapping-add-u32-requires
-    first-stages-requires
-    mul-t
-    element-write-t
-    returns-3)
+    (tie.spec (λ c κs. search needs) returns returns-2 stage-at-requires add-t (search needs) first-stages-requires mul-t
+    element-write-t returns-3)

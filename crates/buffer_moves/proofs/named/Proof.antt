@@ -9,17 +9,8 @@ use Rattle.buffer_moves.proofs.named.Tie as tie
 returns : tie.Need-returns
 returns c = rw (le-ltb _ _ (c .if1 .taken))
 
-position-of-requires : tie.Need-position-of-requires
-position-of-requires c κs = search needs
-
-mul-result : tie.Need-mul-result
-mul-result c = search needs
-
-element-copy-out-result : tie.Need-element-copy-out-result
-element-copy-out-result c = search needs
-
 returns-2 : tie.Need-returns-2
 returns-2 c = rw (lt-ltb _ _ (c .before .before .if1 .left), c .before .position-of .ensures)
 
 pub named-spec : {M : Type 1} → statement M
-named-spec = tie.close (tie.spec returns position-of-requires mul-result element-copy-out-result returns-2)
+named-spec = tie.close (tie.spec returns (search needs) (search needs) (search needs) returns-2)

@@ -15,29 +15,17 @@ fit-at : (c : tie.Else1)
     → let args = c .before .before .before .args in sizesFit (args .banks) (args .rows) (args .stages) (args .words) ≡ true
 fit-at c = sym (c .before .sizes-fit .ensures) ∙ not-false _ (c .if1 .left)
 
-sizes-fit-requires : tie.Need-sizes-fit-requires
-sizes-fit-requires c κs = search needs
-
-empty-requires : tie.Need-empty-requires
-empty-requires c κs = search needs
-
 returns : tie.Need-returns
 returns c =
     rw (c .empty .ensures)
     (opens-refused _ _ _ _ _ 1 (omega arith)
     (rw (sym (c .before .before .sizes-fit .ensures) ∙ not-true _ (c .before .if1 .taken))))
 
-empty-requires-2 : tie.Need-empty-requires-2
-empty-requires-2 c κs = search needs
-
 returns-2 : tie.Need-returns-2
 returns-2 c =
     rw (c .empty2 .ensures)
     (opens-refused _ _ _ _ _ 3 (omega arith)
     (rw (fit-at (c .before .before), ne-eqb _ _ (c .before .if2 .taken))))
-
-empty-requires-3 : tie.Need-empty-requires-3
-empty-requires-3 c κs = search needs
 
 returns-3 : tie.Need-returns-3
 returns-3 c =
@@ -48,11 +36,4 @@ returns-3 c =
 pub open-spec : {M : Type 1} → statement M
 open-spec =
     tie.close
-    (tie.spec
-    sizes-fit-requires
-    empty-requires
-    returns
-    empty-requires-2
-    returns-2
-    empty-requires-3
-    returns-3)
+    (tie.spec (search needs) (search needs) returns (search needs) returns-2 (search needs) returns-3)

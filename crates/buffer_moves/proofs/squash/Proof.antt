@@ -4,32 +4,22 @@
 use mathlib.Core.Path.{_≡_, sym, _∙_}
 use mathlib.Core.Bool.{true}
 use Prim.Native.Nat.{_≤_, _<_}
-use native.Mathlib.Nat.{le-trans, le-of-lt}
+use native.Mathlib.Nat.{le-of-lt}
 use native.Mathlib.Omega.{arith}
 use borrow.Author.Needs.{needs}
 use borrow.Author.Tests.{not-true, not-false}
 use Rattle.marks.specs.Circle.{position}
-use Rattle.table.specs.Limits.{banksMost}
 use Rattle.table.specs.Rules.{Rules}
-use Rattle.table.proofs.Lawful.{lawful-rules}
-use Rattle.table.proofs.Sizes.{sizes}
-use Rattle.engine.proofs.Lengths.{Lengths}
+use Rattle.engine.proofs.Lengths.{Lengths, lengths-of, fits, circle-asks}
 use Rattle.buffer_model.specs.Calls.{squash}
 use Rattle.buffer_model.specs.computed.Parts.{namedBy}
-use Rattle.buffer_model.proofs.MeetingContract.{broken-meets}
+use Rattle.buffer_model.proofs.MeetingContract.{checked-rules, broken-meets}
 use Rattle.buffer_model.proofs.Moving.{named-live, squash-unnamed, squash-meets}
 use Rattle.buffer_moves.proofs.squash.Statement.{statement}
 use Rattle.buffer_moves.proofs.squash.Tie as tie
 
 lengths : (c : tie.Start) → Lengths (c .args .t1)
-lengths c =
-    record {
-      numbers = search needs;
-      addresses = search needs;
-      loads = search needs;
-      stores = search needs;
-      values = search needs;
-    }
+lengths c = lengths-of (c .args .t1) (c .good .0)
 
 -- the entry, seen from past the check of the rules
 abbrev entry : tie.Else1 → tie.Start
@@ -41,13 +31,7 @@ checked c = c .before .before .before .before
 
 -- past the check the table keeps its rules
 rules-at : (c : tie.Else1) → Rules (entry c .args .t1)
-rules-at c = lawful-rules _ (sym (c .before .keeps-rules .ensures) ∙ not-false _ (c .if1 .left))
-
-most-banks : (c : tie.Else1) → entry c .args .t1 .banks ≤ banksMost
-most-banks c = sizes _ _ _ _ (rules-at c .sizes) .banks
-
-most-at : (c : tie.Else1) → entry c .args .t1 .stages ≤ 16
-most-at c = sizes _ _ _ _ (rules-at c .sizes) .stages
+rules-at c = checked-rules _ (c .before .keeps-rules .ensures) (c .if1 .left)
 
 -- past the second test the ticket names a live reference
 named-at : (c : tie.Else2) → let args = entry (checked c) .args in
@@ -60,21 +44,20 @@ live-at : (c : tie.Else2) → let args = entry (checked c) .args in
     (args .ticket .stage < t .stages) × (position (t .oldest) (t .stages) (args .ticket .stage) < t .live)
 live-at c = let args = entry (checked c) .args in named-live (args .t1) (args .ticket) (named-at c)
 
--- the position at which the table is cut
-place-at : (c : tie.After-position-of) → c .position-of .result ≤ entry (checked (c .before)) .args .t1 .stages
-place-at c =
-    rw (c .position-of .ensures)
-    (le-trans (le-of-lt (live-at (c .before) .1)) (rules-at (checked (c .before)) .live-bounded))
-
-keeps-rules-requires : tie.Need-keeps-rules-requires
-keeps-rules-requires c κs = search needs
+-- what the cut of mark words at the ticket's position asks
+cut-at : (c : tie.After-position-of)
+    → let t = entry (checked (c .before)) .args .t1 in
+    (t .oldest < t .stages) × (c .position-of .result ≤ t .stages) × (t .stages ≤ 32)
+cut-at c =
+    circle-asks _ (rules-at (checked (c .before))) _ (rw (c .position-of .ensures) (le-of-lt (live-at (c .before) .1)))
 
 returns : tie.Need-returns
-returns c m = broken-meets _ (squash _) m (sym (c .before .keeps-rules .ensures) ∙ not-true _ (c .if1 .taken))
+returns c m = broken-meets _ (squash _) m (c .before .keeps-rules .ensures) (c .if1 .taken)
 
 named-requires : tie.Need-named-requires
 named-requires c κs =
-    let past = c .before .before in (rules-at past .start, most-at past, lengths (entry past) .numbers)
+    let rules = rules-at (c .before .before) in
+    (rules .start, fits _ rules .stages, lengths (entry (c .before .before)) .numbers)
 
 returns-2 : tie.Need-returns-2
 returns-2 c =
@@ -82,18 +65,19 @@ returns-2 c =
     (sym (c .before .named .ensures) ∙ not-true _ (c .if2 .taken))
 
 position-of-requires : tie.Need-position-of-requires
-position-of-requires c κs = (rules-at (checked c) .start, live-at c .0, omega (arith, most-at (checked c)))
+position-of-requires c κs =
+    let rules = rules-at (checked c) in (rules .start, live-at c .0, omega (arith, fits _ rules .stages))
 
 cut-requires : tie.Need-cut-requires
 cut-requires c κs =
     let past = checked (c .before .before) in
-    ((most-banks past, lengths (entry past) .loads), (rules-at past .start, place-at (c .before), omega (arith, most-at past)))
+    ((fits _ (rules-at past) .banks, lengths (entry past) .loads), cut-at (c .before))
 
 cut-requires-2 : tie.Need-cut-requires-2
 cut-requires-2 c κs =
     let placed = c .before .before .before in
     let past = checked (placed .before) in
-    ((most-banks past, lengths (entry past) .stores), (rules-at past .start, place-at placed, omega (arith, most-at past)))
+    ((fits _ (rules-at past) .banks, lengths (entry past) .stores), cut-at placed)
 
 returns-3 : tie.Need-returns-3
 returns-3 c m =
@@ -104,12 +88,5 @@ returns-3 c m =
 pub squash-spec : {M : Type 1} → statement M
 squash-spec =
     tie.close
-    (tie.spec
-    keeps-rules-requires
-    returns
-    named-requires
-    returns-2
-    position-of-requires
-    cut-requires
-    cut-requires-2
+    (tie.spec (λ c κs. search needs) returns named-requires returns-2 position-of-requires cut-requires cut-requires-2
     returns-3)

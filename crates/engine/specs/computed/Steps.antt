@@ -11,9 +11,9 @@ use Rattle.table.specs.declared.Table.{Table}
 use Rattle.table.specs.Limits.{rowsIn}
 use Rattle.table.specs.View.{stageOf}
 
--- t with another window, other executed stages and other arrays, under its sizes and issue numbers
-abbrev pub remade : Table → ℕ → ℕ → ℕ → List ℕ → List ℕ → List ℕ → List ℕ → Table
-remade t oldest live executed addresses loads stores values =
+-- t with another window, other issue numbers, other executed stages and other arrays, under its sizes
+abbrev pub rebuilt : Table → ℕ → ℕ → ℕ → ℕ → List ℕ → List ℕ → List ℕ → List ℕ → List ℕ → Table
+rebuilt t oldest live next executed numbers addresses loads stores values =
     record {
       banks = t .banks;
       rows = t .rows;
@@ -21,14 +21,19 @@ remade t oldest live executed addresses loads stores values =
       words = t .words;
       oldest = oldest;
       live = live;
-      next = t .next;
+      next = next;
       executed = executed;
-      numbers = t .numbers;
+      numbers = numbers;
       addresses = addresses;
       loads = loads;
       stores = stores;
       values = values;
     }
+
+-- the same under its issue numbers
+abbrev pub remade : Table → ℕ → ℕ → ℕ → List ℕ → List ℕ → List ℕ → List ℕ → Table
+remade t oldest live executed addresses loads stores values =
+    rebuilt t oldest live (t .next) executed (t .numbers) addresses loads stores values
 
 -- the mark words, the first n of them with nothing outside the set m
 abbrev pub within : ℕ → List ℕ → ℕ → List ℕ
@@ -57,21 +62,10 @@ cut t left =
 -- a new youngest reference in the next stage, not executed
 abbrev pub grown : Table → Table
 grown t =
-    record {
-      banks = t .banks;
-      rows = t .rows;
-      stages = t .stages;
-      words = t .words;
-      oldest = t .oldest;
-      live = t .live + 1;
-      next = (t .next + 1) % 2 ^ 32;
-      executed = bitAnd (t .executed) (firsts (t .oldest) (t .stages) (t .live));
-      numbers = set (t .numbers) (stageOf t (t .live)) (t .next);
-      addresses = t .addresses;
-      loads = t .loads;
-      stores = t .stores;
-      values = t .values;
-    }
+    rebuilt t (t .oldest) (t .live + 1) ((t .next + 1) % 2 ^ 32)
+    (bitAnd (t .executed) (firsts (t .oldest) (t .stages) (t .live)))
+    (set (t .numbers) (stageOf t (t .live)) (t .next))
+    (t .addresses) (t .loads) (t .stores) (t .values)
 
 -- t with stage s executed, and with these arrays
 abbrev pub executing : Table → ℕ → List ℕ → List ℕ → List ℕ → List ℕ → Table

@@ -4,30 +4,6 @@ use borrow.Author.Needs.{needs}
 use Rattle.engine_steps.proofs.effect_of.Statement.{statement}
 use Rattle.engine_steps.proofs.effect_of.Tie as tie
 
-enum-known-action : tie.Need-enum-known-action
-enum-known-action c = search needs
-
-enum-known-action-2 : tie.Need-enum-known-action-2
-enum-known-action-2 c = search needs
-
-place-of-requires : tie.Need-place-of-requires
-place-of-requires c κs = search needs
-
-word-requires : tie.Need-word-requires
-word-requires c κs = search needs
-
-forwarded-requires : tie.Need-forwarded-requires
-forwarded-requires c κs = search needs
-
-enum-known-action-3 : tie.Need-enum-known-action-3
-enum-known-action-3 c = search needs
-
-place-of-requires-2 : tie.Need-place-of-requires-2
-place-of-requires-2 c κs = search needs
-
-left-after-requires : tie.Need-left-after-requires
-left-after-requires c κs = search needs
-
 returns : tie.Need-returns
 returns c = rw (c .before .action .given .1)
 
@@ -51,15 +27,5 @@ returns-3 c =
 pub effect-of-spec : {M : Type 1} → statement M
 effect-of-spec =
     tie.close
-    (tie.spec
-    enum-known-action
-    enum-known-action-2
-    place-of-requires
-    word-requires
-    forwarded-requires
-    enum-known-action-3
-    place-of-requires-2
-    left-after-requires
-    returns
-    returns-2
-    returns-3)
+    (tie.spec (search needs) (search needs) (search needs) (search needs) (search needs) (search needs) (search needs)
+    (search needs) returns returns-2 returns-3)

@@ -32,15 +32,6 @@ below c =
     let mark : marked (args .oldest) (args .stages) (args .load) q ≡ c .contains .result = cc in
     rw (← met found, lt-ltb q (args .live) (c .before .before .if1 .taken), mark)
 
-add-next-mark : tie.Need-add-next-mark
-add-next-mark c = search needs
-
-next-mark-requires : tie.Need-next-mark-requires
-next-mark-requires c κs = search needs
-
-stage-at-requires : tie.Need-stage-at-requires
-stage-at-requires c κs = search needs
-
 contains-requires : tie.Need-contains-requires
 contains-requires c κs =
     let start = c .before .before .before .pre .0 in
@@ -60,11 +51,4 @@ returns-3 c =
 pub first-met-spec : {M : Type 1} → statement M
 first-met-spec =
     tie.close
-    (tie.spec
-    add-next-mark
-    next-mark-requires
-    stage-at-requires
-    contains-requires
-    returns
-    returns-2
-    returns-3)
+    (tie.spec (search needs) (search needs) (search needs) contains-requires returns returns-2 returns-3)

@@ -29,20 +29,8 @@ stage-below c =
     let l = older (c .before .before) in
     omega (arith, stage-lt _ _ start (c .before .before .nearest-store .result - 1) (omega arith))
 
-mul-nearest-store : tie.Need-mul-nearest-store
-mul-nearest-store c = search needs
-
-element-copy-out-nearest-store : tie.Need-element-copy-out-nearest-store
-element-copy-out-nearest-store c = search needs
-
-nearest-store-requires : tie.Need-nearest-store-requires
-nearest-store-requires c κs = search needs
-
 returns : tie.Need-returns
 returns c = rw (← c .before .nearest-store .ensures, c .if1 .taken)
-
-sub-stage-at : tie.Need-sub-stage-at
-sub-stage-at c = search needs
 
 stage-at-requires : tie.Need-stage-at-requires
 stage-at-requires c κs = omega (arith, older (c .before))
@@ -61,13 +49,5 @@ returns-2 c =
 pub forwarded-spec : {M : Type 1} → statement M
 forwarded-spec =
     tie.close
-    (tie.spec
-    mul-nearest-store
-    element-copy-out-nearest-store
-    nearest-store-requires
-    returns
-    sub-stage-at
-    stage-at-requires
-    mul-result
-    element-copy-out-result
-    returns-2)
+    (tie.spec (search needs) (search needs) (search needs) returns (search needs) stage-at-requires mul-result
+    element-copy-out-result returns-2)

@@ -1,8 +1,6 @@
 -- `lookup_marks::nearest_store` meets its contract. The loop's invariant: the search below `p` finds what the search below
 -- `q` finds. A turn looks at position q - 1, whose stage is a bit of the word.
 -- Assumes nothing.
-use mathlib.Core.Bool.{true, false}
-use mathlib.Core.Path.{_≡_}
 use Prim.Native.Nat.{_-_}
 use native.Mathlib.Omega.{arith}
 use Rattle.marks.proofs.Turns.{stage-lt}
@@ -20,38 +18,16 @@ abbrev μ-loop : tie.MeasureT-loop
 loop-holds : tie.Need-loop-holds Inv-loop μ-loop
 loop-holds c = finding-all
 
-sub-stage-at : tie.Need-sub-stage-at Inv-loop μ-loop
-sub-stage-at c = omega arith
-
-stage-at-requires : tie.Need-stage-at-requires Inv-loop μ-loop
-stage-at-requires c κs = omega arith
-
 contains-requires : tie.Need-contains-requires Inv-loop μ-loop
 contains-requires c κs =
     let start = c .before .before .before .pre .0 in
     omega (arith, stage-lt _ _ start (c .before .before .loop .q - 1) (omega arith))
 
 returns : tie.Need-returns Inv-loop μ-loop
-returns c =
-    let at = c .before .before .before .before .loop in
-    let args = c .before .before .before .before .before .args in
-    let f = marked (args .oldest) (args .stages) (args .stores) in
-    let e : f (at .q - 1) ≡ true = cc in
-    finding-hit (at .inv) (omega arith) e .1
-
-sub-q : tie.Need-sub-q Inv-loop μ-loop
-sub-q c = omega arith
-
-loop-less : tie.Need-loop-less Inv-loop μ-loop
-loop-less c = omega arith
+returns c = finding-hit (c .before .before .before .before .loop .inv) (omega arith) (cc) .1
 
 loop-again : tie.Need-loop-again Inv-loop μ-loop
-loop-again c =
-    let at = c .before .before .before .before .loop in
-    let args = c .before .before .before .before .before .args in
-    let f = marked (args .oldest) (args .stages) (args .stores) in
-    let e : f (at .q - 1) ≡ false = cc in
-    finding-miss (at .inv) (omega arith) e
+loop-again c = finding-miss (c .before .before .before .before .loop .inv) (omega arith) (cc)
 
 returns-2 : tie.Need-returns-2 Inv-loop μ-loop
 returns-2 c = finding-none (c .before .loop .inv) (omega arith) .1
@@ -59,15 +35,5 @@ returns-2 c = finding-none (c .before .loop .inv) (omega arith) .1
 pub nearest-store-spec : {M : Type 1} → statement M
 nearest-store-spec =
     tie.close
-    (tie.spec
-    Inv-loop
-    μ-loop
-    loop-holds
-    sub-stage-at
-    stage-at-requires
-    contains-requires
-    returns
-    sub-q
-    loop-less
-    loop-again
-    returns-2)
+    (tie.spec Inv-loop μ-loop loop-holds (λ c. omega arith) (λ c κs. omega arith) contains-requires returns
+    (λ c. omega arith) (λ c. omega arith) loop-again returns-2)

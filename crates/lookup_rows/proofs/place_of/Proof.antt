@@ -26,11 +26,8 @@ placed : (c : tie.After-bank-of) (q : Place)
 placed c q e =
     let x = c .before .args in
     let small = place-row (x .oldest) (x .stages) (x .live) (x .rows) (x .addresses .now) (x .loads .now) (x .stores .now)
-        (c .bank-of .result) (x .a) (x .p) (bank-at c) (c .before .pre .0 .2) (c .before .pre .0 .3) in
+    (c .bank-of .result) (x .a) (x .p) (bank-at c) (c .before .pre .0 .2) (c .before .pre .0 .3) in
     (rw e small, rw (← c .bank-of .ensures) e)
-
-bank-of-requires : tie.Need-bank-of-requires
-bank-of-requires c κs = search needs
 
 row-of-requires : tie.Need-row-of-requires
 row-of-requires c κs = let b = bank-at c in search needs
@@ -46,9 +43,6 @@ returns c =
 mul-t14 : tie.Need-mul-t14
 mul-t14 c = let b = bank-at (c .before .before) in search needs
 
-sub-t15 : tie.Need-sub-t15
-sub-t15 c = search needs
-
 add-t16 : tie.Need-add-t16
 add-t16 c = let b = bank-at (c .before .before) in search needs
 
@@ -60,12 +54,4 @@ returns-2 c =
 pub place-of-spec : {M : Type 1} → statement M
 place-of-spec =
     tie.close
-    (tie.spec
-    bank-of-requires
-    row-of-requires
-    take-row-requires
-    returns
-    mul-t14
-    sub-t15
-    add-t16
-    returns-2)
+    (tie.spec (search needs) row-of-requires take-row-requires returns mul-t14 (search needs) add-t16 returns-2)

@@ -24,9 +24,6 @@ abbrev μ-loop : tie.MeasureT-loop
 follows : (f : ℕ → ℕ) {mark m k n : ℕ} → n ≡ k → mark ≡ m → m ≡ f k → mark ≡ f n
 follows f e l r = l ∙ r ∙ ap f (sym e)
 
-mul-row-mark : tie.Need-mul-row-mark Inv-loop μ-loop
-mul-row-mark c = omega arith
-
 row-mark-requires : tie.Need-row-mark-requires Inv-loop μ-loop
 row-mark-requires c κs = (omega arith, c .pre .1)
 
@@ -38,20 +35,8 @@ loop-holds c =
     let first : c .row-mark .result ≡ f 0 = rw (add-zero (args .b * rowsMost)) (c .row-mark .ensures) in
     (omega arith, sym z, first ∙ ap f (sym z))
 
-mul-row-mark-2 : tie.Need-mul-row-mark-2 Inv-loop μ-loop
-mul-row-mark-2 c = omega arith
-
-add-row-mark : tie.Need-add-row-mark Inv-loop μ-loop
-add-row-mark c = omega arith
-
 row-mark-requires-2 : tie.Need-row-mark-requires-2 Inv-loop μ-loop
 row-mark-requires-2 c κs = (omega arith, c .before .before .before .pre .1)
-
-add-i : tie.Need-add-i Inv-loop μ-loop
-add-i c = omega arith
-
-loop-less : tie.Need-loop-less Inv-loop μ-loop
-loop-less c = omega arith
 
 loop-again : tie.Need-loop-again Inv-loop μ-loop
 loop-again c =
@@ -79,16 +64,5 @@ returns c =
 pub youngest-row-spec : {M : Type 1} → statement M
 youngest-row-spec =
     tie.close
-    (tie.spec
-    Inv-loop
-    μ-loop
-    mul-row-mark
-    row-mark-requires
-    loop-holds
-    mul-row-mark-2
-    add-row-mark
-    row-mark-requires-2
-    add-i
-    loop-less
-    loop-again
-    returns)
+    (tie.spec Inv-loop μ-loop (λ c. omega arith) row-mark-requires loop-holds (λ c. omega arith) (λ c. omega arith)
+    row-mark-requires-2 (λ c. omega arith) (λ c. omega arith) loop-again returns)

@@ -2,28 +2,23 @@
 -- it each return is a law of machine_model/proofs/Committed.antt, given what the tests before it said: an entry is live, the
 -- oldest does not wait, and its mark, which its entry and the table's word tell (mark-at), does not fault. Assumes nothing.
 use mathlib.Core.Bool.{false}
-use mathlib.Core.Path.{_≡_, refl, sym, ap, _∙_}
+use mathlib.Core.Path.{_≡_, sym, ap, _∙_}
 use Prim.Native.Nat.{ℕ, _<_}
 use native.Mathlib.Omega.{arith}
 use lib.ListN.{length, getD}
-use borrow.Author.Tests.{not-true, not-false}
-use Rattle.marks.proofs.Turns.{stage-lt}
 use Rattle.table.specs.declared.Table.{Table}
-use Rattle.table.specs.Limits.{stagesMost}
 use Rattle.table.specs.Rules.{Rules}
 use Rattle.table.specs.View.{value}
-use Rattle.table.proofs.Sizes.{Sizes, sizes}
 use Rattle.lookup.specs.computed.Search.{markedFate}
 use Rattle.engine.specs.Conditions.{faults}
-use Rattle.engine.proofs.Lengths.{Lengths}
+use Rattle.engine.proofs.Lengths.{fits, circle-asks, oldest-small, next-asks}
 use Rattle.machine_model.specs.declared.Entry.{Entry}
 use Rattle.machine_model.specs.declared.Machine.{Machine}
 use Rattle.machine_model.specs.Window.{blankEntry, reference}
 use Rattle.machine_model.specs.Calls.{commit, waits}
 use Rattle.machine_model.specs.computed.Parts.{markWith}
-use Rattle.machine_model.proofs.Sounding.{validateOf}
-use Rattle.machine_model.proofs.Agreeing.{validate-law}
-use Rattle.machine_model.proofs.Answering.{Passed, validate-passes, validate-turns}
+use Rattle.machine_model.proofs.Sized.{Sized, sized-of}
+use Rattle.machine_model.proofs.Answering.{Passed, check-passes, check-turns}
 use Rattle.machine_model.proofs.Committed.{empty-refused, waiting-refused, fault-refused, commit-meets}
 use borrow.Author.Needs.{needs}
 use Rattle.machine_commit.proofs.commit.Statement.{statement}
@@ -60,38 +55,15 @@ abbrev last : tie.After-target-of → tie.Else4
 last c = c .before .before .before .before .before .before .before .before .before .before .before .before .before .before
     .before .before .before
 
-validate-at : (c : tie.After-validate)
-    → let args = begun c .args in
-    validateOf (args .t1) (args .program .now) (length (args .memory .now)) ≡ c .validate .result
-validate-at c =
-    let args = begun c .args in
-    sym (validate-law (args .t1) (args .program .now) (length (args .memory .now))) ∙ sym (c .validate .ensures)
-
 passed-at : (c : tie.Else1)
     → let args = entry c .args in Passed (args .t1) (args .program .now) (length (args .memory .now))
-passed-at c = validate-passes _ _ _ (validate-at (c .before) ∙ c .if1 .left)
+passed-at c = check-passes _ _ _ (c .before .validate .ensures) (c .if1 .left)
 
 rules-at : (c : tie.Else1) → Rules (table (entry c))
 rules-at c = passed-at c .sound .rules
 
-lengths : (c : tie.Start) → Lengths (table c)
-lengths c =
-    record {
-      numbers = search needs;
-      addresses = search needs;
-      loads = search needs;
-      stores = search needs;
-      values = search needs;
-    }
-
-eight-at : (c : tie.Start) → length (machine c .registers) ≡ 8
-eight-at c = search needs
-
-sizes-at : (c : tie.Else1) → let t = table (entry c) in Sizes (t .banks) (t .rows) (t .stages) (t .words)
-sizes-at c = sizes _ _ _ _ (rules-at c .sizes)
-
-oldest-below : (c : tie.Else1) → table (entry c) .oldest < stagesMost
-oldest-below c = omega (arith, sizes-at c .stages, rules-at c .start)
+sized-at : (c : tie.Start) → Sized (machine c)
+sized-at c = sized-of (machine c) (c .good .0)
 
 live-at : (c : tie.Else2) → 0 < table (some c) .live
 live-at c = search needs
@@ -105,23 +77,17 @@ mark-at : (c : tie.After-oldest-mark)
     c .oldest-mark .result ≡ markWith (reference (oldest start)) (value (table start) (table start .oldest))
 mark-at c = rw (c .before .at-stage .ensures) at (c .oldest-mark .ensures)
 
-validate-requires : tie.Need-validate-requires
-validate-requires c κs = search needs
-
 returns : tie.Need-returns
-returns c = validate-turns _ _ commit _ _ (validate-at (c .before)) (c .if1 .taken)
+returns c = check-turns _ _ commit _ (c .before .validate .ensures) (c .if1 .taken)
 
 returns-2 : tie.Need-returns-2
 returns-2 c = empty-refused _ _ _ (passed-at (c .before)) (c .if2 .taken)
 
 mul-e : tie.Need-mul-e
-mul-e c = omega (arith, oldest-below (c .before))
+mul-e c = omega (arith, oldest-small _ (rules-at (c .before)))
 
 array-copy-out-e : tie.Need-array-copy-out-e
-array-copy-out-e c = oldest-below (c .before)
-
-is-waiting-requires : tie.Need-is-waiting-requires
-is-waiting-requires c κs = search needs
+array-copy-out-e c = oldest-small _ (rules-at (c .before))
 
 returns-3 : tie.Need-returns-3
 returns-3 c =
@@ -129,13 +95,8 @@ returns-3 c =
     waiting-refused _ _ _ (passed-at (l .before)) (live-at l) (sym (c .before .is-waiting .ensures) ∙ c .if3 .taken)
 
 at-stage-requires : tie.Need-at-stage-requires
-at-stage-requires c κs = let l = executed (c .before .before) .before in (oldest-below l, lengths (entry l) .values)
-
-oldest-mark-requires : tie.Need-oldest-mark-requires
-oldest-mark-requires c κs = search needs
-
-mark-faults-requires : tie.Need-mark-faults-requires
-mark-faults-requires c κs = search needs
+at-stage-requires c κs =
+    let l = executed (c .before .before) .before in (oldest-small _ (rules-at l), sized-at (entry l) .lengths .values)
 
 returns-4 : tie.Need-returns-4
 returns-4 c =
@@ -151,48 +112,29 @@ write-back-requires c κs =
     .words)
     ∙ sym (f .before .mark-faults .ensures) ∙ f .if4 .left
 
-value-of-requires : tie.Need-value-of-requires
-value-of-requires c κs = search needs
-
 stage-at-requires : tie.Need-stage-at-requires
 stage-at-requires c κs =
-    let l = executed (faultless (c .before .before .before .before .before)) .before in
-    let rules = rules-at l in
-    (rules .start, omega (arith, rules .start), omega (arith, sizes-at l .stages))
-
-sub-first-stages : tie.Need-sub-first-stages
-sub-first-stages c = search needs
+    let l = executed (faultless (c .before .before .before .before .before)) in
+    circle-asks _ (rules-at (l .before)) 1 (live-at l)
 
 first-stages-requires : tie.Need-first-stages-requires
 first-stages-requires c κs =
-    let l = executed (faultless (c .before .before .before .before .before .before)) .before in
-    let rules = rules-at l in
-    let next = stage-lt _ _ (rules .start) 1 (omega (arith, rules .start)) in
-    (rw (c .stage-at .ensures) next, omega (arith, rules .live-bounded), omega (arith, sizes-at l .stages))
-
-sub-m : tie.Need-sub-m
-sub-m c = search needs
+    let l = executed (faultless (c .before .before .before .before .before .before)) in
+    next-asks _ (rules-at (l .before)) (c .stage-at .ensures)
 
 keep-requires : tie.Need-keep-requires
 keep-requires c κs = let l = executed (faultless (c .before .before .before .before .before .before .before .before .before
-    .before)) .before in (sizes-at l .banks, lengths (entry l) .loads)
+    .before)) .before in (fits _ (rules-at l) .banks, sized-at (entry l) .lengths .loads)
 
 keep-requires-2 : tie.Need-keep-requires-2
 keep-requires-2 c κs = let l = executed (faultless (c .before .before .before .before .before .before .before .before .before
-    .before .before .before)) .before in (sizes-at l .banks, lengths (entry l) .stores)
+    .before .before .before)) .before in (fits _ (rules-at l) .banks, sized-at (entry l) .lengths .stores)
 
 write-register-requires : tie.Need-write-register-requires
-write-register-requires c κs = eight-at (entry (executed (faultless (c .before .before .before .before .before .before .before
-    .before .before .before .before .before .before .before)) .before))
-
-code-of-requires : tie.Need-code-of-requires
-code-of-requires c κs = search needs
-
-target-of-requires : tie.Need-target-of-requires
-target-of-requires c κs = search needs
-
-same-length : tie.Need-same-length
-same-length c = search needs
+write-register-requires c κs =
+    let f = faultless (c .before .before .before .before .before .before .before .before .before .before .before .before
+    .before .before) in
+    sized-at (entry (executed f .before)) .registers
 
 returns-5 : tie.Need-returns-5
 returns-5 c =
@@ -215,28 +157,7 @@ returns-5 c =
 pub commit-spec : {M : Type 1} → statement M
 commit-spec =
     tie.close
-    (tie.spec
-    validate-requires
-    returns
-    returns-2
-    mul-e
-    array-copy-out-e
-    is-waiting-requires
-    returns-3
-    at-stage-requires
-    oldest-mark-requires
-    mark-faults-requires
-    returns-4
-    write-back-requires
-    value-of-requires
-    stage-at-requires
-    sub-first-stages
-    first-stages-requires
-    sub-m
-    keep-requires
-    keep-requires-2
-    write-register-requires
-    code-of-requires
-    target-of-requires
-    same-length
-    returns-5)
+    (tie.spec (λ c κs. search needs) returns returns-2 mul-e array-copy-out-e (search needs) returns-3 at-stage-requires
+    (search needs) (search needs) returns-4 write-back-requires (search needs) stage-at-requires (search needs)
+    first-stages-requires (search needs) keep-requires keep-requires-2 write-register-requires (search needs)
+    (search needs) (search needs) returns-5)

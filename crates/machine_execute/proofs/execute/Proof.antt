@@ -1,49 +1,37 @@
--- `machine_execute::execute` meets its contract: the validation over the machine's parts is the contract's (validate-law), so its
--- refusals are those of machine_model/proofs/Answering.antt, and past it each return is a law of
--- machine_model/proofs/Executions.antt, once the code's stage is the position's. An effect that leaves something has its
--- row and what is left in their bounds (bounds-at), and the fields changed in place make its table (effect-made). Assumes
--- nothing.
-use mathlib.Core.Path.{_≡_, sym, ap, subst, _∙_}
-use mathlib.Core.Bool.{true, cond, not}
+-- `machine_execute::execute` meets its contract: the validation's refusals are those of machine_model/proofs/Answering.antt, and
+-- past it each return is a law of machine_model/proofs/Executions.antt, once the code's stage is the position's. An effect that
+-- leaves something has its row and what is left in their bounds (bounds-at), and the fields changed in place make its table
+-- (effect-made). Assumes nothing.
+use mathlib.Core.Path.{_≡_, sym, ap, _∙_}
+use mathlib.Core.Bool.{true, cond}
 use mathlib.Core.Option.{some}
-use Prim.Native.Nat.{ℕ, _+_, _*_, _^_, _≤_, _<_}
+use Prim.Native.Nat.{ℕ, _≤_, _<_}
+use native.Mathlib.Nat.{le-of-lt}
 use native.Mathlib.Omega.{arith}
 use lib.Dec.{ltb}
-use lib.ListN.{length, getD, length-map}
+use lib.ListN.{length, getD}
 use borrow.Author.Needs.{needs}
 use borrow.Author.Tests.{not-true, not-false}
 use Rattle.table.specs.Limits.{stagesMost, slots}
-use Rattle.table.proofs.Sizes.{Sizes, sizes}
-use Rattle.engine.proofs.Lengths.{Lengths, stage-small}
+use Rattle.table.specs.Rules.{Rules}
+use Rattle.engine.proofs.Lengths.{fits, circle-asks, effect-asks, stage-small}
 use Rattle.machine_model.specs.Program.{sOf}
 use Rattle.engine.specs.declared.Action.{Action}
-use Rattle.engine.specs.declared.Effect.{Effect}
-use Rattle.engine.proofs.Executed.{effect-bounds, effect-made}
+use Rattle.engine.proofs.Executed.{found-bounds, effect-made}
 use Rattle.machine_model.specs.Window.{blankEntry}
 use Rattle.machine_model.specs.Calls.{execute, waits}
 use Rattle.machine_model.specs.Contract.{entryOf}
 use Rattle.machine_model.specs.computed.Parts.{second, wantedBy}
-use Rattle.machine_model.proofs.Agreeing.{validate-law}
-use Rattle.machine_model.proofs.Answering.{Passed, validate-passes, validate-turns}
+use Rattle.machine_model.proofs.Sized.{Sized, sized-of}
+use Rattle.machine_model.proofs.Answering.{Passed, check-passes, check-turns}
 use Rattle.machine_model.proofs.Formed.{like-small}
 use Rattle.machine_model.proofs.Executions.{asked, none-refused, executed-refused, unready-refused, stall-refused}
 use Rattle.machine_model.proofs.Executions.{execute-meets}
 use Rattle.machine_execute.proofs.execute.Statement.{statement}
 use Rattle.machine_execute.proofs.execute.Tie as tie
 
--- the window has sixteen entries
-full-at : (c : tie.Start) → length (c .args .t1 .window) ≡ stagesMost
-full-at c = simp length-map at (c .good .0 .1 .1 .1 .0 .1 .0 .1)
-
-lengths-at : (c : tie.Start) → Lengths (c .args .t1 .table)
-lengths-at c =
-    record {
-      numbers = search needs;
-      addresses = search needs;
-      loads = search needs;
-      stores = search needs;
-      values = search needs;
-    }
+sized-at : (c : tie.Start) → Sized (c .args .t1)
+sized-at c = sized-of (c .args .t1) (c .good .0)
 
 -- from a place back: past the validation, to the entry, to the stage, to where the action is known, to where something is
 -- left, and from the marks to there
@@ -80,31 +68,17 @@ marked c = c .before .before .before .before
 abbrev row : tie.After-add-mark2 → tie.Else4
 row c = shortened (addressed (marked c))
 
--- the code's validation is the contract's, and past it none of the conditions 2, 3 and 4 holds
+-- past the validation none of the conditions 2, 3 and 4 holds
 passed-at : (c : tie.Else1)
     → let args = entered c .args in Passed (args .t1) (args .program .now) (length (args .memory .now))
-passed-at c =
-    let args = entered c .args in
-    let lent = length (args .memory .now) in
-    validate-passes (args .t1) (args .program .now) lent
-    (sym (validate-law (args .t1) (args .program .now) lent) ∙ sym (c .before .validate .ensures) ∙ c .if1 .left)
+passed-at c = check-passes _ _ _ (c .before .validate .ensures) (c .if1 .left)
 
-fits-at : (c : tie.Else1)
-    → let t = entered c .args .t1 .table in Sizes (t .banks) (t .rows) (t .stages) (t .words)
-fits-at c = sizes _ _ _ _ (passed-at c .sound .rules .sizes)
-
--- the sizes that the code relies on
-sizes-at : (c : tie.Else1)
-    → let t = entered c .args .t1 .table in (t .oldest < t .stages) × (t .live ≤ t .stages) × (t .stages ≤ stagesMost)
-sizes-at c = let rules = passed-at c .sound .rules in (rules .start, rules .live-bounded, fits-at c .stages)
+rules-at : (c : tie.After-stage-at) → Rules (begun c .args .t1 .table)
+rules-at c = passed-at (past c) .sound .rules
 
 -- the stage of the position
 small-at : (c : tie.After-stage-at) → c .stage-at .result < stagesMost
-small-at c =
-    let args = begun c .args in
-    let live = c .before .if2 .left in
-    rw (c .stage-at .ensures)
-    (stage-small (args .t1 .table) (passed-at (past c) .sound .rules) (args .p) (omega arith))
+small-at c = rw (c .stage-at .ensures) (stage-small _ (rules-at c) _ (le-of-lt (c .before .if2 .left)))
 
 -- the entry's registers
 registers-at : (c : tie.After-stage-at)
@@ -152,40 +126,24 @@ bounds-at : (c : tie.Else4)
     (q .left ≤ begun at .args .t1 .table .live) × (q .row < slots) × (at .stage-at .result < stagesMost)
 bounds-at c =
     let at = placed c in
-    let args = begun at .args in
-    let t = args .t1 .table in
-    let found = c .before .effect-of .ensures in
     let lies =
-    subst (λ (q : Effect). (args .p < q .left) × (q .left ≤ t .live) × (q .row < slots)) (sym found)
-    (effect-bounds t (passed-at (past at) .sound .rules) (args .p) (at .before .if2 .left) (args .memory .now)
-    (action (known (c .before)))
-    (λ z. c .if4 .left (ap (λ (k : Effect). k .left) found ∙ z))) in
+    found-bounds _ (rules-at at) _ (at .before .if2 .left) (begun at .args .memory .now) (action (known (c .before)))
+    (c .before .effect-of .ensures) (c .if4 .left) in
     (lies .1, lies .2, small-at at)
 
 -- the position of the first that does not stay, and its stage
 left-at : (c : tie.Else4)
     → let t = begun (placed c) .args .t1 .table in
     (t .oldest < t .stages) × (c .before .effect-of .result .left ≤ t .stages) × (t .stages ≤ 32)
-left-at c =
-    let size = sizes-at (past (placed c)) in
-    (size .0, omega (arith, bounds-at c .0, size .1), omega (arith, size .2))
+left-at c = circle-asks _ (rules-at (placed c)) _ (bounds-at c .0)
 
 left-small : (c : tie.After-stage-at2) → c .stage-at2 .result < stagesMost
 left-small c =
     let at = row (c .before .before .before) in
-    rw (c .stage-at2 .ensures)
-    (stage-small (begun (placed at) .args .t1 .table) (passed-at (past (placed at)) .sound .rules)
-    (at .before .effect-of .result .left) (bounds-at at .0))
-
-validate-requires : tie.Need-validate-requires
-validate-requires c κs = search needs
+    rw (c .stage-at2 .ensures) (stage-small _ (rules-at (placed at)) _ (bounds-at at .0))
 
 returns : tie.Need-returns
-returns c =
-    let args = c .before .before .before .before .before .before .before .before .before .args in
-    validate-turns (args .t1) (args .program .now) (execute (args .p)) (args .memory .now) (c .before .validate .result)
-    (sym (validate-law (args .t1) (args .program .now) (length (args .memory .now))) ∙ sym (c .before .validate .ensures))
-    (c .if1 .taken)
+returns c = check-turns _ _ (execute _) _ (c .before .validate .ensures) (c .if1 .taken)
 
 returns-2 : tie.Need-returns-2
 returns-2 c =
@@ -193,19 +151,13 @@ returns-2 c =
     none-refused (args .t1) (args .program .now) (args .memory .now) (args .p) (passed-at (c .before)) (c .if2 .taken)
 
 stage-at-requires : tie.Need-stage-at-requires
-stage-at-requires c κs =
-    let fit = sizes-at (c .before) in
-    let live = c .if2 .left in
-    (fit .0, omega arith, omega arith)
+stage-at-requires c κs = circle-asks _ (passed-at (c .before) .sound .rules) _ (le-of-lt (c .if2 .left))
 
 mul-e : tie.Need-mul-e
 mul-e c = let l = small-at c in omega arith
 
 array-copy-out-e : tie.Need-array-copy-out-e
 array-copy-out-e c = small-at c
-
-is-waiting-requires : tie.Need-is-waiting-requires
-is-waiting-requires c κs = search needs
 
 returns-3 : tie.Need-returns-3
 returns-3 c =
@@ -217,16 +169,14 @@ returns-3 c =
 wanted-at-requires : tie.Need-wanted-at-requires
 wanted-at-requires c κs =
     let at = c .before .before .before .before in
-    let fit = sizes-at (past at) in
-    let live = at .before .if2 .left in
-    let low = registers-at at in
-    (fit .0, fit .2, omega arith, rw (at .stage-at .ensures) (low .0), rw (at .stage-at .ensures) (low .1))
-
-enum-known-wanted : tie.Need-enum-known-wanted
-enum-known-wanted c = search needs
-
-enum-told : tie.Need-enum-told
-enum-told c = search needs
+    let rules = rules-at at in
+    let low = registers-at at in (
+      rules .start,
+      fits _ rules .stages,
+      omega (arith, at .before .if2 .left, rules .live-bounded),
+      rw (at .stage-at .ensures) (low .0),
+      rw (at .stage-at .ensures) (low .1),
+    )
 
 returns-4 : tie.Need-returns-4
 returns-4 c =
@@ -240,12 +190,7 @@ returns-4 c =
 effect-of-requires : tie.Need-effect-of-requires
 effect-of-requires c κs =
     let at = staged (c .before .before .before .before .before) in
-    let fit = fits-at (past at) in
-    let size = sizes-at (past at) in
-    let has = lengths-at (begun at) in (
-      (fit .some-bank, fit .banks, fit .some-row, fit .rows, size .0, size .1, size .2, at .before .if2 .left),
-      (has .addresses, has .loads, has .stores, has .values),
-    )
+    effect-asks _ (rules-at at) (sized-at (begun at) .lengths) _ (at .before .if2 .left)
 
 returns-5 : tie.Need-returns-5
 returns-5 c =
@@ -258,15 +203,13 @@ returns-5 c =
 
 cut-requires : tie.Need-cut-requires
 cut-requires c κs =
-    let at = c .before in
-    let fit = left-at at in
-    ((fits-at (past (placed at)) .banks, lengths-at (begun (placed at)) .loads), fit)
+    let at = placed (c .before) in
+    ((fits _ (rules-at at) .banks, sized-at (begun at) .lengths .loads), left-at (c .before))
 
 cut-requires-2 : tie.Need-cut-requires-2
 cut-requires-2 c κs =
-    let at = c .before .before .before in
-    let fit = left-at at in
-    ((fits-at (past (placed at)) .banks, lengths-at (begun (placed at)) .stores), fit)
+    let at = placed (c .before .before .before) in
+    ((fits _ (rules-at at) .banks, sized-at (begun at) .lengths .stores), left-at (c .before .before .before))
 
 including-requires : tie.Need-including-requires
 including-requires c κs = omega (arith, bounds-at (shortened (c .before)) .2)
@@ -300,15 +243,6 @@ mul-f-2 c = let l = left-small c in omega arith
 array-copy-out-f : tie.Need-array-copy-out-f
 array-copy-out-f c = left-small c
 
-next-after-requires : tie.Need-next-after-requires
-next-after-requires c κs = search needs
-
-answered-requires : tie.Need-answered-requires
-answered-requires c κs = search needs
-
-squashed-at-requires : tie.Need-squashed-at-requires
-squashed-at-requires c κs = search needs
-
 returns-6 : tie.Need-returns-6
 returns-6 c =
     let kept = c .before .before .before .before .before in
@@ -325,7 +259,8 @@ returns-6 c =
     let s = begin .stage-at in
     let q = at .before .effect-of .result in
     execute-meets (args .t1) (args .program .now) (args .memory .now) (args .p) (passed-at (past begin))
-    (begin .before .if2 .left) (idle-at (waiting k)) (full-at (begun begin)) (lengths-at (begun begin)) (action k)
+    (begin .before .if2 .left) (idle-at (waiting k)) (sized-at (begun begin) .window)
+    (sized-at (begun begin) .lengths) (action k)
     (asks-at k) (s .result) (s .ensures) q (at .before .effect-of .ensures) (at .if4 .left) _
     (effect-made t q (s .result) (ran .including .result) (words .set-word .last .0) (less .before .before .cut .last .0)
     (loads .add-mark .last .0) (less .cut2 .last .0) (stores .add-mark2 .last .0) (kept .set-value .last .0)
@@ -341,34 +276,8 @@ returns-6 c =
 pub execute-spec : {M : Type 1} → statement M
 execute-spec =
     tie.close
-    (tie.spec
-    validate-requires
-    returns
-    returns-2
-    stage-at-requires
-    mul-e
-    array-copy-out-e
-    is-waiting-requires
-    returns-3
-    wanted-at-requires
-    enum-known-wanted
-    enum-told
-    returns-4
-    effect-of-requires
-    returns-5
-    cut-requires
-    cut-requires-2
-    including-requires
-    set-word-requires
-    add-mark-requires
-    add-mark-requires-2
-    set-value-requires
-    mul-f
-    element-set-from-f
-    stage-at-requires-2
-    mul-f-2
-    array-copy-out-f
-    next-after-requires
-    answered-requires
-    squashed-at-requires
-    returns-6)
+    (tie.spec (λ c κs. search needs) returns returns-2 stage-at-requires mul-e array-copy-out-e (search needs) returns-3
+    wanted-at-requires (search needs) (search needs) returns-4 effect-of-requires returns-5 cut-requires
+    cut-requires-2 including-requires set-word-requires add-mark-requires add-mark-requires-2 set-value-requires
+    mul-f element-set-from-f stage-at-requires-2 mul-f-2 array-copy-out-f (search needs) (search needs)
+    (search needs) returns-6)

@@ -9,13 +9,14 @@ use mathlib.Core.Logic.{⊎-elim}
 use Prim.Native.Nat.{ℕ, _-_, _*_, _<_, _≤_}
 use native.Mathlib.Omega.{arith}
 use lib.Dec.{eqb, leb}
-use lib.ListN.{length, getD, length-map}
+use lib.ListN.{length, getD}
 use borrow.Author.Needs.{needs}
 use borrow.Author.Tests.{leb-false}
 use Rattle.marks.proofs.Turns.{stage-lt}
 use Rattle.table.specs.Limits.{stagesMost, slots}
 use Rattle.table.specs.View.{value}
-use Rattle.table.proofs.Sizes.{Sizes, sizes}
+use Rattle.engine.proofs.Lengths.{oldest-small}
+use Rattle.table.proofs.Sizes.{Sizes}
 use Rattle.lookup.specs.computed.Search.{markedFate}
 use Rattle.machine_model.specs.Program.{sOf}
 use Rattle.engine.specs.Conditions.{faults}
@@ -25,8 +26,8 @@ use Rattle.machine_model.specs.Calls.{finish, waits, programDone, begun}
 use Rattle.machine_model.specs.Contract.{plain}
 use Rattle.machine_model.specs.computed.Parts.{second, markWith}
 use Rattle.machine_model.proofs.Sounding.{validateOf}
-use Rattle.machine_model.proofs.Agreeing.{validate-law}
-use Rattle.machine_model.proofs.Answering.{Passed, validate-passes, validate-turns}
+use Rattle.machine_model.proofs.Sized.{Sized, sized-of}
+use Rattle.machine_model.proofs.Answering.{Passed, validate-passes, check-none, check-passes, check-turns}
 use Rattle.machine_model.proofs.ChecksKept.{validate-lent, commit-passes}
 use Rattle.machine_model.proofs.Finishes.{
   over-plain,
@@ -41,7 +42,6 @@ use Rattle.machine_model.proofs.Finishes.{
   remains-meets,
 }
 use Rattle.machine_model.proofs.FinishStep.{
-  Sized,
   Along,
   begun-kept,
   begun-issued,
@@ -49,6 +49,7 @@ use Rattle.machine_model.proofs.FinishStep.{
   along-sizes,
   along-start,
   along-room,
+  along-asks,
   Prepared,
   ready-kept,
   own-small,
@@ -71,49 +72,23 @@ Inv-loop program k memory₀ list₀ m₀ why limit n₀ memory list m n =
 abbrev μ-loop : tie.MeasureT-loop
 μ-loop program k memory₀ list₀ m₀ why limit n₀ memory list m n = limit - n
 
--- the arrays of the machine passed
-sized-at : (c : tie.Start Inv-loop μ-loop) → Sized (c .args .t1)
-sized-at c =
-    record {
-      lengths = record {
-        numbers = search needs;
-        addresses = search needs;
-        loads = search needs;
-        stores = search needs;
-        values = search needs;
-      };
-      window = simp length-map at (c .good .0 .1 .1 .1 .0 .1 .0 .1);
-      registers = search needs;
-      small = search needs;
-    }
-
--- the validation of the machine passed
-validate-at : (c : tie.After-validate Inv-loop μ-loop)
-    → let a = c .before .before .before .before .before .before .before .before .before .args in
-    c .validate .result ≡ validateOf (a .t1) (a .program .now) (length (a .memory .now))
-validate-at c =
-    let a = c .before .before .before .before .before .before .before .before .before .args in
-    c .validate .ensures ∙ validate-law (a .t1) (a .program .now) (length (a .memory .now))
-
-validate-requires : tie.Need-validate-requires Inv-loop μ-loop
-validate-requires c κs = search needs
-
 returns : tie.Need-returns Inv-loop μ-loop
-returns c = validate-turns _ _ (finish _ _) _ _ (sym (validate-at (c .before))) (search needs)
+returns c = check-turns _ _ (finish _ _) _ (c .before .validate .ensures) (c .if1 .taken)
 
 loop-holds : tie.Need-loop-holds Inv-loop μ-loop
-loop-holds c = (
-  sym (validate-at (c .before)) ∙ (search needs),
-  refl,
-  remains-all _ _ _ _ _,
-  sized-at (c .before .before .before .before .before .before .before .before .before .before),
-)
+loop-holds c =
+    let start = c .before .before .before .before .before .before .before .before .before .before in (
+      check-none (start .args .t1) _ _ (c .before .validate .ensures) (c .if1 .left),
+      refl,
+      remains-all _ _ _ _ _,
+      sized-of (start .args .t1) (start .good .0),
+    )
 
 -- the machine, the program and the memory passed the validation
 passed-at : (c : tie.Else1 Inv-loop μ-loop)
     → let a = c .before .before .before .before .before .before .before .before .before .before .args in
     Passed (a .t1) (a .program .now) (length (a .memory .now))
-passed-at c = validate-passes _ _ _ (sym (validate-at (c .before)) ∙ (search needs))
+passed-at c = check-passes _ _ _ (c .before .validate .ensures) (c .if1 .left)
 
 -- from the loop's head back to the entry, and from past the stops back to the loop's head
 abbrev entry : tie.At-loop Inv-loop μ-loop → tie.Start Inv-loop μ-loop
@@ -149,27 +124,12 @@ more-at c = over-plain (c .before .before .before .loop .m) ∙ c .if3 .left
 mul-if2 : tie.Need-mul-if2 Inv-loop μ-loop
 mul-if2 c = search needs
 
-sub-if2 : tie.Need-sub-if2 Inv-loop μ-loop
-sub-if2 c = search needs
-
-same-length : tie.Need-same-length Inv-loop μ-loop
-same-length c = search needs
-
-same-length-2 : tie.Need-same-length-2 Inv-loop μ-loop
-same-length-2 c = search needs
-
 returns-2 : tie.Need-returns-2 Inv-loop μ-loop
 returns-2 c =
     let l = c .before .before in
     remains-meets _ _ _ (l .loop .m) _ _ _ _ _ _ _ (passed-at (l .before)) (l .loop .inv .2)
     (finishes-short _ _ _ _ _ (omega (arith, c .if2 .taken, l .loop .inv .2 .size)))
     (passed-in l .sound)
-
-same-length-3 : tie.Need-same-length-3 Inv-loop μ-loop
-same-length-3 c = search needs
-
-same-length-4 : tie.Need-same-length-4 Inv-loop μ-loop
-same-length-4 c = search needs
 
 returns-3 : tie.Need-returns-3 Inv-loop μ-loop
 returns-3 c =
@@ -180,8 +140,7 @@ returns-3 c =
 
 -- the oldest's stage is an index of the arrays by stage
 oldest-below : (c : tie.At-loop Inv-loop μ-loop) → c .loop .m .table .oldest < stagesMost
-oldest-below c =
-    let rules = passed-in c .sound .rules in omega (arith, rules .start, sizes _ _ _ _ (rules .sizes) .stages)
+oldest-below c = oldest-small _ (passed-in c .sound .rules)
 
 -- where nothing is live an instruction is left
 left-at : (c : tie.Then4 Inv-loop μ-loop) → let m = head (c .before) .loop .m in m .next < m .count
@@ -189,9 +148,6 @@ left-at c =
     let m = head (c .before) .loop .m in
     leb-false (m .count) (m .next)
     (ap (λ (k : ℕ). eqb k 0 && leb (m .count) (m .next)) (sym (c .if4 .taken)) ∙ c .before .if3 .left)
-
-wrapping-add-u32-requires : tie.Need-wrapping-add-u32-requires Inv-loop μ-loop
-wrapping-add-u32-requires c κs = search needs
 
 set-number-requires : tie.Need-set-number-requires Inv-loop μ-loop
 set-number-requires c κs = oldest-below (head (c .before .before .before .before .before .before))
@@ -261,27 +217,15 @@ small-at : (c : tie.Joined4 Inv-loop μ-loop)
     → (sOf (oldest c .instruction) < 8) × (second (oldest c .instruction) < 8)
 small-at c = own-small (begun-at c)
 
-is-waiting-requires : tie.Need-is-waiting-requires Inv-loop μ-loop
-is-waiting-requires c κs = search needs
-
-s-of-requires : tie.Need-s-of-requires Inv-loop μ-loop
-s-of-requires c κs = search needs
-
 register-requires : tie.Need-register-requires Inv-loop μ-loop
 register-requires c κs =
     let j = issued (c .before .before .before .before) in
     (rw (c .s-of .ensures) (small-at j .0), begun-at j .sized .registers)
 
-second-of-requires : tie.Need-second-of-requires Inv-loop μ-loop
-second-of-requires c κs = search needs
-
 register-requires-2 : tie.Need-register-requires-2 Inv-loop μ-loop
 register-requires-2 c κs =
     let j = issued (c .before .before .before .before .before .before .before .before) in
     (rw (c .second-of .ensures) (small-at j .1), begun-at j .sized .registers)
-
-action-of-requires : tie.Need-action-of-requires Inv-loop μ-loop
-action-of-requires c κs = search needs
 
 -- from after its operands were read back to where it was found to wait; from after its effect was found back to its
 -- operands, and to where it has been issued; and from after the marks back to the effect
@@ -333,19 +277,13 @@ cut-requires : tie.Need-cut-requires Inv-loop μ-loop
 cut-requires c κs =
     let j = chosen (c .before) in
     let a = begun-at j in
-    let h = bounds-at (c .before) in (
-      (sizes-at j .banks, a .sized .lengths .loads),
-      (along-start a, omega (arith, h .1, along-room a), omega (arith, sizes-at j .stages)),
-    )
+    ((sizes-at j .banks, a .sized .lengths .loads), along-asks a _ (bounds-at (c .before) .1))
 
 cut-requires-2 : tie.Need-cut-requires-2 Inv-loop μ-loop
 cut-requires-2 c κs =
     let j = chosen (c .before .before .before) in
     let a = begun-at j in
-    let h = bounds-at (c .before .before .before) in (
-      (sizes-at j .banks, a .sized .lengths .stores),
-      (along-start a, omega (arith, h .1, along-room a), omega (arith, sizes-at j .stages)),
-    )
+    ((sizes-at j .banks, a .sized .lengths .stores), along-asks a _ (bounds-at (c .before .before .before) .1))
 
 including-requires : tie.Need-including-requires Inv-loop μ-loop
 including-requires c κs =
@@ -368,11 +306,7 @@ set-value-requires : tie.Need-set-value-requires Inv-loop μ-loop
 set-value-requires c κs = oldest-below (head (chosen (marked c) .before))
 
 stage-at-requires : tie.Need-stage-at-requires Inv-loop μ-loop
-stage-at-requires c κs =
-    let q = marked (c .before) in
-    let j = chosen q in
-    let a = begun-at j in
-    (along-start a, omega (arith, bounds-at q .1, along-room a), omega (arith, sizes-at j .stages))
+stage-at-requires c κs = let q = marked (c .before) in along-asks (begun-at (chosen q)) _ (bounds-at q .1)
 
 -- the stage after those that stay is an index of the window
 after-small : (c : tie.After-stage-at Inv-loop μ-loop) → c .stage-at .result < stagesMost
@@ -383,7 +317,7 @@ after-small c =
     omega (
       arith,
       c .stage-at .ensures,
-      stage-lt _ _ (along-start a) (q .effect-of .result .left) (omega (arith, bounds-at q .1, along-room a)),
+      stage-lt _ _ (along-start a) _ (along-asks a _ (bounds-at q .1) .1),
       sizes-at j .stages,
     )
 
@@ -398,9 +332,6 @@ mul-t79 c = omega (arith, oldest-below (head (chosen (marked (c .before .before 
 
 element-set-from-m-2 : tie.Need-element-set-from-m-2 Inv-loop μ-loop
 element-set-from-m-2 c = oldest-below (head (chosen (marked (c .before .before .before)) .before))
-
-next-after-requires : tie.Need-next-after-requires Inv-loop μ-loop
-next-after-requires c κs = search needs
 
 -- where the ways meet the oldest has executed
 ready-at : (c : tie.Joined5 Inv-loop μ-loop)
@@ -469,18 +400,12 @@ at-stage-requires : tie.Need-at-stage-requires Inv-loop μ-loop
 at-stage-requires c κs =
     let p = c .before .before .before in (oldest-below (turning p), ready-at p .along .sized .lengths .values)
 
-oldest-mark-requires : tie.Need-oldest-mark-requires Inv-loop μ-loop
-oldest-mark-requires c κs = search needs
-
 -- the mark told of the oldest
 mark-at : (c : tie.After-oldest-mark Inv-loop μ-loop)
     → let p = prepared c in
     let o = turning p .loop .m .table .oldest in
     c .oldest-mark .result ≡ markWith (reference (getD (p .if5 .m .window) o blankEntry)) (value (p .if5 .m .table) o)
 mark-at c = rw (c .before .at-stage .ensures) at (c .oldest-mark .ensures)
-
-mark-faults-requires : tie.Need-mark-faults-requires Inv-loop μ-loop
-mark-faults-requires c κs = search needs
 
 same-length-5 : tie.Need-same-length-5 Inv-loop μ-loop
 same-length-5 c = turning (prepared (c .before .before)) .loop .inv .1
@@ -516,13 +441,8 @@ write-back-requires c κs =
     let mark = read (c .before) in
     turn-clean (ready-at (prepared mark)) (mark-at mark) (clean-at (c .before))
 
-value-of-requires : tie.Need-value-of-requires Inv-loop μ-loop
-value-of-requires c κs = search needs
-
 stage-at-requires-2 : tie.Need-stage-at-requires-2 Inv-loop μ-loop
-stage-at-requires-2 c κs =
-    let a = ready-at (committing c) .along in
-    (along-start a, omega (arith, along-start a), omega (arith, along-sizes a .stages))
+stage-at-requires-2 c κs = let a = ready-at (committing c) .along in along-asks a 1 (a .some)
 
 sub-first-stages : tie.Need-sub-first-stages Inv-loop μ-loop
 sub-first-stages c = ready-at (committing (c .before)) .along .some
@@ -557,12 +477,6 @@ mul-put-four : tie.Need-mul-put-four Inv-loop μ-loop
 mul-put-four c =
     let p = committing (c .before .before .before .before .before .before .before .before .before .before .before) in
     mul-if2 (more p .before .before)
-
-code-of-requires : tie.Need-code-of-requires Inv-loop μ-loop
-code-of-requires c κs = search needs
-
-target-of-requires : tie.Need-target-of-requires Inv-loop μ-loop
-target-of-requires c κs = search needs
 
 put-four-requires : tie.Need-put-four-requires Inv-loop μ-loop
 put-four-requires c κs =
@@ -622,12 +536,6 @@ loop-again c =
       turn-sized r mark (clean-at f) first stay loads stores code place v registers,
     )
 
-same-length-7 : tie.Need-same-length-7 Inv-loop μ-loop
-same-length-7 c = search needs
-
-same-length-8 : tie.Need-same-length-8 Inv-loop μ-loop
-same-length-8 c = search needs
-
 returns-5 : tie.Need-returns-5 Inv-loop μ-loop
 returns-5 c =
     let l = c .before in
@@ -638,73 +546,13 @@ returns-5 c =
 pub finish-spec : {M : Type 1} → statement M
 finish-spec =
     tie.close
-    (tie.spec
-    Inv-loop
-    μ-loop
-    validate-requires
-    returns
-    loop-holds
-    mul-if2
-    sub-if2
-    same-length
-    same-length-2
-    returns-2
-    same-length-3
-    same-length-4
-    returns-3
-    wrapping-add-u32-requires
-    set-number-requires
-    cast-instruction-at
-    instruction-at-requires
-    mul-t69
-    element-set-from-m
-    add-m
-    mul-e
-    element-copy-out-e
-    is-waiting-requires
-    s-of-requires
-    register-requires
-    second-of-requires
-    register-requires-2
-    action-of-requires
-    effect-of-requires
-    cut-requires
-    cut-requires-2
-    including-requires
-    set-word-requires
-    add-mark-requires
-    add-mark-requires-2
-    set-value-requires
-    stage-at-requires
-    mul-f
-    element-copy-out-f
-    mul-t79
-    element-set-from-m-2
-    next-after-requires
-    mul-done
-    element-copy-out-done
-    at-stage-requires
-    oldest-mark-requires
-    mark-faults-requires
-    same-length-5
-    same-length-6
-    returns-4
-    write-back-requires
-    value-of-requires
-    stage-at-requires-2
-    sub-first-stages
-    first-stages-requires
-    sub-m
-    keep-requires
-    keep-requires-2
-    write-register-requires
-    mul-put-four
-    code-of-requires
-    target-of-requires
-    put-four-requires
-    add-n
-    loop-less
-    loop-again
-    same-length-7
-    same-length-8
-    returns-5)
+    (tie.spec Inv-loop μ-loop (λ c κs. search needs) returns loop-holds mul-if2 (search needs) (search needs) (search needs)
+    returns-2 (search needs) (search needs) returns-3 (search needs) set-number-requires cast-instruction-at
+    instruction-at-requires mul-t69 element-set-from-m add-m mul-e element-copy-out-e (search needs)
+    (search needs) register-requires (search needs) register-requires-2 (search needs) effect-of-requires
+    cut-requires cut-requires-2 including-requires set-word-requires add-mark-requires add-mark-requires-2
+    set-value-requires stage-at-requires mul-f element-copy-out-f mul-t79 element-set-from-m-2 (search needs)
+    mul-done element-copy-out-done at-stage-requires (search needs) (search needs) same-length-5 same-length-6
+    returns-4 write-back-requires (search needs) stage-at-requires-2 sub-first-stages first-stages-requires sub-m
+    keep-requires keep-requires-2 write-register-requires mul-put-four (search needs) (search needs)
+    put-four-requires add-n loop-less loop-again (search needs) (search needs) returns-5)

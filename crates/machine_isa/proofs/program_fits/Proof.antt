@@ -26,57 +26,14 @@ loop-holds : tie.Need-loop-holds Inv-loop μ-loop
 unfolding every
 loop-holds c = (omega arith, refl)
 
-mul-k : tie.Need-mul-k Inv-loop μ-loop
-mul-k c = omega arith
-
-mul-well-formed : tie.Need-mul-well-formed Inv-loop μ-loop
-mul-well-formed c = omega arith
-
-shared-slice-read-well-formed : tie.Need-shared-slice-read-well-formed Inv-loop μ-loop
-shared-slice-read-well-formed c = omega arith
-
-add-well-formed : tie.Need-add-well-formed Inv-loop μ-loop
-add-well-formed c = omega arith
-
-mul-well-formed-2 : tie.Need-mul-well-formed-2 Inv-loop μ-loop
-mul-well-formed-2 c = omega arith
-
-shared-slice-read-well-formed-2 : tie.Need-shared-slice-read-well-formed-2 Inv-loop μ-loop
-shared-slice-read-well-formed-2 c = omega arith
-
-add-well-formed-2 : tie.Need-add-well-formed-2 Inv-loop μ-loop
-add-well-formed-2 c = omega arith
-
-mul-well-formed-3 : tie.Need-mul-well-formed-3 Inv-loop μ-loop
-mul-well-formed-3 c = omega arith
-
-shared-slice-read-well-formed-3 : tie.Need-shared-slice-read-well-formed-3 Inv-loop μ-loop
-shared-slice-read-well-formed-3 c = omega arith
-
-add-well-formed-3 : tie.Need-add-well-formed-3 Inv-loop μ-loop
-add-well-formed-3 c = omega arith
-
-mul-well-formed-4 : tie.Need-mul-well-formed-4 Inv-loop μ-loop
-mul-well-formed-4 c = omega arith
-
-shared-slice-read-well-formed-4 : tie.Need-shared-slice-read-well-formed-4 Inv-loop μ-loop
-shared-slice-read-well-formed-4 c = omega arith
-
 well-formed-requires : tie.Need-well-formed-requires Inv-loop μ-loop
 well-formed-requires c κs = tt
 
-add-i : tie.Need-add-i Inv-loop μ-loop
-add-i c = omega arith
-
-loop-less : tie.Need-loop-less Inv-loop μ-loop
-loop-less c = omega arith
-
 loop-again : tie.Need-loop-again Inv-loop μ-loop
 loop-again c =
-    let here = c .before .before .before .before .before .before in
-    let at = here .loop in
-    let program = here .before .before .before .args .program .now in
-    (omega arith, every-next (wellFormedAt program) (at .i) (at .inv .1) (c .well-formed .ensures))
+    let inv = c .before .before .before .loop .inv in
+    let n = c .before .numbers-at .ensures in
+    (omega arith, every-next _ _ (inv .1) (c .well-formed .ensures ∙ rw (n .0 .0, n .0 .1, n .1 .0, n .1 .1)))
 
 returns-2 : tie.Need-returns-2 Inv-loop μ-loop
 unfolding programFits
@@ -88,25 +45,5 @@ returns-2 c =
 pub program-fits-spec : {M : Type 1} → statement M
 program-fits-spec =
     tie.close
-    (tie.spec
-    Inv-loop
-    μ-loop
-    returns
-    loop-holds
-    mul-k
-    mul-well-formed
-    shared-slice-read-well-formed
-    add-well-formed
-    mul-well-formed-2
-    shared-slice-read-well-formed-2
-    add-well-formed-2
-    mul-well-formed-3
-    shared-slice-read-well-formed-3
-    add-well-formed-3
-    mul-well-formed-4
-    shared-slice-read-well-formed-4
-    well-formed-requires
-    add-i
-    loop-less
-    loop-again
-    returns-2)
+    (tie.spec Inv-loop μ-loop returns loop-holds (λ c κs. omega arith) well-formed-requires (λ c. omega arith)
+    (λ c. omega arith) loop-again returns-2)

@@ -41,12 +41,6 @@ program-at : (c : tie.Else3)
     → programFits (c .before .before .before .before .before .before .before .args .program .now) ≡ true
 program-at c = sym (c .before .program-fits .ensures) ∙ not-false _ (c .if3 .left)
 
-sizes-fit-requires : tie.Need-sizes-fit-requires
-sizes-fit-requires c κs = search needs
-
-unopened-requires : tie.Need-unopened-requires
-unopened-requires c κs = search needs
-
 returns : tie.Need-returns
 returns c =
     let args = c .before .before .before .before .before .args in
@@ -56,20 +50,11 @@ returns c =
     (ap (λ (b : Bool). b && leb (length (args .program .now)) 1024) (sym (c .before .before .sizes-fit .ensures))
     ∙ not-true _ (c .before .if1 .taken))))
 
-unopened-requires-2 : tie.Need-unopened-requires-2
-unopened-requires-2 c κs = search needs
-
 returns-2 : tie.Need-returns-2
 returns-2 c =
     rw (c .unopened2 .ensures .0, c .unopened2 .ensures .1)
     (opens-refused _ _ _ _ _ _ 3 (omega arith)
     (rw (limits-at (c .before .before), ne-eqb _ _ (c .before .if2 .taken))))
-
-program-fits-requires : tie.Need-program-fits-requires
-program-fits-requires c κs = search needs
-
-unopened-requires-3 : tie.Need-unopened-requires-3
-unopened-requires-3 c κs = search needs
 
 returns-3 : tie.Need-returns-3
 returns-3 c =
@@ -82,18 +67,12 @@ returns-3 c =
       sym (c .before .before .program-fits .ensures) ∙ not-true _ (c .before .if3 .taken),
     )))
 
-empty-requires : tie.Need-empty-requires
-empty-requires c κs = search needs
-
 cast-empty : tie.Need-cast-empty
 cast-empty c =
     let past = c .before .before .before .before in
     let few : length (past .before .before .before .before .args .program .now) ≤ 1024 =
     leb-true (length (past .before .before .before .before .args .program .now)) 1024 (each-at past .1) in
     omega arith
-
-empty-requires-2 : tie.Need-empty-requires-2
-empty-requires-2 c κs = search needs
 
 returns-4 : tie.Need-returns-4
 returns-4 c =
@@ -108,16 +87,5 @@ returns-4 c =
 pub open-spec : {M : Type 1} → statement M
 open-spec =
     tie.close
-    (tie.spec
-    sizes-fit-requires
-    unopened-requires
-    returns
-    unopened-requires-2
-    returns-2
-    program-fits-requires
-    unopened-requires-3
-    returns-3
-    empty-requires
-    cast-empty
-    empty-requires-2
-    returns-4)
+    (tie.spec (search needs) (search needs) returns (search needs) returns-2 (search needs) (search needs) returns-3
+    (search needs) cast-empty (search needs) returns-4)

@@ -6,14 +6,8 @@ use Rattle.machine_model.specs.Contract.{emptyMachine}
 use Rattle.machine_issue.proofs.unopened.Statement.{statement}
 use Rattle.machine_issue.proofs.unopened.Tie as tie
 
-empty-requires : tie.Need-empty-requires
-empty-requires c κs = search needs
-
-empty-requires-2 : tie.Need-empty-requires-2
-empty-requires-2 c κs = search needs
-
 returns : tie.Need-returns
 returns c = (refl, c .empty2 .ensures ∙ ap (λ (t : Table). emptyMachine t 0) (c .before .empty .ensures))
 
 pub unopened-spec : {M : Type 1} → statement M
-unopened-spec = tie.close (tie.spec empty-requires empty-requires-2 returns)
+unopened-spec = tie.close (tie.spec (search needs) (search needs) returns)

@@ -5,12 +5,6 @@ use borrow.Author.Needs.{needs}
 use Rattle.machine_steps.proofs.oldest_mark.Statement.{statement}
 use Rattle.machine_steps.proofs.oldest_mark.Tie as tie
 
-entry-kind-requires : tie.Need-entry-kind-requires
-entry-kind-requires c κs = search needs
-
-entry-place-requires : tie.Need-entry-place-requires
-entry-place-requires c κs = search needs
-
 returns : tie.Need-returns
 returns c =
     rw (c .before .entry-place .ensures, ← c .before .before .entry-kind .ensures, c .if1 .taken)
@@ -27,4 +21,4 @@ returns-3 c =
 
 pub oldest-mark-spec : {M : Type 1} → statement M
 oldest-mark-spec =
-    tie.close (tie.spec entry-kind-requires entry-place-requires returns returns-2 returns-3)
+    tie.close (tie.spec (search needs) (search needs) returns returns-2 returns-3)

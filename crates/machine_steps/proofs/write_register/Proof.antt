@@ -24,18 +24,6 @@ register-kept : (registers : List ℕ) (d : Option ℕ) (v : ℕ) → length reg
 register-kept registers none v h = refl
 register-kept registers (some d) v h = sym (set-out registers d v h)
 
-destination-of-requires : tie.Need-destination-of-requires
-destination-of-requires c κs = search needs
-
-cast-registers : tie.Need-cast-registers
-cast-registers c = search needs
-
-mul-registers : tie.Need-mul-registers
-mul-registers c = search needs
-
-element-write-registers : tie.Need-element-write-registers
-element-write-registers c = search needs
-
 returns : tie.Need-returns
 returns c =
     let args = c .before .before .args in
@@ -51,10 +39,4 @@ returns-2 c =
 pub write-register-spec : {M : Type 1} → statement M
 write-register-spec =
     tie.close
-    (tie.spec
-    destination-of-requires
-    cast-registers
-    mul-registers
-    element-write-registers
-    returns
-    returns-2)
+    (tie.spec (search needs) (search needs) (search needs) (search needs) returns returns-2)

@@ -26,9 +26,6 @@ abbrev μ-loop : tie.MeasureT-loop
 loop-holds : tie.Need-loop-holds Inv-loop μ-loop
 loop-holds c = (omega arith, search needs, λ j h. absurd (omega arith))
 
-stage-at-requires : tie.Need-stage-at-requires Inv-loop μ-loop
-stage-at-requires c κs = omega arith
-
 -- the stage at a position passed is one of the window's
 stage-below : (c : tie.After-stage-at Inv-loop μ-loop) → c .stage-at .result < stagesMost
 stage-below c =
@@ -40,21 +37,6 @@ mul-e c = omega (arith, stage-below c)
 
 array-copy-out-e : tie.Need-array-copy-out-e Inv-loop μ-loop
 array-copy-out-e c = stage-below c
-
-destination-of-requires : tie.Need-destination-of-requires Inv-loop μ-loop
-destination-of-requires c κs = search needs
-
-mul-into : tie.Need-mul-into Inv-loop μ-loop
-mul-into c = omega arith
-
-array-write-into : tie.Need-array-write-into Inv-loop μ-loop
-array-write-into c = omega arith
-
-add-q : tie.Need-add-q Inv-loop μ-loop
-add-q c = omega arith
-
-loop-less : tie.Need-loop-less Inv-loop μ-loop
-loop-less c = omega arith
 
 loop-again : tie.Need-loop-again Inv-loop μ-loop
 loop-again c =
@@ -84,17 +66,5 @@ returns c = λ q h. c .before .loop .inv .2 q (omega arith)
 pub destinations-spec : {M : Type 1} → statement M
 destinations-spec =
     tie.close
-    (tie.spec
-    Inv-loop
-    μ-loop
-    loop-holds
-    stage-at-requires
-    mul-e
-    array-copy-out-e
-    destination-of-requires
-    mul-into
-    array-write-into
-    add-q
-    loop-less
-    loop-again
-    returns)
+    (tie.spec Inv-loop μ-loop loop-holds (λ c κs. omega arith) mul-e array-copy-out-e (search needs)
+    (λ c. omega arith) (λ c. omega arith) (λ c. omega arith) (λ c. omega arith) loop-again returns)

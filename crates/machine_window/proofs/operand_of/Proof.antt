@@ -5,12 +5,6 @@ use Rattle.machine_model.specs.Window.{valueOf}
 use Rattle.machine_window.proofs.operand_of.Statement.{statement}
 use Rattle.machine_window.proofs.operand_of.Tie as tie
 
-enum-told : tie.Need-enum-told
-enum-told c = search needs
-
-enum-known-fate : tie.Need-enum-known-fate
-enum-known-fate c = search needs
-
 returns : tie.Need-returns
 returns c = sym (ap valueOf (c .enum-told .given .1))
 
@@ -18,4 +12,4 @@ returns-2 : tie.Need-returns-2
 returns-2 c = sym (ap valueOf (c .before .fate .given .1))
 
 pub operand-of-spec : {M : Type 1} → statement M
-operand-of-spec = tie.close (tie.spec enum-told enum-known-fate returns returns-2)
+operand-of-spec = tie.close (tie.spec (search needs) (search needs) returns returns-2)

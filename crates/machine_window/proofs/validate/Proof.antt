@@ -107,9 +107,6 @@ last-at c b e =
       sym (alike-at c) ∙ e,
     )
 
-keeps-rules-requires : tie.Need-keeps-rules-requires
-keeps-rules-requires c κs = search needs
-
 returns : tie.Need-returns
 returns c = rw (sym (c .before .keeps-rules .ensures) ∙ not-true _ (c .if1 .taken))
 
@@ -127,9 +124,6 @@ returns-3 : tie.Need-returns-3
 returns-3 c =
     let passed = c .before in rw (lawful-at (ruled passed), agreeing-at passed, ne-eqb _ _ (c .if3 .taken))
 
-program-fits-requires : tie.Need-program-fits-requires
-program-fits-requires c κs = search needs
-
 returns-4 : tie.Need-returns-4
 returns-4 c =
     let passed = c .before .before .before in
@@ -139,9 +133,6 @@ returns-4 c =
       eq-eqb _ _ (c .before .before .if3 .left),
       sym (c .before .program-fits .ensures) ∙ not-true _ (c .if4 .taken),
     )
-
-mul-if5 : tie.Need-mul-if5
-mul-if5 c = search needs
 
 returns-5 : tie.Need-returns-5
 returns-5 c =
@@ -163,15 +154,5 @@ returns-7 c = sym (last-at (c .before .before) true (not-false _ (c .if6 .left))
 pub validate-spec : {M : Type 1} → statement M
 validate-spec =
     tie.close
-    (tie.spec
-    keeps-rules-requires
-    returns
-    pass-over-requires
-    returns-2
-    returns-3
-    program-fits-requires
-    returns-4
-    mul-if5
-    returns-5
-    returns-6
-    returns-7)
+    (tie.spec (search needs) returns pass-over-requires returns-2 returns-3 (search needs) returns-4 (search needs)
+    returns-5 returns-6 returns-7)

@@ -12,42 +12,6 @@ returns : tie.Need-returns
 unfolding firsts
 returns c = sym (ap (firsts _ _) (c .if1 .taken))
 
-sub-all : tie.Need-sub-all
-sub-all c = search needs
-
-cast-all : tie.Need-cast-all
-cast-all c = search needs
-
-shr-all : tie.Need-shr-all
-shr-all c = search needs
-
-sub-run : tie.Need-sub-run
-sub-run c = search needs
-
-cast-run : tie.Need-cast-run
-cast-run c = search needs
-
-shr-run : tie.Need-shr-run
-shr-run c = search needs
-
-cast-result : tie.Need-cast-result
-cast-result c = search needs
-
-shl-result : tie.Need-shl-result
-shl-result c = search needs
-
-sub-result : tie.Need-sub-result
-sub-result c = search needs
-
-sub-result-2 : tie.Need-sub-result-2
-sub-result-2 c = search needs
-
-cast-result-2 : tie.Need-cast-result-2
-cast-result-2 c = search needs
-
-shr-result : tie.Need-shr-result
-shr-result c = search needs
-
 returns-2 : tie.Need-returns-2
 returns-2 c =
     let args = c .before .args in
@@ -57,18 +21,5 @@ returns-2 c =
 pub first-stages-spec : {M : Type 1} → statement M
 first-stages-spec =
     tie.close
-    (tie.spec
-    returns
-    sub-all
-    cast-all
-    shr-all
-    sub-run
-    cast-run
-    shr-run
-    cast-result
-    shl-result
-    sub-result
-    sub-result-2
-    cast-result-2
-    shr-result
-    returns-2)
+    (tie.spec returns (search needs) (search needs) (search needs) (search needs) (search needs) (search needs)
+    (search needs) (search needs) (search needs) (search needs) (search needs) (search needs) returns-2)

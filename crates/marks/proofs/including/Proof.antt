@@ -10,16 +10,10 @@ use Rattle.marks.specs.Stages.{width}
 use Rattle.marks.proofs.including.Statement.{statement}
 use Rattle.marks.proofs.including.Tie as tie
 
-cast-result : tie.Need-cast-result
-cast-result c = search needs
-
-shl-result : tie.Need-shl-result
-shl-result c = search needs
-
 returns : tie.Need-returns
 returns c =
     ap (bitOr (c .args .word))
     (ap (λ (x : ℕ). x % 2 ^ width) (one-mul (2 ^ (c .args .k))) ∙ mod-eq-of-lt (pow-lt (c .pre)))
 
 pub including-spec : {M : Type 1} → statement M
-including-spec = tie.close (tie.spec cast-result shl-result returns)
+including-spec = tie.close (tie.spec (search needs) (search needs) returns)

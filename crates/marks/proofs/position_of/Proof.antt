@@ -5,12 +5,6 @@ use borrow.Author.Tests.{le-leb, lt-leb}
 use Rattle.marks.proofs.position_of.Statement.{statement}
 use Rattle.marks.proofs.position_of.Tie as tie
 
-add-result : tie.Need-add-result
-add-result c = search needs
-
-sub-result : tie.Need-sub-result
-sub-result c = search needs
-
 returns : tie.Need-returns
 returns c = search (needs, le-leb)
 
@@ -18,4 +12,4 @@ returns-2 : tie.Need-returns-2
 returns-2 c = search (needs, lt-leb)
 
 pub position-of-spec : {M : Type 1} → statement M
-position-of-spec = tie.close (tie.spec add-result sub-result returns returns-2)
+position-of-spec = tie.close (tie.spec (search needs) (search needs) returns returns-2)

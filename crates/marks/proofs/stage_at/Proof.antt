@@ -5,9 +5,6 @@ use borrow.Author.Tests.{lt-ltb, le-ltb}
 use Rattle.marks.proofs.stage_at.Statement.{statement}
 use Rattle.marks.proofs.stage_at.Tie as tie
 
-add-sum : tie.Need-add-sum
-add-sum c = search needs
-
 returns : tie.Need-returns
 returns c = search (needs, lt-ltb)
 
@@ -15,4 +12,4 @@ returns-2 : tie.Need-returns-2
 returns-2 c = search (needs, le-ltb)
 
 pub stage-at-spec : {M : Type 1} → statement M
-stage-at-spec = tie.close (tie.spec add-sum returns returns-2)
+stage-at-spec = tie.close (tie.spec (search needs) returns returns-2)

@@ -11,18 +11,6 @@ use Rattle.mixes.proofs.position_drawn.Tie as tie
 returns : tie.Need-returns
 returns c = inl refl
 
-rem-p : tie.Need-rem-p
-rem-p c = search needs
-
-stage-drawn-requires : tie.Need-stage-drawn-requires
-stage-drawn-requires c κs = search needs
-
-cast-if2 : tie.Need-cast-if2
-cast-if2 c = search needs
-
-shr-if2 : tie.Need-shr-if2
-shr-if2 c = search needs
-
 returns-2 : tie.Need-returns-2
 returns-2 c = inl refl
 
@@ -31,4 +19,4 @@ returns-3 c = inr (mod-lt (c .before .before .before .args .drawn) (omega arith)
 
 pub position-drawn-spec : {M : Type 1} → statement M
 position-drawn-spec =
-    tie.close (tie.spec returns rem-p stage-drawn-requires cast-if2 shr-if2 returns-2 returns-3)
+    tie.close (tie.spec returns (search needs) (search needs) (search needs) (search needs) returns-2 returns-3)

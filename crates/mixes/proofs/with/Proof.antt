@@ -4,15 +4,6 @@ use borrow.Author.Needs.{needs}
 use Rattle.mixes.proofs.with.Statement.{statement}
 use Rattle.mixes.proofs.with.Tie as tie
 
-wrapping-add-u64-requires : tie.Need-wrapping-add-u64-requires
-wrapping-add-u64-requires c κs = search needs
-
-wrapping-add-u64-requires-2 : tie.Need-wrapping-add-u64-requires-2
-wrapping-add-u64-requires-2 c κs = search needs
-
-wrapping-add-u64-requires-3 : tie.Need-wrapping-add-u64-requires-3
-wrapping-add-u64-requires-3 c κs = search needs
-
 returns : tie.Need-returns
 returns c =
     rw (
@@ -24,8 +15,4 @@ returns c =
 pub with-spec : {M : Type 1} → statement M
 with-spec =
     tie.close
-    (tie.spec
-    wrapping-add-u64-requires
-    wrapping-add-u64-requires-2
-    wrapping-add-u64-requires-3
-    returns)
+    (tie.spec (search needs) (search needs) (search needs) returns)

@@ -8,23 +8,11 @@ use borrow.Author.Needs.{needs}
 use Rattle.mixes.proofs.with_all.Statement.{statement}
 use Rattle.mixes.proofs.with_all.Tie as tie
 
-returns : tie.Need-returns
-returns c = search needs
-
-with-requires : tie.Need-with-requires
-with-requires c κs = search needs
-
 returns-2 : tie.Need-returns-2
 returns-2 c = rw (c .if2 .taken, c .before .with .ensures)
 
-with-requires-2 : tie.Need-with-requires-2
-with-requires-2 c κs = search needs
-
 returns-3 : tie.Need-returns-3
 returns-3 c = rw (c .if3 .taken, c .before .with2 .ensures, c .before .before .before .with .ensures)
-
-with-requires-3 : tie.Need-with-requires-3
-with-requires-3 c κs = search needs
 
 returns-4 : tie.Need-returns-4
 returns-4 c =
@@ -34,9 +22,6 @@ returns-4 c =
       c .before .before .before .with2 .ensures,
       c .before .before .before .before .before .with .ensures,
     )
-
-with-requires-4 : tie.Need-with-requires-4
-with-requires-4 c κs = search needs
 
 returns-5 : tie.Need-returns-5
 returns-5 c =
@@ -54,13 +39,5 @@ returns-5 c =
 pub with-all-spec : {M : Type 1} → statement M
 with-all-spec =
     tie.close
-    (tie.spec
-    returns
-    with-requires
-    returns-2
-    with-requires-2
-    returns-3
-    with-requires-3
-    returns-4
-    with-requires-4
-    returns-5)
+    (tie.spec (λ c. search needs) (search needs) returns-2 (search needs) returns-3 (search needs) returns-4
+    (search needs) returns-5)

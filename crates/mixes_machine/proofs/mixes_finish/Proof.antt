@@ -25,9 +25,6 @@ abbrev μ-loop : tie.MeasureT-loop
 loop-holds : tie.Need-loop-holds Inv-loop μ-loop
 loop-holds c = (refl, refl, remains-all)
 
-sub-left : tie.Need-sub-left Inv-loop μ-loop
-sub-left c = omega arith
-
 open-requires : tie.Need-open-requires Inv-loop μ-loop
 open-requires c κs = tt
 
@@ -45,9 +42,6 @@ finished-tally-requires c κs = tt
 
 with-all-requires-2 : tie.Need-with-all-requires-2 Inv-loop μ-loop
 with-all-requires-2 c κs = tt
-
-loop-less : tie.Need-loop-less Inv-loop μ-loop
-loop-less c = omega arith
 
 loop-again : tie.Need-loop-again Inv-loop μ-loop
 loop-again c =
@@ -74,31 +68,12 @@ loop-again c =
           }),
     )
 
-same-length : tie.Need-same-length Inv-loop μ-loop
-same-length c = search needs
-
-same-length-2 : tie.Need-same-length-2 Inv-loop μ-loop
-same-length-2 c = search needs
-
 returns : tie.Need-returns Inv-loop μ-loop
 returns c = remains-none (c .before .loop .inv .2) (omega arith)
 
 pub mixes-finish-spec : {M : Type 1} → statement M
 mixes-finish-spec =
     tie.close
-    (tie.spec
-    Inv-loop
-    μ-loop
-    loop-holds
-    sub-left
-    open-requires
-    done-tally-requires
-    with-all-requires
-    finish-requires
-    finished-tally-requires
-    with-all-requires-2
-    loop-less
-    loop-again
-    same-length
-    same-length-2
-    returns)
+    (tie.spec Inv-loop μ-loop loop-holds (λ c. omega arith) open-requires done-tally-requires with-all-requires
+    finish-requires finished-tally-requires with-all-requires-2 (λ c. omega arith) loop-again (search needs)
+    (search needs) returns)

@@ -8,13 +8,10 @@ use Rattle.script_model.proofs.Beginnings.{closed-machine}
 use Rattle.script.proofs.idle.Statement.{statement}
 use Rattle.script.proofs.idle.Tie as tie
 
-open-requires : tie.Need-open-requires
-open-requires c κs = search needs
-
 returns : tie.Need-returns
 returns c =
     ap (λ (u : Machine). player (c .before .before .before .before .args .phase) 0 1 0 0 u)
     (closed-machine (c .before .«open» .ensures))
 
 pub idle-spec : {M : Type 1} → statement M
-idle-spec = tie.close (tie.spec open-requires returns)
+idle-spec = tie.close (tie.spec (λ c κs. search needs) returns)

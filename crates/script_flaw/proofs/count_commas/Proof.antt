@@ -1,5 +1,6 @@
 -- `script_flaw::count_commas` meets its contract. The loop's invariant: the commas so far and those that are left are all.
 -- Assumes nothing.
+use mathlib.Core.Logic.{⊎-elim}
 use mathlib.Core.Path.{_≡_}
 use Prim.Native.Nat.{_+_, _-_, _≤_}
 use native.Mathlib.Omega.{arith}
@@ -27,42 +28,18 @@ add-n c = omega (arith, c .before .before .before .loop .inv)
 add-i : tie.Need-add-i Inv-loop μ-loop
 add-i c = omega (arith, c .before .before .before .loop .inv)
 
-loop-less : tie.Need-loop-less Inv-loop μ-loop
-loop-less c = omega arith
-
 loop-again : tie.Need-loop-again Inv-loop μ-loop
 loop-again c =
     let a = c .before .before .before .before .args in
-    let l = c .before .before .before .loop in (
-      omega (
-        arith,
-        l .inv .0,
-        commas-here (a .s .now) (l .i) (a .to) (omega arith)
-            (c .before .before .before .before .pre .1) (c .if1 .taken),
-      ),
-      omega (arith, l .inv .1),
-      omega arith,
-    )
-
-add-i-2 : tie.Need-add-i-2 Inv-loop μ-loop
-add-i-2 c = omega (arith, c .before .before .before .loop .inv)
-
-loop-less-2 : tie.Need-loop-less-2 Inv-loop μ-loop
-loop-less-2 c = omega arith
-
-loop-again-2 : tie.Need-loop-again-2 Inv-loop μ-loop
-loop-again-2 c =
-    let a = c .before .before .before .before .args in
-    let l = c .before .before .before .loop in (
-      omega (
-        arith,
-        l .inv .0,
-        commas-later (a .s .now) (l .i) (a .to) (omega arith)
-            (c .before .before .before .before .pre .1) (c .if1 .left),
-      ),
-      omega (arith, l .inv .1),
-      omega arith,
-    )
+    let l = c .before .before .before .loop in
+    let k = c .before .before .before .before .pre .1 in
+    let counted : (c .if1 .n + commas (slice (l .i + 1) (a .to) (a .s .now)) ≡ l .n + commas (slice (l .i) (a .to) (a .s .now)))
+    × (c .if1 .n ≤ l .n + 1) =
+    ⊎-elim
+    (λ w. (omega (arith, commas-here (a .s .now) (l .i) (a .to) (omega arith) k (w .0 .taken)), omega arith))
+    (λ w. (omega (arith, commas-later (a .s .now) (l .i) (a .to) (omega arith) k (w .0 .left)), omega arith)) (c .if1 .came)
+    in
+    (omega (arith, l .inv .0), omega (arith, l .inv .1), omega arith)
 
 returns : tie.Need-returns Inv-loop μ-loop
 returns c =
@@ -75,16 +52,4 @@ returns c =
 pub count-commas-spec : {M : Type 1} → statement M
 count-commas-spec =
     tie.close
-    (tie.spec
-    Inv-loop
-    μ-loop
-    loop-holds
-    shared-slice-read-if1
-    add-n
-    add-i
-    loop-less
-    loop-again
-    add-i-2
-    loop-less-2
-    loop-again-2
-    returns)
+    (tie.spec Inv-loop μ-loop loop-holds shared-slice-read-if1 add-n add-i (λ c. omega arith) loop-again returns)

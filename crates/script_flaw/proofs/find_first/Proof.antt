@@ -2,7 +2,6 @@
 use mathlib.Core.Path.{_∙_}
 use native.Mathlib.Omega.{arith}
 use Rattle.script_model.proofs.Looking.{first-blank, first-sizes, first-other}
-use borrow.Author.Needs.{needs}
 use Rattle.script_flaw.proofs.find_first.Statement.{statement}
 use Rattle.script_flaw.proofs.find_first.Tie as tie
 

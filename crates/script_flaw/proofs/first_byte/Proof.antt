@@ -4,9 +4,6 @@ use borrow.Author.Needs.{needs}
 use Rattle.script_flaw.proofs.first_byte.Statement.{statement}
 use Rattle.script_flaw.proofs.first_byte.Tie as tie
 
-shared-slice-read-result : tie.Need-shared-slice-read-result
-shared-slice-read-result c = search needs
-
 returns : tie.Need-returns
 returns c = head-is (c .before .before .args .s .now) (c .before .before .args .from) (c .before .before .args .to)
     (c .before .if1 .taken) (c .before .before .pre)
@@ -15,4 +12,4 @@ returns-2 : tie.Need-returns-2
 returns-2 c = head-none (c .before .args .s .now) (c .before .args .from) (c .before .args .to) (c .if1 .left) (c .before .pre)
 
 pub first-byte-spec : {M : Type 1} → statement M
-first-byte-spec = tie.close (tie.spec shared-slice-read-result returns returns-2)
+first-byte-spec = tie.close (tie.spec (search needs) returns returns-2)

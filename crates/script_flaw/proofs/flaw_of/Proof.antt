@@ -38,12 +38,6 @@ returns c = flaw-long (c .before .before .args .s .now) (c .if1 .taken)
 loop-holds : tie.Need-loop-holds Inv-loop μ-loop
 loop-holds c = (flaw-start (c .before .before .args .s .now) (c .if1 .left), omega arith, omega arith, c .if1 .left)
 
-look-requires : tie.Need-look-requires Inv-loop μ-loop
-look-requires c κs = search needs
-
-enum-known-outlook : tie.Need-enum-known-outlook Inv-loop μ-loop
-enum-known-outlook c = search needs
-
 returns-2 : tie.Need-returns-2 Inv-loop μ-loop
 returns-2 c =
     let l = c .before .before .before .before .loop in
@@ -51,9 +45,6 @@ returns-2 c =
     (λ (o : Outlook). Looks (c .before .before .before .before .before .before .before .args .s .now) (l .at) (l .part) o)
     (c .before .outlook .given .1) (c .before .before .before .look .ensures) (l .line))
     ∙ l .inv .0
-
-enum-known-outlook-2 : tie.Need-enum-known-outlook-2 Inv-loop μ-loop
-enum-known-outlook-2 c = search needs
 
 add-line : tie.Need-add-line Inv-loop μ-loop
 add-line c = omega (arith, c .before .before .before .before .loop .inv .1, c .before .before .before .before .loop .inv .2)
@@ -69,15 +60,5 @@ loop-again c =
 pub flaw-of-spec : {M : Type 1} → statement M
 flaw-of-spec =
     tie.close
-    (tie.spec
-    Inv-loop
-    μ-loop
-    returns
-    loop-holds
-    look-requires
-    enum-known-outlook
-    returns-2
-    enum-known-outlook-2
-    add-line
-    loop-less
-    loop-again)
+    (tie.spec Inv-loop μ-loop returns loop-holds (search needs) (search needs) returns-2 (search needs) add-line
+    loop-less loop-again)

@@ -26,21 +26,6 @@ found-is : (c : tie.After-known-told)
 found-is c = line-is (c .before .before .before .before .before .args .s .now)
     (c .before .before .before .before .before .args .at) _ (found c)
 
-line-at-requires : tie.Need-line-at-requires
-line-at-requires c κs = search needs
-
-enum-told : tie.Need-enum-told
-enum-told c = search needs
-
-at-end-requires : tie.Need-at-end-requires
-at-end-requires c κs = search needs
-
-enum-told-2 : tie.Need-enum-told-2
-enum-told-2 c = search needs
-
-enum-known-line : tie.Need-enum-known-line
-enum-known-line c = search needs
-
 read-item-requires : tie.Need-read-item-requires
 read-item-requires c κs = omega (arith, found-is c .2)
 
@@ -48,12 +33,6 @@ reason-in-requires : tie.Need-reason-in-requires
 reason-in-requires c κs =
     let is = found-is (c .before) in
     (omega (arith, is .0, is .1), omega (arith, is .2))
-
-is-fine-requires : tie.Need-is-fine-requires
-is-fine-requires c κs = search needs
-
-next-part-requires : tie.Need-next-part-requires
-next-part-requires c κs = search needs
 
 add-t14 : tie.Need-add-t14
 add-t14 c = omega (arith, found-is (c .before .before .before .before .before) .2)
@@ -90,18 +69,5 @@ returns-4 c =
 pub look-spec : {M : Type 1} → statement M
 look-spec =
     tie.close
-    (tie.spec
-    line-at-requires
-    enum-told
-    at-end-requires
-    enum-told-2
-    enum-known-line
-    read-item-requires
-    reason-in-requires
-    is-fine-requires
-    next-part-requires
-    add-t14
-    returns
-    returns-2
-    returns-3
-    returns-4)
+    (tie.spec (search needs) (search needs) (search needs) (search needs) (search needs) read-item-requires
+    reason-in-requires (search needs) (search needs) add-t14 returns returns-2 returns-3 returns-4)

@@ -3,20 +3,11 @@ use borrow.Author.Needs.{needs}
 use Rattle.script_flaw.proofs.of_malformed.Statement.{statement}
 use Rattle.script_flaw.proofs.of_malformed.Tie as tie
 
-enum-told : tie.Need-enum-told
-enum-told c = search needs
-
 find-first-requires : tie.Need-find-first-requires
 find-first-requires c κs = c .before .before .before .pre
 
-enum-told-2 : tie.Need-enum-told-2
-enum-told-2 c = search needs
-
 find-malformed-requires : tie.Need-find-malformed-requires
 find-malformed-requires c κs = c .before .before .before .pre
-
-enum-told-3 : tie.Need-enum-told-3
-enum-told-3 c = search needs
 
 find-malformed-requires-2 : tie.Need-find-malformed-requires-2
 find-malformed-requires-2 c κs = c .before .before .before .pre
@@ -33,13 +24,5 @@ returns-3 c = rw (c .before .enum-told3 .given .1) (c .find-malformed2 .ensures)
 pub of-malformed-spec : {M : Type 1} → statement M
 of-malformed-spec =
     tie.close
-    (tie.spec
-    enum-told
-    find-first-requires
-    enum-told-2
-    find-malformed-requires
-    enum-told-3
-    find-malformed-requires-2
-    returns
-    returns-2
-    returns-3)
+    (tie.spec (search needs) find-first-requires (search needs) find-malformed-requires (search needs)
+    find-malformed-requires-2 returns returns-2 returns-3)

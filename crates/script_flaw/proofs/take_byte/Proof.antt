@@ -25,12 +25,6 @@ returns-4 c =
     let a = c .before .before .before .args in
     rw (ne-eqb (a .b) 44 (c .before .before .if1 .left), le-leb 48 (a .b) (omega arith), lt-leb (a .b) 57 (c .if4 .taken))
 
-sub-take-digit : tie.Need-sub-take-digit
-sub-take-digit c = search needs
-
-take-digit-requires : tie.Need-take-digit-requires
-take-digit-requires c κs = search needs
-
 returns-5 : tie.Need-returns-5
 returns-5 c =
     let a = c .before .before .before .before .args in
@@ -40,4 +34,4 @@ returns-5 c =
 pub take-byte-spec : {M : Type 1} → statement M
 take-byte-spec =
     tie.close
-    (tie.spec returns returns-2 returns-3 returns-4 sub-take-digit take-digit-requires returns-5)
+    (tie.spec returns returns-2 returns-3 returns-4 (search needs) (search needs) returns-5)

@@ -10,9 +10,6 @@ use borrow.Author.Needs.{needs}
 use Rattle.script_message.proofs.put_message.Statement.{statement}
 use Rattle.script_message.proofs.put_message.Tie as tie
 
-is-fine-requires : tie.Need-is-fine-requires
-is-fine-requires c κs = search needs
-
 returns : tie.Need-returns
 returns c =
     let a = c .before .before .before .args in
@@ -25,33 +22,6 @@ returns-2 c =
           (writes-none (a .out .now) 0),
       omega arith,
     )
-
-slice-aggregate-put : tie.Need-slice-aggregate-put
-slice-aggregate-put c = search needs
-
-put-requires : tie.Need-put-requires
-put-requires c κs = search needs
-
-put-value-requires : tie.Need-put-value-requires
-put-value-requires c κs = search needs
-
-slice-aggregate-put-2 : tie.Need-slice-aggregate-put-2
-slice-aggregate-put-2 c = search needs
-
-put-requires-2 : tie.Need-put-requires-2
-put-requires-2 c κs = search needs
-
-put-reason-requires : tie.Need-put-reason-requires
-put-reason-requires c κs = search needs
-
-slice-aggregate-put-3 : tie.Need-slice-aggregate-put-3
-slice-aggregate-put-3 c = search needs
-
-put-requires-3 : tie.Need-put-requires-3
-put-requires-3 c κs = search needs
-
-same-length : tie.Need-same-length
-same-length c = search needs
 
 returns-3 : tie.Need-returns-3
 unfolding ascii
@@ -79,17 +49,5 @@ returns-3 c =
 pub put-message-spec : {M : Type 1} → statement M
 put-message-spec =
     tie.close
-    (tie.spec
-    is-fine-requires
-    returns
-    returns-2
-    slice-aggregate-put
-    put-requires
-    put-value-requires
-    slice-aggregate-put-2
-    put-requires-2
-    put-reason-requires
-    slice-aggregate-put-3
-    put-requires-3
-    same-length
-    returns-3)
+    (tie.spec (search needs) returns returns-2 (search needs) (search needs) (search needs) (search needs)
+    (search needs) (search needs) (search needs) (search needs) (search needs) returns-3)

@@ -7,21 +7,6 @@ use borrow.Author.Needs.{needs}
 use Rattle.script_message.proofs.put_other.Statement.{statement}
 use Rattle.script_message.proofs.put_other.Tie as tie
 
-slice-aggregate-put : tie.Need-slice-aggregate-put
-slice-aggregate-put c = search needs
-
-put-requires : tie.Need-put-requires
-put-requires c κs = search needs
-
-put-byte-requires : tie.Need-put-byte-requires
-put-byte-requires c κs = search needs
-
-put-requires-2 : tie.Need-put-requires-2
-put-requires-2 c κs = search needs
-
-same-length : tie.Need-same-length
-same-length c = search needs
-
 returns : tie.Need-returns
 unfolding ascii
 returns c =
@@ -33,10 +18,4 @@ returns c =
 pub put-other-spec : {M : Type 1} → statement M
 put-other-spec =
     tie.close
-    (tie.spec
-    slice-aggregate-put
-    put-requires
-    put-byte-requires
-    put-requires-2
-    same-length
-    returns)
+    (tie.spec (search needs) (search needs) (search needs) (search needs) (search needs) returns)

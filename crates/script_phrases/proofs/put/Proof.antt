@@ -6,12 +6,6 @@ use borrow.Author.Needs.{needs}
 use Rattle.script_phrases.proofs.put.Statement.{statement}
 use Rattle.script_phrases.proofs.put.Tie as tie
 
-put-text-requires : tie.Need-put-text-requires
-put-text-requires c κs = search needs
-
-same-length : tie.Need-same-length
-same-length c = search needs
-
 returns : tie.Need-returns
 returns c =
     let p = c .before .before .put-text .ensures in
@@ -20,7 +14,4 @@ returns c =
 pub put-spec : {M : Type 1} → statement M
 put-spec =
     tie.close
-    (tie.spec
-    put-text-requires
-    same-length
-    returns)
+    (tie.spec (search needs) (search needs) returns)

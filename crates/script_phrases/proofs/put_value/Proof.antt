@@ -7,12 +7,6 @@ use borrow.Author.Needs.{needs}
 use Rattle.script_phrases.proofs.put_value.Statement.{statement}
 use Rattle.script_phrases.proofs.put_value.Tie as tie
 
-put-decimal-requires : tie.Need-put-decimal-requires
-put-decimal-requires c κs = search needs
-
-same-length : tie.Need-same-length
-same-length c = search needs
-
 returns : tie.Need-returns
 returns c =
     let p = c .before .before .put-decimal .ensures in
@@ -21,7 +15,4 @@ returns c =
 pub put-value-spec : {M : Type 1} → statement M
 put-value-spec =
     tie.close
-    (tie.spec
-    put-decimal-requires
-    same-length
-    returns)
+    (tie.spec (search needs) (search needs) returns)

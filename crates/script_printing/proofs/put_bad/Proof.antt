@@ -6,18 +6,6 @@ use borrow.Author.Needs.{needs}
 use Rattle.script_printing.proofs.put_bad.Statement.{statement}
 use Rattle.script_printing.proofs.put_bad.Tie as tie
 
-slice-aggregate-put-text : tie.Need-slice-aggregate-put-text
-slice-aggregate-put-text c = search needs
-
-put-text-requires : tie.Need-put-text-requires
-put-text-requires c κs = search needs
-
-put-number-requires : tie.Need-put-number-requires
-put-number-requires c κs = search needs
-
-same-length : tie.Need-same-length
-same-length c = search needs
-
 returns : tie.Need-returns
 returns c =
     let p = c .before .before .before .before .before .before .put-text .ensures in
@@ -27,4 +15,4 @@ returns c =
 pub put-bad-spec : {M : Type 1} → statement M
 put-bad-spec =
     tie.close
-    (tie.spec slice-aggregate-put-text put-text-requires put-number-requires same-length returns)
+    (tie.spec (search needs) (search needs) (search needs) (search needs) returns)

@@ -19,25 +19,10 @@ kept-at c =
     let p = c .before .before .before .put-number in
     writes-length (writes-two (p .last .0) (p .result) (c .letter-of .result) 44) ∙ p .kept .0
 
-put-number-requires : tie.Need-put-number-requires
-put-number-requires c κs = search needs
-
-letter-of-requires : tie.Need-letter-of-requires
-letter-of-requires c κs = search needs
-
-slice-write-out : tie.Need-slice-write-out
-slice-write-out c = search needs
-
-add-out : tie.Need-add-out
-add-out c = search needs
-
 slice-write-out-2 : tie.Need-slice-write-out-2
 slice-write-out-2 c =
     let p = c .before .before .before .put-number in
     omega (arith, length-set (p .last .0) (p .result) (c .letter-of .result))
-
-add-put-number : tie.Need-add-put-number
-add-put-number c = search needs
 
 put-number-requires-2 : tie.Need-put-number-requires-2
 put-number-requires-2 c κs = omega (arith, kept-at (c .before))
@@ -67,14 +52,5 @@ returns c =
 pub put-commit-spec : {M : Type 1} → statement M
 put-commit-spec =
     tie.close
-    (tie.spec
-    put-number-requires
-    letter-of-requires
-    slice-write-out
-    add-out
-    slice-write-out-2
-    add-put-number
-    put-number-requires-2
-    put-number-requires-3
-    same-length
-    returns)
+    (tie.spec (search needs) (search needs) (search needs) (search needs) slice-write-out-2 (search needs)
+    put-number-requires-2 put-number-requires-3 same-length returns)

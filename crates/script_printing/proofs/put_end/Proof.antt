@@ -1,96 +1,54 @@
--- `script_printing::put_end`: in each arm the line is the arm's text, which names the ending, and a number of at most
--- 21 bytes. Assumes nothing.
+-- `script_printing::put_end`: the line is a text of at most 10 bytes, which names the ending, and a number of at most 21.
+-- Assumes nothing.
+use mathlib.Core.List.{List, [], _∷_, _++_}
+use mathlib.Core.Logic.{⊎-elim}
+use mathlib.Core.Path.{_≡_, _∙_}
+use Prim.Native.Nat.{ℕ, _+_, _≤_}
 use native.Mathlib.Omega.{arith}
-use Rattle.script_model.proofs.Writing.{writes-text, writes-end}
+use lib.ListN.{length}
+use lib.Seq.{sets}
+use Rattle.script_model.specs.declared.Ending.{Ending}
+use Rattle.script_model.specs.Output.{fate}
+use Rattle.script_model.specs.Playing.{Writes}
+use Rattle.script_model.proofs.Writing.{writes-then, writes-text, writes-length}
 use borrow.Author.Needs.{needs}
 use Rattle.script_printing.proofs.put_end.Statement.{statement}
 use Rattle.script_printing.proofs.put_end.Tie as tie
 
-enum-told : tie.Need-enum-told
-enum-told c = search needs
+abbrev title : Ending → List ℕ
+title e = (101 ∷ 110 ∷ 100 ∷ 44 ∷ []) ++ fate e ++ (44 ∷ [])
 
-slice-aggregate-put-text : tie.Need-slice-aggregate-put-text
-slice-aggregate-put-text c = search needs
+-- the title of ending f is written, and it is the ending e
+titled : {e f : Ending} {out mid into : List ℕ} {at m r : ℕ} → e ≡ f → length (title f) ≤ 10
+    → (r ≡ at + length (title f)) × (mid ≡ sets out at (title f)) → into ≡ mid → m ≡ r
+    → Writes out at (title e) into m × (m ≤ at + 10)
+titled {f = f} told short put same ends =
+    (rw (told, same, ends) (writes-text (title f) put), omega (arith, put .0))
 
-put-text-requires : tie.Need-put-text-requires
-put-text-requires c κs = search needs
+titled-at : (c : tie.At-match-came)
+    → let a = c .before .before .args in
+    Writes (a .out .now) (a .at) (title (a .e)) (c .match .out) (c .match .a) × (c .match .a ≤ a .at + 10)
+titled-at c =
+    ⊎-elim (λ w. titled (w .1 .given .1) (omega arith) (w .4 .ensures) (w .7) (w .8))
+    (⊎-elim (λ w. titled (w .1 .given .1) (omega arith) (w .4 .ensures) (w .7) (w .8))
+    (λ w. titled (w .1 .given .1) (omega arith) (w .4 .ensures) (w .7) (w .8))) (c .match .came)
 
 put-number-requires : tie.Need-put-number-requires
-put-number-requires c κs = search needs
-
-enum-told-2 : tie.Need-enum-told-2
-enum-told-2 c = search needs
-
-slice-aggregate-put-text-2 : tie.Need-slice-aggregate-put-text-2
-slice-aggregate-put-text-2 c = search needs
-
-put-text-requires-2 : tie.Need-put-text-requires-2
-put-text-requires-2 c κs = search needs
-
-put-number-requires-2 : tie.Need-put-number-requires-2
-put-number-requires-2 c κs = search needs
-
-enum-told-3 : tie.Need-enum-told-3
-enum-told-3 c = search needs
-
-slice-aggregate-put-text-3 : tie.Need-slice-aggregate-put-text-3
-slice-aggregate-put-text-3 c = search needs
-
-put-text-requires-3 : tie.Need-put-text-requires-3
-put-text-requires-3 c κs = search needs
-
-put-number-requires-3 : tie.Need-put-number-requires-3
-put-number-requires-3 c κs = search needs
+put-number-requires c κs =
+    let p = titled-at (c .before) in
+    omega (arith, writes-length (p .0), p .1)
 
 same-length : tie.Need-same-length
-same-length c = search needs
+same-length c = c .before .before .put-number .kept .0 ∙ writes-length (titled-at (c .before .before .before .before) .0)
 
 returns : tie.Need-returns
 returns c =
-    let p = c .before .before .before .before .before .before .put-text .ensures in
+    let p = titled-at (c .before .before .before .before) in
     let q = c .before .before .put-number .ensures in
-    let told = c .before .before .before .before .before .before .before .before .before .enum-told .given .1 in
-    (writes-end _ told (writes-text _ p) (q .0), omega (arith, p .0, q .1))
-
-same-length-2 : tie.Need-same-length-2
-same-length-2 c = search needs
-
-returns-2 : tie.Need-returns-2
-returns-2 c =
-    let p = c .before .before .before .before .before .before .put-text2 .ensures in
-    let q = c .before .before .put-number2 .ensures in
-    let told = c .before .before .before .before .before .before .before .before .before .enum-told2 .given .1 in
-    (writes-end _ told (writes-text _ p) (q .0), omega (arith, p .0, q .1))
-
-same-length-3 : tie.Need-same-length-3
-same-length-3 c = search needs
-
-returns-3 : tie.Need-returns-3
-returns-3 c =
-    let p = c .before .before .before .before .before .before .put-text3 .ensures in
-    let q = c .before .before .put-number3 .ensures in
-    let told = c .before .before .before .before .before .before .before .before .before .enum-told3 .given .1 in
-    (writes-end _ told (writes-text _ p) (q .0), omega (arith, p .0, q .1))
+    (writes-then (p .0) (q .0), omega (arith, p .1, q .1))
 
 pub put-end-spec : {M : Type 1} → statement M
 put-end-spec =
     tie.close
-    (tie.spec
-    enum-told
-    slice-aggregate-put-text
-    put-text-requires
-    put-number-requires
-    enum-told-2
-    slice-aggregate-put-text-2
-    put-text-requires-2
-    put-number-requires-2
-    enum-told-3
-    slice-aggregate-put-text-3
-    put-text-requires-3
-    put-number-requires-3
-    same-length
-    returns
-    same-length-2
-    returns-2
-    same-length-3
-    returns-3)
+    (tie.spec (search needs) (search needs) (search needs) (search needs) (search needs) (search needs) (search needs)
+    (search needs) (search needs) put-number-requires same-length returns)

@@ -14,17 +14,11 @@ short-at c =
     let p = c .before .before .put-decimal in
     number-short (a .out .now) (a .at) (a .n) (a .after) (p .last .0) (p .result) (p .ensures) (omega arith)
 
-put-decimal-requires : tie.Need-put-decimal-requires
-put-decimal-requires c κs = search needs
-
 slice-write-out : tie.Need-slice-write-out
 slice-write-out c = omega (arith, short-at c)
 
 add-result : tie.Need-add-result
 add-result c = omega (arith, short-at c)
-
-same-length : tie.Need-same-length
-same-length c = search needs
 
 returns : tie.Need-returns
 returns c =
@@ -34,4 +28,4 @@ returns c =
 
 pub put-number-spec : {M : Type 1} → statement M
 put-number-spec =
-    tie.close (tie.spec put-decimal-requires slice-write-out add-result same-length returns)
+    tie.close (tie.spec (search needs) slice-write-out add-result (λ c. search needs) returns)

@@ -1,6 +1,6 @@
 -- `script_reading::found_on` meets its contract: the line feed of a whole line stands inside the text (inside-at).
 -- Assumes nothing.
-use mathlib.Core.Path.{sym, ap, _∙_}
+use mathlib.Core.Path.{_∙_}
 use native.Mathlib.Omega.{arith}
 use Prim.Native.Nat.{_<_}
 use lib.ListN.{length}
@@ -14,46 +14,21 @@ inside-at : (c : tie.After-known-told)
     → c .before .line .given .0 .1 .0 < length (c .before .before .before .before .args .s .now)
 inside-at c = c .before .before .before .before .pre _ _ (c .before .line .given .1)
 
-enum-told : tie.Need-enum-told
-enum-told c = search needs
-
-enum-told-2 : tie.Need-enum-told-2
-enum-told-2 c = search needs
-
-enum-known-line : tie.Need-enum-known-line
-enum-known-line c = search needs
-
 read-item-requires : tie.Need-read-item-requires
 read-item-requires c κs = omega (arith, inside-at c)
 
 add-take-four : tie.Need-add-take-four
 add-take-four c = omega (arith, inside-at (c .before))
 
-take-four-requires : tie.Need-take-four-requires
-take-four-requires c κs = search needs
-
-returns : tie.Need-returns
-returns c = search needs
-
-returns-2 : tie.Need-returns-2
-returns-2 c = search needs
-
 returns-3 : tie.Need-returns-3
 returns-3 c =
     let a = c .before .before .before .before .before .before .args in
     c .take-four .ensures
-    ∙ found-whole (a .first) (a .s .now) (a .line) _ _ _ (c .before .before .before .line .given .1) (c .before .read-item .ensures)
+    ∙ found-whole (a .first) (a .s .now) (a .line) _ _ _ (c .before .before .before .line .given .1)
+    (c .before .read-item .ensures)
 
 pub found-on-spec : {M : Type 1} → statement M
 found-on-spec =
     tie.close
-    (tie.spec
-    enum-told
-    enum-told-2
-    enum-known-line
-    read-item-requires
-    add-take-four
-    take-four-requires
-    returns
-    returns-2
-    returns-3)
+    (tie.spec (search needs) (search needs) (search needs) read-item-requires add-take-four (search needs)
+    (λ c. search needs) (λ c. search needs) returns-3)

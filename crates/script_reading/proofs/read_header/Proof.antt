@@ -1,15 +1,12 @@
--- `script_reading::read_header` meets its contract: the line found is the text's at its place, and a whole line's feed stands inside.
--- Assumes nothing.
+-- `script_reading::read_header` meets its contract: the line found is the text's at its place, and a whole line's feed stands
+-- inside. Assumes nothing.
 use mathlib.Core.Path.{sym, ap, _∙_}
-use mathlib.Core.Bool.{true, false}
+use mathlib.Core.Bool.{true}
 use borrow.Author.Needs.{needs}
 use Rattle.script_model.specs.computed.Parts.{foundBy}
 use Rattle.script_model.proofs.Founds.{line-inside}
 use Rattle.script_reading.proofs.read_header.Statement.{statement}
 use Rattle.script_reading.proofs.read_header.Tie as tie
-
-first-line-requires : tie.Need-first-line-requires
-first-line-requires c κs = search needs
 
 found-on-requires : tie.Need-found-on-requires
 found-on-requires c κs from to e =
@@ -21,4 +18,4 @@ returns c =
     ∙ ap (foundBy true (c .before .before .before .args .s .now)) (c .before .first-line .ensures)
 
 pub read-header-spec : {M : Type 1} → statement M
-read-header-spec = tie.close (tie.spec first-line-requires found-on-requires returns)
+read-header-spec = tie.close (tie.spec (search needs) found-on-requires returns)

@@ -15,41 +15,17 @@ returns c =
     let a = start .args in
     said-nothing (a .s .now) (a .from) (a .to) (start .pre) (c .if1 .taken)
 
-shared-slice-read-b : tie.Need-shared-slice-read-b
-shared-slice-read-b c = search needs
-
-sub-if2 : tie.Need-sub-if2
-sub-if2 c = search needs
-
-say-alone-requires : tie.Need-say-alone-requires
-say-alone-requires c κs = search needs
-
 returns-2 : tie.Need-returns-2
 returns-2 c =
     let start = c .before .before .before .before .before in
     let a = start .args in
     c .say-alone .ensures ∙ said-alone (a .s .now) (a .from) (a .to) (start .pre) (omega arith)
 
-add-if3 : tie.Need-add-if3
-add-if3 c = search needs
-
-shared-slice-read-if3 : tie.Need-shared-slice-read-if3
-shared-slice-read-if3 c = search needs
-
 returns-3 : tie.Need-returns-3
 returns-3 c =
     let start = c .before .before .before .before .before .before in
     let a = start .args in
     said-unparted (a .s .now) (a .from) (a .to) (start .pre) (omega arith) (c .if3 .taken)
-
-add-read-fields : tie.Need-add-read-fields
-add-read-fields c = search needs
-
-read-fields-requires : tie.Need-read-fields-requires
-read-fields-requires c κs = search needs
-
-say-fields-requires : tie.Need-say-fields-requires
-say-fields-requires c κs = search needs
 
 returns-4 : tie.Need-returns-4
 returns-4 c =
@@ -62,16 +38,5 @@ returns-4 c =
 pub read-item-spec : {M : Type 1} → statement M
 read-item-spec =
     tie.close
-    (tie.spec
-    returns
-    shared-slice-read-b
-    sub-if2
-    say-alone-requires
-    returns-2
-    add-if3
-    shared-slice-read-if3
-    returns-3
-    add-read-fields
-    read-fields-requires
-    say-fields-requires
-    returns-4)
+    (tie.spec returns (search needs) (search needs) (search needs) returns-2 (search needs) (search needs) returns-3
+    (search needs) (search needs) (search needs) returns-4)

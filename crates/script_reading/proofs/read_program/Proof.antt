@@ -30,12 +30,6 @@ loop-holds c =
     let start = c .before .before in
     (refl, reading-all (start .args .s .now) (start .args .program .now) (start .args .from) (start .pre))
 
-find-operation-requires : tie.Need-find-operation-requires Inv-loop μ-loop
-find-operation-requires c κs = search needs
-
-enum-told : tie.Need-enum-told Inv-loop μ-loop
-enum-told c = search needs
-
 same-length : tie.Need-same-length Inv-loop μ-loop
 same-length c = c .before .before .before .before .loop .inv .0
 
@@ -43,9 +37,6 @@ returns : tie.Need-returns Inv-loop μ-loop
 returns c =
     let nothing = sym (c .before .before .find-operation .ensures) ∙ c .enum-told .given .1 in
     reading-stops _ _ _ _ _ _ _ (c .before .before .before .before .loop .inv .1) nothing
-
-enum-known-found : tie.Need-enum-known-found Inv-loop μ-loop
-enum-known-found c = search needs
 
 put-four-requires : tie.Need-put-four-requires Inv-loop μ-loop
 put-four-requires c κs = room-at (c .before .before .before .before .before)
@@ -83,19 +74,5 @@ returns-2 c = reading-ends _ _ _ _ _ _ _ (c .before .loop .inv .1) (omega (arith
 pub read-program-spec : {M : Type 1} → statement M
 read-program-spec =
     tie.close
-    (tie.spec
-    Inv-loop
-    μ-loop
-    loop-holds
-    find-operation-requires
-    enum-told
-    same-length
-    returns
-    enum-known-found
-    put-four-requires
-    add-used
-    add-line
-    loop-less
-    loop-again
-    same-length-2
-    returns-2)
+    (tie.spec Inv-loop μ-loop loop-holds (search needs) (search needs) same-length returns (search needs)
+    put-four-requires add-used add-line loop-less loop-again same-length-2 returns-2)

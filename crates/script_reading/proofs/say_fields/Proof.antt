@@ -1,104 +1,53 @@
 -- `script_reading::say_fields` meets its contract: script_model/proofs/Items.antt has what a line with so many numbers
 -- says. Assumes nothing.
+use mathlib.Core.Bool.{Bool, true, false, cond, _&&_}
+use mathlib.Core.List.{List}
+use mathlib.Core.Path.{_≡_, refl}
+use Prim.Native.Nat.{ℕ, _≤_}
+use lib.Dec.{eqb}
+use lib.ListN.{length, getD}
 use borrow.Author.Needs.{needs}
-use borrow.Author.Tests.{not-true, not-false}
-use Rattle.script_model.proofs.Items.{no-numbers, one-number, three-numbers, four-numbers, wrong-numbers}
+use borrow.Author.Tests.{eqb-true, eqb-false}
+use Rattle.script_model.specs.declared.Item.{Item}
+use Rattle.script_model.specs.declared.Item.the-variants.{Malformed}
+use Rattle.script_model.specs.Language.{withOne, withThree, withFour}
+use Rattle.script_model.proofs.Items.{heard, no-numbers, one-number, three-numbers, four-numbers, wrong-numbers}
 use Rattle.script_reading.proofs.say_fields.Statement.{statement}
 use Rattle.script_reading.proofs.say_fields.Tie as tie
 
+-- the item of the test that holds
+abbrev chosen : ℕ → List ℕ → Bool → Bool → Bool → Item
+chosen b vs one three four =
+    cond one (withOne b (getD vs 0 0))
+    (cond three (withThree b (getD vs 0 0) (getD vs 1 0) (getD vs 2 0))
+    (cond four (withFour b (getD vs 0 0) (getD vs 1 0) (getD vs 2 0) (getD vs 3 0)) Malformed))
+
+said : (b : ℕ) (good : Bool) (count : ℕ) (vs : List ℕ) → length vs ≡ 64 → count ≤ 64
+    → chosen b vs (good && eqb count 1) (good && eqb count 3) (good && eqb count 4) ≡ heard b good count vs
+said b false count vs long h = no-numbers b false count vs refl
+said b true count vs long h = go (eqb count 1) (eqb count 3) (eqb count 4) refl refl refl
+  where
+    go : (p q r : Bool) → eqb count 1 ≡ p → eqb count 3 ≡ q → eqb count 4 ≡ r → chosen b vs p q r ≡ heard b true count vs
+    go true q r e f g = one-number b true count vs refl long (eqb-true count 1 e)
+    go false true r e f g = three-numbers b true count vs refl long (eqb-true count 3 f)
+    go false false true e f g = four-numbers b true count vs refl long (eqb-true count 4 g)
+    go false false false e f g =
+        wrong-numbers b true count vs refl long h (eqb-false count 1 e) (eqb-false count 3 f) (eqb-false count 4 g)
+
 returns : tie.Need-returns
 returns c =
-    let n = c .before .args .t2 in
-    no-numbers (c .before .args .b) (n .good) (n .count) (n .values) (not-true (n .good) (c .if1 .taken))
-
-element-copy-out-say-one : tie.Need-element-copy-out-say-one
-element-copy-out-say-one c = search needs
-
-say-one-requires : tie.Need-say-one-requires
-say-one-requires c κs = search needs
-
-returns-2 : tie.Need-returns-2
-returns-2 c =
-    let taken = c .before .before in
-    let start = taken .before .before in
+    let start = c .before .before .before .before .before .before .before .before in
     let n = start .args .t2 in
-    rw (c .say-one .ensures)
-    (one-number (start .args .b) (n .good) (n .count) (n .values)
-    (not-false (n .good) (taken .before .if1 .left))
-    (search needs) (taken .if2 .taken))
-
-element-copy-out-say-three : tie.Need-element-copy-out-say-three
-element-copy-out-say-three c = search needs
-
-element-copy-out-say-three-2 : tie.Need-element-copy-out-say-three-2
-element-copy-out-say-three-2 c = search needs
-
-element-copy-out-say-three-3 : tie.Need-element-copy-out-say-three-3
-element-copy-out-say-three-3 c = search needs
-
-say-three-requires : tie.Need-say-three-requires
-say-three-requires c κs = search needs
-
-returns-3 : tie.Need-returns-3
-returns-3 c =
-    let taken = c .before .before .before .before in
-    let start = taken .before .before .before in
-    let n = start .args .t2 in
-    rw (c .say-three .ensures)
-    (three-numbers (start .args .b) (n .good) (n .count) (n .values)
-    (not-false (n .good) (taken .before .before .if1 .left))
-    (search needs) (taken .if3 .taken))
-
-element-copy-out-say-four : tie.Need-element-copy-out-say-four
-element-copy-out-say-four c = search needs
-
-element-copy-out-say-four-2 : tie.Need-element-copy-out-say-four-2
-element-copy-out-say-four-2 c = search needs
-
-element-copy-out-say-four-3 : tie.Need-element-copy-out-say-four-3
-element-copy-out-say-four-3 c = search needs
-
-element-copy-out-say-four-4 : tie.Need-element-copy-out-say-four-4
-element-copy-out-say-four-4 c = search needs
-
-say-four-requires : tie.Need-say-four-requires
-say-four-requires c κs = search needs
-
-returns-4 : tie.Need-returns-4
-returns-4 c =
-    let taken = c .before .before .before .before .before in
-    let start = taken .before .before .before .before in
-    let n = start .args .t2 in
-    rw (c .say-four .ensures)
-    (four-numbers (start .args .b) (n .good) (n .count) (n .values)
-    (not-false (n .good) (taken .before .before .before .if1 .left))
-    (search needs) (taken .if4 .taken))
-
-returns-5 : tie.Need-returns-5
-returns-5 c =
-    let start = c .before .before .before .before in
-    let n = start .args .t2 in
-    wrong-numbers (start .args .b) (n .good) (n .count) (n .values)
-    (not-false (n .good) (c .before .before .before .if1 .left))
-    (search needs) (start .pre) (c .before .before .if2 .left) (c .before .if3 .left) (c .if4 .left)
+    rw (
+      c .choose .ensures,
+      c .before .before .before .before .say-one .ensures,
+      c .before .before .before .say-three .ensures,
+      c .before .say-four .ensures,
+    )
+    (said (start .args .b) (n .good) (n .count) (n .values) (search needs) (start .pre))
 
 pub say-fields-spec : {M : Type 1} → statement M
 say-fields-spec =
     tie.close
-    (tie.spec
-    returns
-    element-copy-out-say-one
-    say-one-requires
-    returns-2
-    element-copy-out-say-three
-    element-copy-out-say-three-2
-    element-copy-out-say-three-3
-    say-three-requires
-    returns-3
-    element-copy-out-say-four
-    element-copy-out-say-four-2
-    element-copy-out-say-four-3
-    element-copy-out-say-four-4
-    say-four-requires
-    returns-4
-    returns-5)
+    (tie.spec (search needs) (search needs) (search needs) (search needs) (search needs) (search needs) (search needs)
+    (search needs) returns)

@@ -10,18 +10,6 @@ use Rattle.script_reading.proofs.words_of.Tie as tie
 returns : tie.Need-returns
 returns c = (words-long (c .before .before .args .s .now) (omega arith), omega arith)
 
-read-header-requires : tie.Need-read-header-requires
-read-header-requires c κs = search needs
-
-enum-told : tie.Need-enum-told
-enum-told c = search needs
-
-enum-known-header : tie.Need-enum-known-header
-enum-known-header c = search needs
-
-cast-result : tie.Need-cast-result
-cast-result c = search needs
-
 returns-2 : tie.Need-returns-2
 returns-2 c =
     let none = sym (c .before .before .read-header .ensures) ∙ c .enum-told .given .1 in
@@ -35,11 +23,4 @@ returns-3 c =
 pub words-of-spec : {M : Type 1} → statement M
 words-of-spec =
     tie.close
-    (tie.spec
-    returns
-    read-header-requires
-    enum-told
-    enum-known-header
-    cast-result
-    returns-2
-    returns-3)
+    (tie.spec returns (search needs) (search needs) (search needs) (search needs) returns-2 returns-3)

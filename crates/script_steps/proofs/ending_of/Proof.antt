@@ -28,29 +28,11 @@ returns c = sym (ending-done (c .before .before .before .before .args .m) (searc
 returns-2 : tie.Need-returns-2
 returns-2 c = sym (ending-open (c .before .before .before .before .args .m) (search needs) (search needs))
 
-first-stage-requires : tie.Need-first-stage-requires
-first-stage-requires c κs = search needs
-
 returns-3 : tie.Need-returns-3
 returns-3 c =
     let staged = c .before in
     sym (ending-past (staged .before .before .before .args .m) _ (live-at (staged .before)) (staged .first-stage .ensures)
     (omega (arith, c .if3 .taken, window-length (staged .before .before .before))))
-
-mul-e : tie.Need-mul-e
-mul-e c = search needs
-
-array-copy-out-e : tie.Need-array-copy-out-e
-array-copy-out-e c = search needs
-
-entry-kind-requires : tie.Need-entry-kind-requires
-entry-kind-requires c κs = search needs
-
-entry-place-requires : tie.Need-entry-place-requires
-entry-place-requires c κs = search needs
-
-outside-requires : tie.Need-outside-requires
-outside-requires c κs = search needs
 
 -- what the test of the entry says
 told-at : (t : Bool) (c : tie.After-outside) → c .outside .result ≡ t
@@ -74,14 +56,5 @@ pub ending-of-spec : {M : Type 1} → statement M
 ending-of-spec =
     tie.close
     (tie.spec
-    returns
-    returns-2
-    first-stage-requires
-    returns-3
-    mul-e
-    array-copy-out-e
-    entry-kind-requires
-    entry-place-requires
-    outside-requires
-    returns-4
-    returns-5)
+    returns returns-2 (λ c κs. search needs) returns-3 (λ c. search needs) (λ c. search needs) (λ c κs. search needs)
+    (λ c κs. search needs) (λ c κs. search needs) returns-4 returns-5)

@@ -5,22 +5,10 @@ use borrow.Author.Needs.{needs}
 use Rattle.script_steps.proofs.put_word_at.Statement.{statement}
 use Rattle.script_steps.proofs.put_word_at.Tie as tie
 
-mul-v : tie.Need-mul-v
-mul-v c = search needs
-
-shared-slice-read-v : tie.Need-shared-slice-read-v
-shared-slice-read-v c = search needs
-
 returns : tie.Need-returns
 returns c =
     let a = c .before .before .before .before .args in
     (zero-written (a .memory .now) (a .a) _ _ (c .if1 .taken), omega arith)
-
-put-word-requires : tie.Need-put-word-requires
-put-word-requires c κs = search needs
-
-same-length : tie.Need-same-length
-same-length c = search needs
 
 returns-2 : tie.Need-returns-2
 returns-2 c =
@@ -30,4 +18,6 @@ returns-2 c =
 
 pub put-word-at-spec : {M : Type 1} → statement M
 put-word-at-spec =
-    tie.close (tie.spec mul-v shared-slice-read-v returns put-word-requires same-length returns-2)
+    tie.close
+    (tie.spec
+    (λ c. search needs) (λ c. search needs) returns (λ c κs. search needs) (λ c. search needs) returns-2)

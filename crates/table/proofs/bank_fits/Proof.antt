@@ -2,8 +2,7 @@
 -- the set of the stages that they and the rows before the bank mark, which the next row's test asks for. The measure is
 -- the number of rows left. Assumes nothing.
 use mathlib.Core.Path.{_≡_, refl, ap, _∙_}
-use mathlib.Core.Bool.{Bool}
-use Prim.Native.Nat.{ℕ, _+_, _*_, _-_, _≤_}
+use Prim.Native.Nat.{_+_, _*_, _-_, _≤_}
 use native.Mathlib.Omega.{arith}
 use Rattle.marks.specs.Counting.{every}
 use Rattle.marks.proofs.Counts.{every-next}
@@ -25,45 +24,12 @@ loop-holds : tie.Need-loop-holds Inv-loop μ-loop
 unfolding every
 loop-holds c = (omega arith, refl, c .pre .0 .2 ∙ ap (marksBelow _ _) (omega arith))
 
-mul-r : tie.Need-mul-r Inv-loop μ-loop
-mul-r c = omega arith
-
-add-r : tie.Need-add-r Inv-loop μ-loop
-add-r c = omega arith
-
-row-fits-requires : tie.Need-row-fits-requires Inv-loop μ-loop
-row-fits-requires c κs = omega arith
-
-mul-marked : tie.Need-mul-marked Inv-loop μ-loop
-mul-marked c = omega arith
-
-element-copy-out-marked : tie.Need-element-copy-out-marked Inv-loop μ-loop
-element-copy-out-marked c = omega arith
-
-mul-marked-2 : tie.Need-mul-marked-2 Inv-loop μ-loop
-mul-marked-2 c = omega arith
-
-element-copy-out-marked-2 : tie.Need-element-copy-out-marked-2 Inv-loop μ-loop
-element-copy-out-marked-2 c = omega arith
-
-add-i : tie.Need-add-i Inv-loop μ-loop
-add-i c = omega arith
-
-loop-less : tie.Need-loop-less Inv-loop μ-loop
-loop-less c = omega arith
-
 loop-again : tie.Need-loop-again Inv-loop μ-loop
 loop-again c =
-    let at = c .before .before .before .before .loop in
-    let args = c .before .before .before .before .before .args in
-    let loads = args .loads .now in
-    let stores = args .stores .now in
-    let r = args .b * rowsMost + at .i in
-    let fits = rowFits (args .banks) (args .rows) (args .allowed) (args .addresses .now) loads stores in
-    let test : ℕ → Bool = λ k. fits (args .b * rowsMost + k) in (
+    let inv = c .before .before .before .loop .inv in (
       omega arith,
-      every-next test (at .i) (at .inv .1) (c .before .before .row-fits .ensures),
-      marks-next loads stores r (at .inv .2) refl ∙ ap (marksBelow loads stores) (omega arith),
+      every-next _ _ (inv .1) (c .before .row-fits .ensures),
+      marks-next _ _ _ (inv .2) (c .marks-in .ensures) ∙ ap (marksBelow _ _) (omega arith),
     )
 
 returns : tie.Need-returns Inv-loop μ-loop
@@ -72,18 +38,5 @@ returns c = c .before .loop .inv .1 ∙ ap (every _) (omega arith)
 pub bank-fits-spec : {M : Type 1} → statement M
 bank-fits-spec =
     tie.close
-    (tie.spec
-    Inv-loop
-    μ-loop
-    loop-holds
-    mul-r
-    add-r
-    row-fits-requires
-    mul-marked
-    element-copy-out-marked
-    mul-marked-2
-    element-copy-out-marked-2
-    add-i
-    loop-less
-    loop-again
-    returns)
+    (tie.spec Inv-loop μ-loop loop-holds (λ c. omega arith) (λ c. omega arith) (λ c κs. omega arith)
+    (λ c κs. omega arith) (λ c. omega arith) (λ c. omega arith) loop-again returns)

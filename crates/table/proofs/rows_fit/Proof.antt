@@ -26,18 +26,6 @@ loop-holds : tie.Need-loop-holds Inv-loop μ-loop
 unfolding every marksBelow
 loop-holds c = (omega arith, refl, refl)
 
-bank-marks-requires : tie.Need-bank-marks-requires Inv-loop μ-loop
-bank-marks-requires c κs = omega arith
-
-bank-fits-requires : tie.Need-bank-fits-requires Inv-loop μ-loop
-bank-fits-requires c κs = omega arith
-
-add-b : tie.Need-add-b Inv-loop μ-loop
-add-b c = omega arith
-
-loop-less : tie.Need-loop-less Inv-loop μ-loop
-loop-less c = omega arith
-
 loop-again : tie.Need-loop-again Inv-loop μ-loop
 loop-again c =
     let at = c .before .before .before .loop in
@@ -47,7 +35,7 @@ loop-again c =
     let test = rowFits (args .banks) (args .rows) (args .allowed) (args .addresses .now) loads stores in
     let first = at .b * rowsMost in
     let next : first + rowsMost ≡ (at .b + 1) * rowsMost = omega arith in
-    let used = c .before .bank-marks .ensures in
+    let used = c .before .marks-from .ensures in
     let bank : c .if1 .fit ≡ every test (first + rowsMost) =
     ⊎-elim
     (λ w.
@@ -65,13 +53,5 @@ returns c = c .before .loop .inv .1 ∙ ap (every _) (omega arith)
 pub rows-fit-spec : {M : Type 1} → statement M
 rows-fit-spec =
     tie.close
-    (tie.spec
-    Inv-loop
-    μ-loop
-    loop-holds
-    bank-marks-requires
-    bank-fits-requires
-    add-b
-    loop-less
-    loop-again
-    returns)
+    (tie.spec Inv-loop μ-loop loop-holds (λ c. omega arith) (λ c κs. omega arith) (λ c κs. omega arith)
+    (λ c. omega arith) (λ c. omega arith) loop-again returns)

@@ -18,9 +18,6 @@ returns c =
     let b : n .begun ≡ false = not-true (n .begun) (c .if1 .taken) in
     first-digit (n .count) (n .values) long (n .good) (n .begun) (n .current) (start .args .d) b (start .pre)
 
-takes-digit-requires : tie.Need-takes-digit-requires
-takes-digit-requires c κs = search needs
-
 mul-m : tie.Need-mul-m
 mul-m c =
     let a = c .before .before .before .before .args in
@@ -40,9 +37,6 @@ returns-2 c =
     next-digit (n .count) (n .values) long (n .good) (n .begun) (n .current) (start .args .d) b (start .pre)
     (sym (c .before .takes-digit .ensures) ∙ c .if2 .taken)
 
-spoiled-requires : tie.Need-spoiled-requires
-spoiled-requires c κs = search needs
-
 returns-3 : tie.Need-returns-3
 returns-3 c =
     let start = c .before .before .before .before .before in
@@ -56,4 +50,4 @@ returns-3 c =
 pub add-digit-spec : {M : Type 1} → statement M
 add-digit-spec =
     tie.close
-    (tie.spec returns takes-digit-requires mul-m add-m returns-2 spoiled-requires returns-3)
+    (tie.spec returns (search needs) mul-m add-m returns-2 (search needs) returns-3)

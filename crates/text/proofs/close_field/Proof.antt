@@ -11,23 +11,11 @@ use borrow.Author.Needs.{needs}
 use Rattle.text.proofs.close_field.Statement.{statement}
 use Rattle.text.proofs.close_field.Tie as tie
 
-spoiled-requires : tie.Need-spoiled-requires
-spoiled-requires c κs = search needs
-
 returns : tie.Need-returns
 returns c =
     let n = c .before .before .args .n in
     c .spoiled .ensures
     ∙ no-field (n .good) (n .begun) (n .count) (n .current) (n .values) (not-true (n .begun) (c .before .if1 .taken))
-
-mul-m : tie.Need-mul-m
-mul-m c = search needs
-
-element-write-m : tie.Need-element-write-m
-element-write-m c = search needs
-
-add-m : tie.Need-add-m
-add-m c = search needs
 
 returns-2 : tie.Need-returns-2
 returns-2 c =
@@ -35,9 +23,6 @@ returns-2 c =
     let long : length (n .values) ≡ 64 = search needs in
     let b : n .begun ≡ true = not-false (n .begun) (c .before .if1 .left) in
     next-field (n .count) (n .values) long (n .good) (n .begun) (n .current) b (c .if2 .taken)
-
-spoiled-requires-2 : tie.Need-spoiled-requires-2
-spoiled-requires-2 c κs = search needs
 
 returns-3 : tie.Need-returns-3
 returns-3 c =
@@ -50,12 +35,4 @@ returns-3 c =
 pub close-field-spec : {M : Type 1} → statement M
 close-field-spec =
     tie.close
-    (tie.spec
-    spoiled-requires
-    returns
-    mul-m
-    element-write-m
-    add-m
-    returns-2
-    spoiled-requires-2
-    returns-3)
+    (tie.spec (search needs) returns (search needs) (search needs) (search needs) returns-2 (search needs) returns-3)

@@ -8,15 +8,6 @@ use borrow.Author.Needs.{needs}
 use Rattle.text.proofs.finish_line.Statement.{statement}
 use Rattle.text.proofs.finish_line.Tie as tie
 
-mul-m : tie.Need-mul-m
-mul-m c = search needs
-
-element-write-m : tie.Need-element-write-m
-element-write-m c = search needs
-
-add-m : tie.Need-add-m
-add-m c = search needs
-
 returns : tie.Need-returns
 returns c =
     let n = c .before .before .before .args .n in
@@ -35,9 +26,6 @@ returns-3 c =
     let n = c .before .before .args .n in
     (no-last (n .good) (n .begun) (n .count) (n .current) (n .values) (c .if2 .left), omega arith)
 
-returns-4 : tie.Need-returns-4
-returns-4 c = search needs
-
 pub finish-line-spec : {M : Type 1} → statement M
 finish-line-spec =
-    tie.close (tie.spec mul-m element-write-m add-m returns returns-2 returns-3 returns-4)
+    tie.close (tie.spec (search needs) (search needs) (search needs) returns returns-2 returns-3 (λ c. search needs))

@@ -15,14 +15,13 @@ use prog.Memory.{Memory}
 use prog.Routine.{Routine}
 use prog.Wp.{Heap, Calls, Loops, WpFn}
 use ghost.Atoms.{Atoms}
-use contract.Lifetimes.{Lfts}
 use contract.Monad.{Fun}
 use contract.Running.{givenOf, tables}
 use types.Kit.{Given, ‵, _⊛_, _$_, _∵_, !, qed, by, move, use1, split, fsplit, fjoin, suffices, frame}
 use types.Part.{whole, sub, look-in, agg}
 use types.Run.{look, init, forget, stop, fld, from, load, of-opd, and-then, no-more, assigns, returns, enter, alloc1}
 use types.Run.{alloc0, params1, pass1, pass0, free1, free0}
-use denote.RattleType.{RattleType, owns}
+use denote.RattleType.{owns}
 use denote.Laws.{Is}
 use denote.Plain.{uint-vals, uint-tells, uint-makes}
 use denote.Builtin.{usize}
@@ -36,18 +35,14 @@ use denote.Exit.{yes}
 use Rattle.text.specs.declared.LineReader.{LineReader}
 use Rattle.text.proofs.LineReader as T
 use Rattle.text.proofs.LineReader.Laws as T′
-use Rattle.text.proofs.Walks.{walk-entered}
+use Rattle.text.proofs.Walks.{Reader, walk-entered}
 use Rattle.text.proofs.moved.Key.{name as #text·moved}
 use Rattle.text.proofs.moved as moved
 use Rattle.text.proofs.moved.Statement as stated
 use Rattle.text.proofs.moved.Code as code
 
--- the struct's type, over the signature's lifetimes
-abbrev B : Lfts 1 → RattleType
-B κs = T.the-row (namedLft 1 0 tt κs)
-
 abbrev stayed : Stays (moved.ended .signature .params) (moved.ended .kept)
-stayed = (stay-none B yes, (stay-none (λ _. usize) yes, tt))
+stayed = (stay-none Reader yes, (stay-none (λ _. usize) yes, tt))
 
 module _ {M : Type 1} (𝓤 : URA M) (H : Heap 𝓤) (A : Atoms 𝓤) (W : Given 𝓤 H A) (mem : Memory → SProp 𝓤)
     (run : Routine → Fun 𝓤) (κ : Lft) (q : Share) (d : LineReader) (n : ℕ) (ok : n < 2 ^ 64) where
@@ -65,11 +60,11 @@ module _ {M : Type 1} (𝓤 : URA M) (H : Heap 𝓤) (A : Atoms 𝓤) (W : Given
       (((κ, tt), (q, tt), tt, (d, (n, tt)), at), tt)
 
   abbrev Own : Fml
-  Own = B (κ, tt) .own d (mach ∷ [])
+  Own = Reader (κ, tt) .own d (mach ∷ [])
 
   exits : ent 𝓤 (onEntry 𝓤 H A moved.signature (κ, tt) (q, tt) (d, (n, tt)) at) (Post (T′.lowered d′))
   exits =
-      qed W ((‵ (flft κ q) ⊛ ‵ ftrue) ∷ ‵ (owns (B (κ, tt) ∷ usize ∷ []) (d, (n, tt)) at) ∷ []) ∵
+      qed W ((‵ (flft κ q) ⊛ ‵ ftrue) ∷ ‵ (owns (Reader (κ, tt) ∷ usize ∷ []) (d, (n, tt)) at) ∷ []) ∵
       suffices ! _ (ends-at 𝓤 H A moved.ended stayed (moved.clauses 𝓤 H A mem run)
       W (((κ, tt), (q, tt), tt, (d, (n, tt)), at), tt) (T′.lowered d′) d′ (tt, (tt, tt)) (tt, (tt, tt))) $
       says ! (refl, refl) $
@@ -86,7 +81,7 @@ module _ {M : Type 1} (𝓤 : URA M) (H : Heap 𝓤) (A : Atoms 𝓤) (W : Given
         (onEntry 𝓤 H A moved.signature (κ, tt) (q, tt) (d, (n, tt)) at)
         (WpFn 𝓤 H C Λ code.function (mach ∷ vint w64 n ∷ []) Post)
     walk wt =
-        qed W ((‵ (flft κ q) ⊛ ‵ ftrue) ∷ ‵ (owns (B (κ, tt) ∷ usize ∷ []) (d, (n, tt)) at) ∷ []) ∵
+        qed W ((‵ (flft κ q) ⊛ ‵ ftrue) ∷ ‵ (owns (Reader (κ, tt) ∷ usize ∷ []) (d, (n, tt)) at) ∷ []) ∵
         enter ! C Λ code.function (mach ∷ vint w64 n ∷ []) _ $
         alloc1 ! (λ l₀. alloc1 ! (λ l₁. alloc1 ! (λ l₂. alloc1 ! (λ l₃. alloc0 ! $ params1 ! $
         pass1 ! (init ! 4 refl wt) $ pass1 ! (init ! 2 refl (tt, record { fits = ok })) $ pass0 ! $
@@ -117,6 +112,6 @@ moved-spec 𝓤 H 𝓜 𝓖 𝓡 =
     let W = givenOf 𝓤 H 𝓜 𝓖 in
     let own = tables 𝓤 H 𝓜 𝓡 code.env in
     walk-entered 𝓤 H 𝓜 𝓖 𝓡 moved.ended stayed
-    (goes-none 𝓤 H A W 1 B yes (λ κs x f. refl), (goes-none 𝓤 H A W 1 (λ _. usize) yes (λ κs x f. refl), tt))
+    (goes-none 𝓤 H A W 1 Reader yes (λ κs x f. refl), (goes-none 𝓤 H A W 1 (λ _. usize) yes (λ κs x f. refl), tt))
     (moved.clauses 𝓤 H A (𝓜 .mem) (𝓡 .run)) code.env #text·moved code.function (code.unfolded 𝓤 H 𝓜 𝓡)
     (λ fm. moved-walks 𝓤 H A W (𝓜 .mem) (𝓡 .run) (own .C) (own .Λ))

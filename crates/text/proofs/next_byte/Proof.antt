@@ -10,35 +10,20 @@ use borrow.Author.Needs.{needs}
 use Rattle.text.proofs.next_byte.Statement.{statement}
 use Rattle.text.proofs.next_byte.Tie as tie
 
-close-field-requires : tie.Need-close-field-requires
-close-field-requires c κs = search needs
-
 returns : tie.Need-returns
 returns c =
     let a = c .before .before .args in
     c .close-field .ensures ∙ ap (λ (k : ℕ). few (byte largest (shown (a .n)) k)) (sym (c .before .if1 .taken))
-
-spoiled-requires : tie.Need-spoiled-requires
-spoiled-requires c κs = search needs
 
 returns-2 : tie.Need-returns-2
 returns-2 c =
     let a = c .before .before .before .args in
     c .spoiled .ensures ∙ below-digits (shown (a .n)) (a .b) (c .before .before .if1 .left) (c .before .if2 .taken)
 
-spoiled-requires-2 : tie.Need-spoiled-requires-2
-spoiled-requires-2 c κs = search needs
-
 returns-3 : tie.Need-returns-3
 returns-3 c =
     let a = c .before .before .before .before .args in
     c .spoiled2 .ensures ∙ above-digits (shown (a .n)) (a .b) (c .before .if3 .taken)
-
-sub-add-digit : tie.Need-sub-add-digit
-sub-add-digit c = search needs
-
-add-digit-requires : tie.Need-add-digit-requires
-add-digit-requires c κs = search needs
 
 returns-4 : tie.Need-returns-4
 returns-4 c =
@@ -48,13 +33,5 @@ returns-4 c =
 pub next-byte-spec : {M : Type 1} → statement M
 next-byte-spec =
     tie.close
-    (tie.spec
-    close-field-requires
-    returns
-    spoiled-requires
-    returns-2
-    spoiled-requires-2
-    returns-3
-    sub-add-digit
-    add-digit-requires
+    (tie.spec (search needs) returns (search needs) returns-2 (search needs) returns-3 (search needs) (search needs)
     returns-4)

@@ -21,18 +21,6 @@ abbrev μ-loop : tie.MeasureT-loop
 loop-holds : tie.Need-loop-holds Inv-loop μ-loop
 loop-holds c = refl
 
-shared-slice-read-next-byte : tie.Need-shared-slice-read-next-byte Inv-loop μ-loop
-shared-slice-read-next-byte c = omega arith
-
-next-byte-requires : tie.Need-next-byte-requires Inv-loop μ-loop
-next-byte-requires c κs = search needs
-
-add-i : tie.Need-add-i Inv-loop μ-loop
-add-i c = omega arith
-
-loop-less : tie.Need-loop-less Inv-loop μ-loop
-loop-less c = omega arith
-
 loop-again : tie.Need-loop-again Inv-loop μ-loop
 loop-again c =
     let start = c .before .before .before .before .before in
@@ -41,9 +29,6 @@ loop-again c =
     let r = c .next-byte in
     read-on (shown (l .n)) (shown (r .result)) (a .s .now) (l .i) (a .to) (omega arith) (start .pre) (r .ensures)
     ∙ l .inv
-
-finish-line-requires : tie.Need-finish-line-requires Inv-loop μ-loop
-finish-line-requires c κs = search needs
 
 returns : tie.Need-returns Inv-loop μ-loop
 returns c =
@@ -59,14 +44,5 @@ returns c =
 pub read-fields-spec : {M : Type 1} → statement M
 read-fields-spec =
     tie.close
-    (tie.spec
-    Inv-loop
-    μ-loop
-    loop-holds
-    shared-slice-read-next-byte
-    next-byte-requires
-    add-i
-    loop-less
-    loop-again
-    finish-line-requires
-    returns)
+    (tie.spec Inv-loop μ-loop loop-holds (λ c. omega arith) (search needs) (λ c. omega arith) (λ c. omega arith)
+    loop-again (search needs) returns)
