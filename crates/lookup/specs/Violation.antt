@@ -8,8 +8,8 @@ use lib.Dec.{eqb}
 use lib.ListN.{length, drop}
 use Rattle.table.specs.Reference.{Side, lacks, holds, Fate, waiting, other, accessed, Ref, ref, State}
 
--- How many of the references from one on stay which has executed to the address, with a load or not, and with this word of a
--- store: `all` are younger than it, and `rest` of those stay if the walk goes on. The load is met first.
+-- How many stay from a reference on that has executed to the address: none from a load on (its load is met before its store);
+-- from a store on it and all `all` younger ones. With neither the walk goes on, and `rest` of the younger ones stay.
 abbrev pub keptMet : Bool → Side → ℕ → ℕ → ℕ
 keptMet true s all rest = 0
 keptMet false (holds v) all rest = suc all

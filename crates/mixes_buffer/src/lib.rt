@@ -112,18 +112,22 @@ pub extern "C" fn mixes_buffer(
         } else {
             let numbers = t.numbers;
             let ticket = ticket_drawn(t.oldest, t.stages, t.live, t.executed, numbers, drawn / 32);
-            if kind < 31 {
-                let word = mixes::bits(second);
-                let address = mixes::address_drawn(word);
-                let ran = if kind < 25 {
-                    buffer::execute_load(t, ticket, address, memory)
-                } else if kind < 30 {
-                    buffer::execute_store(t, ticket, address, word as u32, memory)
-                } else {
-                    buffer::execute_other(t, ticket, memory)
-                };
-                let said = ran.answer;
-                t = ran.table;
+            let word = mixes::bits(second);
+            let address = mixes::address_drawn(word);
+            if kind < 25 {
+                let loaded = buffer::execute_load(t, ticket, address, memory);
+                let said = loaded.answer;
+                t = loaded.table;
+                executed_tally(said)
+            } else if kind < 30 {
+                let stored = buffer::execute_store(t, ticket, address, word as u32, memory);
+                let said = stored.answer;
+                t = stored.table;
+                executed_tally(said)
+            } else if kind < 31 {
+                let noted = buffer::execute_other(t, ticket, memory);
+                let said = noted.answer;
+                t = noted.table;
                 executed_tally(said)
             } else {
                 let squashed = buffer::squash(t, ticket);

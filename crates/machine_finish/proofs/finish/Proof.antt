@@ -546,13 +546,13 @@ returns-5 c =
 pub finish-spec : {M : Type 1} → statement M
 finish-spec =
     tie.close
-    (tie.spec Inv-loop μ-loop (λ c κs. search needs) returns loop-holds mul-if2 (search needs) (search needs) (search needs)
-    returns-2 (search needs) (search needs) returns-3 (search needs) set-number-requires cast-instruction-at
-    instruction-at-requires mul-t69 element-set-from-m add-m mul-e element-copy-out-e (search needs)
-    (search needs) register-requires (search needs) register-requires-2 (search needs) effect-of-requires
-    cut-requires cut-requires-2 including-requires set-word-requires add-mark-requires add-mark-requires-2
-    set-value-requires stage-at-requires mul-f element-copy-out-f mul-t79 element-set-from-m-2 (search needs)
-    mul-done element-copy-out-done at-stage-requires (search needs) (search needs) same-length-5 same-length-6
-    returns-4 write-back-requires (search needs) stage-at-requires-2 sub-first-stages first-stages-requires sub-m
-    keep-requires keep-requires-2 write-register-requires mul-put-four (search needs) (search needs)
-    put-four-requires add-n loop-less loop-again (search needs) (search needs) returns-5)
+    (tie.spec Inv-loop μ-loop (λ c κs. search needs) returns loop-holds mul-if2 (search needs) (search needs)
+    (search needs) returns-2 (search needs) (search needs) returns-3 (search needs) set-number-requires
+    cast-instruction-at instruction-at-requires mul-t69 element-set-from-m add-m mul-e element-copy-out-e
+    (search needs) (search needs) register-requires (search needs) register-requires-2 (search needs)
+    effect-of-requires cut-requires cut-requires-2 including-requires set-word-requires add-mark-requires
+    add-mark-requires-2 set-value-requires stage-at-requires mul-f element-copy-out-f mul-t79 element-set-from-m-2
+    (search needs) mul-done element-copy-out-done at-stage-requires (search needs) (search needs) same-length-5
+    same-length-6 returns-4 write-back-requires (search needs) stage-at-requires-2 sub-first-stages
+    first-stages-requires sub-m keep-requires keep-requires-2 write-register-requires mul-put-four (search needs)
+    (search needs) put-four-requires add-n loop-less loop-again (search needs) (search needs) returns-5)

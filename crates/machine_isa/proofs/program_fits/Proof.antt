@@ -26,9 +26,6 @@ loop-holds : tie.Need-loop-holds Inv-loop μ-loop
 unfolding every
 loop-holds c = (omega arith, refl)
 
-well-formed-requires : tie.Need-well-formed-requires Inv-loop μ-loop
-well-formed-requires c κs = tt
-
 loop-again : tie.Need-loop-again Inv-loop μ-loop
 loop-again c =
     let inv = c .before .before .before .loop .inv in
@@ -45,5 +42,5 @@ returns-2 c =
 pub program-fits-spec : {M : Type 1} → statement M
 program-fits-spec =
     tie.close
-    (tie.spec Inv-loop μ-loop returns loop-holds (λ c κs. omega arith) well-formed-requires (λ c. omega arith)
+    (tie.spec Inv-loop μ-loop returns loop-holds (λ c κs. omega arith) (λ c κs. tt) (λ c. omega arith)
     (λ c. omega arith) loop-again returns-2)

@@ -25,24 +25,6 @@ abbrev μ-loop : tie.MeasureT-loop
 loop-holds : tie.Need-loop-holds Inv-loop μ-loop
 loop-holds c = (refl, refl, remains-all)
 
-open-requires : tie.Need-open-requires Inv-loop μ-loop
-open-requires c κs = tt
-
-done-tally-requires : tie.Need-done-tally-requires Inv-loop μ-loop
-done-tally-requires c κs = tt
-
-with-all-requires : tie.Need-with-all-requires Inv-loop μ-loop
-with-all-requires c κs = tt
-
-finish-requires : tie.Need-finish-requires Inv-loop μ-loop
-finish-requires c κs = tt
-
-finished-tally-requires : tie.Need-finished-tally-requires Inv-loop μ-loop
-finished-tally-requires c κs = tt
-
-with-all-requires-2 : tie.Need-with-all-requires-2 Inv-loop μ-loop
-with-all-requires-2 c κs = tt
-
 loop-again : tie.Need-loop-again Inv-loop μ-loop
 loop-again c =
     let finishing = c .before .before .before .before .before .before in
@@ -74,6 +56,5 @@ returns c = remains-none (c .before .loop .inv .2) (omega arith)
 pub mixes-finish-spec : {M : Type 1} → statement M
 mixes-finish-spec =
     tie.close
-    (tie.spec Inv-loop μ-loop loop-holds (λ c. omega arith) open-requires done-tally-requires with-all-requires
-    finish-requires finished-tally-requires with-all-requires-2 (λ c. omega arith) loop-again (search needs)
-    (search needs) returns)
+    (tie.spec Inv-loop μ-loop loop-holds (λ c. omega arith) (λ c κs. tt) (λ c κs. tt) (λ c κs. tt) (λ c κs. tt)
+    (λ c κs. tt) (λ c κs. tt) (λ c. omega arith) loop-again (search needs) (search needs) returns)

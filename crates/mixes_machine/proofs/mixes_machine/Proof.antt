@@ -18,62 +18,8 @@ Inv-loop banks rows stages words calls seed when part by program memory₀ m₀ 
 abbrev μ-loop : tie.MeasureT-loop
 μ-loop banks rows stages words calls seed when part by program memory₀ m₀ sum₀ draw₀ left₀ memory m sum draw left = left
 
-open-requires : tie.Need-open-requires Inv-loop μ-loop
-open-requires c κs = tt
-
-done-tally-requires : tie.Need-done-tally-requires Inv-loop μ-loop
-done-tally-requires c κs = tt
-
-with-all-requires : tie.Need-with-all-requires Inv-loop μ-loop
-with-all-requires c κs = tt
-
 loop-holds : tie.Need-loop-holds Inv-loop μ-loop
 loop-holds c = mixing-all
-
-advance-requires : tie.Need-advance-requires Inv-loop μ-loop
-advance-requires c κs = tt
-
-bits-requires : tie.Need-bits-requires Inv-loop μ-loop
-bits-requires c κs = tt
-
-spoil-machine-requires : tie.Need-spoil-machine-requires Inv-loop μ-loop
-spoil-machine-requires c κs = tt
-
-open-requires-2 : tie.Need-open-requires-2 Inv-loop μ-loop
-open-requires-2 c κs = tt
-
-done-tally-requires-2 : tie.Need-done-tally-requires-2 Inv-loop μ-loop
-done-tally-requires-2 c κs = tt
-
-issue-requires : tie.Need-issue-requires Inv-loop μ-loop
-issue-requires c κs = tt
-
-issued-tally-requires : tie.Need-issued-tally-requires Inv-loop μ-loop
-issued-tally-requires c κs = tt
-
-commit-requires : tie.Need-commit-requires Inv-loop μ-loop
-commit-requires c κs = tt
-
-committed-tally-requires : tie.Need-committed-tally-requires Inv-loop μ-loop
-committed-tally-requires c κs = tt
-
-position-drawn-requires : tie.Need-position-drawn-requires Inv-loop μ-loop
-position-drawn-requires c κs = tt
-
-execute-requires : tie.Need-execute-requires Inv-loop μ-loop
-execute-requires c κs = tt
-
-executed-tally-requires : tie.Need-executed-tally-requires Inv-loop μ-loop
-executed-tally-requires c κs = tt
-
-squash-requires : tie.Need-squash-requires Inv-loop μ-loop
-squash-requires c κs = tt
-
-done-tally-requires-3 : tie.Need-done-tally-requires-3 Inv-loop μ-loop
-done-tally-requires-3 c κs = tt
-
-with-all-requires-2 : tie.Need-with-all-requires-2 Inv-loop μ-loop
-with-all-requires-2 c κs = tt
 
 loop-again : tie.Need-loop-again Inv-loop μ-loop
 loop-again c =
@@ -113,8 +59,7 @@ returns c =
 pub mixes-machine-spec : {M : Type 1} → statement M
 mixes-machine-spec =
     tie.close
-    (tie.spec Inv-loop μ-loop open-requires done-tally-requires with-all-requires loop-holds (λ c. omega arith)
-    advance-requires bits-requires spoil-machine-requires open-requires-2 done-tally-requires-2 issue-requires
-    issued-tally-requires commit-requires committed-tally-requires position-drawn-requires execute-requires
-    executed-tally-requires squash-requires done-tally-requires-3 with-all-requires-2 (λ c. omega arith)
-    loop-again same-length returns)
+    (tie.spec Inv-loop μ-loop (λ c κs. tt) (λ c κs. tt) (λ c κs. tt) loop-holds (λ c. omega arith) (λ c κs. tt)
+    (λ c κs. tt) (λ c κs. tt) (λ c κs. tt) (λ c κs. tt) (λ c κs. tt) (λ c κs. tt) (λ c κs. tt) (λ c κs. tt)
+    (λ c κs. tt) (λ c κs. tt) (λ c κs. tt) (λ c κs. tt) (λ c κs. tt) (λ c κs. tt) (λ c. omega arith) loop-again
+    same-length returns)

@@ -19,9 +19,6 @@ abbrev μ-loop : tie.MeasureT-loop
 returns : tie.Need-returns Inv-loop μ-loop
 returns c = line-none (c .before .args .s .now) (c .before .args .at) (omega arith)
 
-loop-holds : tie.Need-loop-holds Inv-loop μ-loop
-loop-holds c = refl
-
 returns-2 : tie.Need-returns-2 Inv-loop μ-loop
 returns-2 c =
     let a = c .before .before .before .before .before .args in
@@ -43,5 +40,5 @@ returns-3 c =
 pub line-at-spec : {M : Type 1} → statement M
 line-at-spec =
     tie.close
-    (tie.spec Inv-loop μ-loop returns loop-holds (λ c. omega arith) returns-2 (λ c. omega arith) (λ c. omega arith)
+    (tie.spec Inv-loop μ-loop returns (λ c. refl) (λ c. omega arith) returns-2 (λ c. omega arith) (λ c. omega arith)
     loop-again returns-3)

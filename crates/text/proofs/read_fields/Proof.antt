@@ -18,9 +18,6 @@ Inv-loop s from to n₀ i₀ n i =
 abbrev μ-loop : tie.MeasureT-loop
 μ-loop s from to n₀ i₀ n i = to - i
 
-loop-holds : tie.Need-loop-holds Inv-loop μ-loop
-loop-holds c = refl
-
 loop-again : tie.Need-loop-again Inv-loop μ-loop
 loop-again c =
     let start = c .before .before .before .before .before in
@@ -44,5 +41,5 @@ returns c =
 pub read-fields-spec : {M : Type 1} → statement M
 read-fields-spec =
     tie.close
-    (tie.spec Inv-loop μ-loop loop-holds (λ c. omega arith) (search needs) (λ c. omega arith) (λ c. omega arith)
+    (tie.spec Inv-loop μ-loop (λ c. refl) (λ c. omega arith) (search needs) (λ c. omega arith) (λ c. omega arith)
     loop-again (search needs) returns)
