@@ -41,7 +41,7 @@ module _ (t : Table) (rules : Rules t) (p : ℕ) (live : p < t .live) (w : List 
   pub effect-left : (act : Action) → effectAt t p w act .left ≡ survivors (view t) p (fateBy act)
   effect-left (Compute x) = sym (length-refs t)
   effect-left (LoadAt a) = place-left t rules a p live
-  effect-left (StoreAt a x) = store-left t rules a p live
+  effect-left (StoreAt a x) = store-left t rules a p live false x
 
   bounds : (a : ℕ) (found : Place) → Placed t a p found
       → (p < found .left) × (found .left ≤ t .live) × (found .row < slots)

@@ -13,6 +13,7 @@ use borrow.Author.Tests.{ltb-true, ltb-false}
 use Rattle.table.specs.declared.Table.{Table}
 use Rattle.table.specs.Limits.{rowsMost}
 use Rattle.table.specs.Bank.{bank}
+use Rattle.table.specs.Reference.{accessed, holds, loaded}
 use Rattle.table.specs.Rules.{Rules}
 use Rattle.table.specs.View.{view}
 use Rattle.table.proofs.Fates.{length-refs}
@@ -20,7 +21,7 @@ use Rattle.table.proofs.Owning.{RowFor, row-for-less}
 use Rattle.lookup.specs.declared.Place.{Place}
 use Rattle.lookup.specs.Violation.{keptAfterStore}
 use Rattle.lookup.specs.Rows.{touched}
-use Rattle.lookup.specs.Outcome.{allocateRow}
+use Rattle.lookup.specs.Outcome.{allocateRow, survivors}
 use Rattle.lookup.specs.computed.Search.{rowOf, violationPoint, allocatedRow, placeFor, leftAfter}
 use Rattle.lookup.proofs.Violations.{violates-checked, checked-after, untouched-checked}
 use Rattle.lookup.proofs.Bankrows.{row-none, row-some, taken-room, taken-row}
@@ -58,12 +59,10 @@ module _ (t : Table) (rules : Rules t) (a p : ℕ) (live : p < t .live) where
   place-some : (i : ℕ) → found ≡ suc i → placeAt t a p ≡ record { row = held (suc i - 1); left = t .live }
   place-some i e = rw (e, eqb·suc-zero i)
 
-  pub place-left : placeAt t a p .left
-      ≡ cond (touched a (view t .refs)) (length (view t .refs)) (allocateRow (view t) p (bank (t .banks) a))
+  pub place-left : placeAt t a p .left ≡ survivors (view t) p (loaded a)
   place-left = go found refl
     where
-      go : (i : ℕ) → found ≡ i → placeAt t a p .left
-          ≡ cond (touched a (view t .refs)) (length (view t .refs)) (allocateRow (view t) p (bank (t .banks) a))
+      go : (i : ℕ) → found ≡ i → placeAt t a p .left ≡ survivors (view t) p (loaded a)
       go zero e = rw (place-none e, row-none t rules a e) (taken-room t rules a p live (row-none t rules a e))
       go (suc i) e = rw (place-some i e, row-some t rules a i e .0) (sym (length-refs t))
 
@@ -94,9 +93,8 @@ module _ (t : Table) (rules : Rules t) (a p : ℕ) (live : p < t .live) where
       let own : RowFor t a (placeAt t a p .row) (t .live) = subst (RowFor t a (placeAt t a p .row)) whole (q .owned) in
       (own, violates-checked t rules a (placeAt t a p .row) p live own)
 
-  pub store-left : storeAt t a p .left
-      ≡ cond (touched a (view t .refs)) (keptAfterStore (view t) p a) (allocateRow (view t) p (bank (t .banks) a))
-  store-left = go (ltb (placeAt t a p .left) (t .live)) refl (touched a (view t .refs)) refl
+  pub store-left : (l : Bool) (v : ℕ) → storeAt t a p .left ≡ survivors (view t) p (accessed a l (holds v))
+  store-left l v = go (ltb (placeAt t a p .left) (t .live)) refl (touched a (view t .refs)) refl
     where
       go : (b : Bool) → ltb (placeAt t a p .left) (t .live) ≡ b → (c : Bool) → touched a (view t .refs) ≡ c
           → cond b (placeAt t a p .left)
