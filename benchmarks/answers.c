@@ -1,5 +1,6 @@
 // The answers of the buffer and of the machine in Rattle held to those in C, refusals too: on whole states, on states
-// with one part spoiled, at openings, and of finishes. Each batch is many runs of a mix; the last line counts batches.
+// with one part spoiled, at openings, and of finishes, without part stores and with them. Each batch is many runs of a
+// mix; the last line counts batches.
 #include "both.h"
 
 #include <stdio.h>
@@ -10,6 +11,7 @@ enum { SHOWN = 3, SPOILED_CALLS = 60, WHOLE_CALLS = 600, LONG_CALLS = 2000 };
 static const size_t memories[] = {96, 40, 41, 75, 76, 36};
 static size_t runs, differing, passed, failed;
 static uint32_t seed;
+static bool parts;
 
 // One run; of a batch the first that differ are shown.
 static void run(const struct job *j)
@@ -19,16 +21,16 @@ static void run(const struct job *j)
     if (play_both(j, &c, &r) || differing++ >= SHOWN)
         return;
     printf("%s, B %zu R %zu n %zu W %zu, memory of %zu, program of %zu, list of %zu, limit %u, seed %u",
-           mix_names[j->mix], j->sizes.banks, j->sizes.rows, j->sizes.stages, j->sizes.words, j->length,
+           mix_names[j->parts][j->mix], j->sizes.banks, j->sizes.rows, j->sizes.stages, j->sizes.words, j->length,
            j->numbers, j->places, j->limit, j->seed);
     if (j->spoiling.when < j->calls)
         printf(", part %zu spoiled by %zu with %u left", j->spoiling.part, j->spoiling.by, j->spoiling.when);
     printf(": other answers\n");
 }
 
-static void close_batch(const char *name)
+static void close_batch(enum mix mix, const char *name)
 {
-    printf("%-44s %6zu runs, %zu differ\n", name, runs, differing);
+    printf("%-14s %-28s %6zu runs, %zu differ\n", mix_names[parts][mix], name, runs, differing);
     *(differing ? &failed : &passed) += 1;
     runs = differing = 0;
 }
@@ -36,13 +38,13 @@ static void close_batch(const char *name)
 // A job of this mix with good lengths, after which its program is written and both sides are filled.
 static struct job prepared(enum mix mix, struct sizes sizes)
 {
-    struct job j = {.mix = mix, .sizes = sizes, .seed = seed++, .spoiling.when = NEVER};
+    struct job j = {.mix = mix, .parts = parts, .sizes = sizes, .seed = seed++, .spoiling.when = NEVER};
     j.calls = mix == FINISH ? 1 : WHOLE_CALLS;
     j.limit = 256;
     j.length = sizes.words;
     j.numbers = (mix == FINISH ? 256 : 64) * 4;
     j.places = 1024;
-    write_program(j.numbers / 4, j.seed, j.seed % 3 ? 0 : 12);
+    write_program(j.numbers / 4, j.seed, parts, j.seed % 3 ? 0 : 12);
     fill_both(j.seed);
     return j;
 }
@@ -89,7 +91,7 @@ static void spoiled(enum mix mix, struct sizes sizes, size_t part)
         if (part == 3 && times % 2)
             j.spoiling.by = 0 - (1 + by % 40);
         // a short program, after which its last instruction stands once more
-        if (part >= 10 && times % 2) {
+        if (part > 10 && times % 2) {
             j.numbers = 32;
             memcpy(program + 32, program + 28, 4 * sizeof *program);
         }
@@ -143,20 +145,20 @@ static void openings(enum mix mix)
 static void programs(enum mix mix)
 {
     static const size_t numbers[] = {0, 1, 2, 3, 4, 5, 6, 7, 8, 1020, 1021, 1023, 1024, 1025, 1026, 1028, 1032};
-    static const uint32_t values[] = {0, 1, 2, 3, 4, 5, 7, 8, 9, UINT32_MAX};
+    static const uint32_t values[] = {0, 1, 2, 3, 4, 5, 6, 7, 8, 9, UINT32_MAX};
     struct sizes sizes = {2, 2, 4, 40};
     for (size_t i = 0; i < 17; i++)
         for (size_t more = 0; more < 3; more++) {
             struct job j = prepared(mix, sizes);
             j.numbers = numbers[i];
             j.length = j.length + more - 1;
-            write_program(260, j.seed, 0);
+            write_program(260, j.seed, parts, 0);
             run(&j);
         }
     // the first eight instructions, and the last one
     for (size_t place = 0; place < 36; place++)
-        for (size_t value = 0; value < 10; value++)
-            for (size_t code = 1; code <= 4; code++)
+        for (size_t value = 0; value < 11; value++)
+            for (size_t code = 1; code <= 6; code++)
                 for (size_t more = 0; more < 2; more++) {
                     struct job j = prepared(mix, sizes);
                     size_t at = place < 32 ? place : j.numbers - 36 + place;
@@ -170,44 +172,79 @@ static void programs(enum mix mix)
                 }
 }
 
+// Part stores at the ends of the memory and of the numbers, beside a load of their word.
+static void byte_numbers(enum mix mix)
+{
+    static const size_t words[] = {1, 2, 41, 4096};
+    for (size_t w = 0; w < 4; w++)
+        for (uint32_t code = 5; code <= 6; code++)
+            for (uint32_t near = 0; near < 24; near++)
+                for (size_t stages = 1; stages <= 16; stages++) {
+                    struct job j = prepared(mix, (struct sizes){2, 2, stages, words[w]});
+                    uint32_t byte = (near < 12 ? 0 : 4 * (uint32_t)words[w]) + near % 12 - 6;
+                    uint32_t first[] = {1, 2, 0, j.seed * UINT32_C(2654435761), code, 2, 0, byte, 3, 3, 0, byte / 4};
+                    j.calls = 60;
+                    memcpy(program, first, sizeof first);
+                    run(&j);
+                }
+}
+
+static void stops(void)
+{
+    static const char *const names[] = {"limits", "lists", "lengths"};
+    for (size_t part = 0; part < 3; part++) {
+        every_table(finishes, part);
+        close_batch(FINISH, names[part]);
+    }
+}
+
+static void whole_states(enum mix mix)
+{
+    every_table(whole, mix);
+    close_batch(mix, "whole states");
+    if (mix != FINISH) {
+        long_windows(mix);
+        close_batch(mix, "long windows");
+    }
+}
+
+static void all_spoiled(void)
+{
+    static const char *const names[] = {"banks", "rows", "stages", "words", "oldest", "live", "executed",
+                                        "load marks", "store marks", "addresses", "marks of a row",
+                                        "count", "entries", "live entries"};
+    char name[64];
+    for (size_t part = 0; part < 14; part++) {
+        snprintf(name, sizeof name, "%s spoiled", names[part]);
+        if (part < 11) {
+            every_table(spoiled_buffer, part);
+            close_batch(BUFFER, name);
+        }
+        every_table(spoiled_machine, part);
+        close_batch(MACHINE, name);
+    }
+}
+
 int main(void)
 {
-    static const char *const parts[] = {"banks", "rows", "stages", "words", "oldest", "live", "executed",
-                                        "load marks", "store marks", "addresses", "count", "entries"};
-    static const char *const stops[] = {"limits", "lists", "lengths"};
-    char name[64];
+    for (int with = 0; with < 2; with++) {
+        parts = with;
+        for (enum mix mix = BUFFER; mix <= FINISH; mix++)
+            whole_states(mix);
+        all_spoiled();
+        stops();
+    }
     for (enum mix mix = BUFFER; mix <= FINISH; mix++) {
-        snprintf(name, sizeof name, "%s, whole states", mix_names[mix]);
-        every_table(whole, mix);
-        close_batch(name);
-        snprintf(name, sizeof name, "%s, openings", mix_names[mix]);
+        parts = false;
         openings(mix);
-        close_batch(name);
+        close_batch(mix, "openings");
         if (mix != BUFFER) {
-            snprintf(name, sizeof name, "%s, programs", mix_names[mix]);
             programs(mix);
-            close_batch(name);
+            close_batch(mix, "programs");
+            parts = true;
+            byte_numbers(mix);
+            close_batch(mix, "byte numbers");
         }
-        if (mix != FINISH) {
-            snprintf(name, sizeof name, "%s, long windows", mix_names[mix]);
-            long_windows(mix);
-            close_batch(name);
-        }
-    }
-    for (size_t part = 0; part < 12; part++) {
-        if (part < 10) {
-            snprintf(name, sizeof name, "buffer, %s spoiled", parts[part]);
-            every_table(spoiled_buffer, part);
-            close_batch(name);
-        }
-        snprintf(name, sizeof name, "machine, %s spoiled", parts[part]);
-        every_table(spoiled_machine, part);
-        close_batch(name);
-    }
-    for (size_t part = 0; part < 3; part++) {
-        snprintf(name, sizeof name, "finish, %s", stops[part]);
-        every_table(finishes, part);
-        close_batch(name);
     }
     printf("%zu passed, %zu failed\n", passed, failed);
     return failed != 0;

@@ -6,8 +6,8 @@
 
 // The static libraries': a slice is a pointer and a length.
 extern uint64_t mixes_buffer(size_t banks, size_t rows, size_t stages, size_t words, uint32_t calls,
-                             uint64_t seed, uint32_t when, size_t part, size_t by, uint32_t *memory,
-                             size_t length);
+                             uint64_t seed, uint32_t when, size_t part, size_t by, size_t whole,
+                             uint32_t *memory, size_t length);
 extern uint64_t mixes_machine(size_t banks, size_t rows, size_t stages, size_t words, uint32_t calls,
                               uint64_t seed, uint32_t when, size_t part, size_t by, const uint32_t *program,
                               size_t numbers, uint32_t *memory, size_t length);
@@ -15,7 +15,8 @@ extern uint64_t mixes_finish(size_t banks, size_t rows, size_t stages, size_t wo
                              uint32_t limit, const uint32_t *program, size_t numbers, uint32_t *memory,
                              size_t length, uint32_t *list, size_t places);
 
-const char *const mix_names[] = {"buffer", "machine", "finish"};
+const char *const mix_names[2][3] = {{"buffer", "machine", "finish"},
+                                     {"buffer, parts", "machine, parts", "finish, parts"}};
 
 // What a side works on.
 struct side {
@@ -25,7 +26,7 @@ struct side {
 static struct side rattle, plain;
 uint32_t program[MOST_NUMBERS];
 
-void write_program(size_t instructions, uint32_t seed, uint32_t wild)
+void write_program(size_t instructions, uint32_t seed, bool parts, uint32_t wild)
 {
     for (size_t i = 0; i < instructions; i++) {
         uint32_t x = (seed = seed * 1664525 + 1013904223) >> 8;
@@ -36,6 +37,13 @@ void write_program(size_t instructions, uint32_t seed, uint32_t wild)
         to[1] = code == 1 && base ? 1 : d;
         to[2] = code == 1 && base ? 0 : code >= 3 ? base : s;
         to[3] = code == 1 ? (base ? word % 15 : word) : code == 2 ? x / 262144 % 8 : word;
+        if (parts && code == 4 && x / 2097152 > 1) {
+            bool half = x / 2097152 > 4;
+            uint32_t byte = word * 4 + x / 262144 % 4;
+            to[0] = half ? 6 : 5;
+            to[2] = half ? 0 : base;
+            to[3] = half ? byte / 2 * 2 : byte;
+        }
         // not the first: an entry that was never issued is blank in a way of its own on each side, and unlike it
         if (i > 0 && wild && x / 16384 % wild == 0) {
             to[1] = x / 64 % 8;
@@ -54,6 +62,12 @@ void fill_both(uint32_t seed)
     memcpy(&rattle, &plain, sizeof plain);
 }
 
+// Of five stores of the buffer two are of a whole word, or all.
+static size_t whole(const struct job *j)
+{
+    return j->parts ? 27 : 30;
+}
+
 static uint64_t in_rattle(const struct job *j)
 {
     struct sizes z = j->sizes;
@@ -61,7 +75,7 @@ static uint64_t in_rattle(const struct job *j)
     switch (j->mix) {
     case BUFFER:
         return mixes_buffer(z.banks, z.rows, z.stages, z.words, j->calls, j->seed, w.when, w.part, w.by,
-                            rattle.memory, j->length);
+                            whole(j), rattle.memory, j->length);
     case MACHINE:
         return mixes_machine(z.banks, z.rows, z.stages, z.words, j->calls, j->seed, w.when, w.part, w.by,
                              program, j->numbers, rattle.memory, j->length);
@@ -77,7 +91,7 @@ static uint64_t in_c(const struct job *j)
     struct lent lent = {program, j->numbers};
     switch (j->mix) {
     case BUFFER:
-        return inplace_buffer(j->sizes, j->calls, j->seed, j->spoiling, memory);
+        return inplace_buffer(j->sizes, j->calls, j->seed, j->spoiling, whole(j), memory);
     case MACHINE:
         return inplace_machine(j->sizes, j->calls, j->seed, j->spoiling, lent, memory);
     default:

@@ -8,23 +8,25 @@ enum { MOST_WORDS = 4100, MOST_NUMBERS = 1040, MOST_PLACES = 1040, NEVER = -1 };
 
 enum mix { BUFFER, MACHINE, FINISH };
 
-// A mix to run: `calls` turns, or as many runs of a finish. Memory, program and list are lent with these
-// lengths, whatever the sizes say.
+// A mix to run: `calls` turns, or as many runs of a finish; with part stores among the buffer's stores, or as the
+// program has them. Memory, program and list are lent with these lengths, whatever the sizes say.
 struct job {
     enum mix mix;
+    bool parts;
     struct sizes sizes;
     uint32_t calls, seed, limit;
     struct spoiling spoiling;
     size_t length, numbers, places;
 };
 
-extern const char *const mix_names[];
+extern const char *const mix_names[2][3];
 extern uint32_t program[MOST_NUMBERS];
 
 // A program of A, P, L and S in equal parts: register 0 stays 0, register 1 is at most 10, the others take
 // sums and words. Loads and stores are of sixteen words, half of them of three, or of those at register 1
-// from these. One instruction in `wild` after the first has any registers; 0: none has.
-void write_program(size_t instructions, uint32_t seed, uint32_t wild);
+// from these. With `parts` most stores are B and H, at the bytes of these words. One instruction in `wild` after
+// the first has any registers; 0: none has, and no H is at an odd byte.
+void write_program(size_t instructions, uint32_t seed, bool parts, uint32_t wild);
 
 // Fills both memories and lists alike, also where a job before made them differ.
 void fill_both(uint32_t seed);

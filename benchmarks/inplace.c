@@ -79,8 +79,7 @@ static inline bool keeps_rules(const struct table *t, struct marked *found)
             uint32_t marks = marks_of(t, r);
             if (!marks)
                 continue;
-            if ((marks & free) || (t->loads[r] & t->stores[r]) || bank_of(t->banks, t->addresses[r]) != b ||
-                !address_alone(t, b * 8, r))
+            if ((marks & free) || bank_of(t->banks, t->addresses[r]) != b || !address_alone(t, b * 8, r))
                 return false;
             free |= marks;
             loads |= t->loads[r];
@@ -162,18 +161,15 @@ static size_t row_of(const struct table *t, size_t bank, uint32_t address)
     return 64;
 }
 
-// Where a squash from position `left` on begins, which is to be read before it.
-static void tell_squash(const struct table *t, size_t left, struct outcome *out)
+static inline struct place place_for(const struct table *t, uint32_t address, size_t position)
 {
-    out->squashed = left < t->live;
-    if (out->squashed) {
-        size_t s = stage_at(t, left);
-        out->from = (struct ticket){s, t->numbers[s]};
-    }
+    size_t bank = bank_of(t->banks, address), r = row_of(t, bank, address);
+    return r < 64 ? (struct place){r, t->live} : take_row(t, bank, position);
 }
 
-static uint32_t forwarded(const struct table *t, size_t r, size_t position, uint32_t address,
-                          struct memory memory)
+// The word that a load at this position takes. An evicted row has younger marks alone.
+static inline uint32_t forwarded(const struct table *t, size_t r, size_t position, uint32_t address,
+                                 struct memory memory)
 {
     uint32_t older = turned(t, t->stores[r]) & ((UINT32_C(1) << position) - 1);
     if (older)
@@ -181,51 +177,91 @@ static uint32_t forwarded(const struct table *t, size_t r, size_t position, uint
     return address < memory.length ? memory.words[address] : 0;
 }
 
-static unsigned load_step(struct table *t, size_t s, uint32_t address, struct memory memory,
-                          struct outcome *out)
+// How many references stay when one at this position stores: those before the first younger stage with a mark, if
+// it has a load mark. In an evicted row that stage is the first squashed anyway.
+static inline size_t left_by_store(const struct table *t, struct place place, size_t position)
 {
-    size_t position = position_of(t, s), bank = bank_of(t->banks, address);
-    struct place place = {row_of(t, bank, address), t->live};
-    if (place.row == 64)
-        place = take_row(t, bank, position);
-    if (place.left == 0)
-        return 10;
-    out->value = forwarded(t, place.row, position, address, memory);
-    tell_squash(t, place.left, out);
+    uint32_t marks = marks_of(t, place.row);
+    uint32_t younger = marks ? turned(t, marks) >> position >> 1 : 0;
+    if (younger) {
+        size_t met = position + 1 + __builtin_ctz(younger);
+        if (t->loads[place.row] >> stage_at(t, met) & 1)
+            return met;
+    }
+    return place.left;
+}
+
+// The reference in stage s has executed in this row: what is squashed goes, and is told. Its marks are still to
+// be set.
+static inline void enter(struct table *t, size_t s, struct place place, uint32_t address, struct outcome *out)
+{
+    out->squashed = place.left < t->live;
+    if (out->squashed) {
+        size_t from = stage_at(t, place.left);
+        out->from = (struct ticket){from, t->numbers[from]};
+    }
     cut(t, place.left);
     t->executed |= UINT32_C(1) << s;
     t->addresses[place.row] = address;
+}
+
+static unsigned load_step(struct table *t, size_t s, uint32_t address, struct memory memory,
+                          struct outcome *out)
+{
+    size_t position = position_of(t, s);
+    struct place place = place_for(t, address, position);
+    if (place.left == 0)
+        return 10;
+    out->value = forwarded(t, place.row, position, address, memory);
+    enter(t, s, place, address, out);
     t->loads[place.row] |= UINT32_C(1) << s;
     return 0;
 }
 
 static unsigned store_step(struct table *t, size_t s, uint32_t address, uint32_t value, struct outcome *out)
 {
-    size_t position = position_of(t, s), bank = bank_of(t->banks, address);
-    struct place place = {row_of(t, bank, address), t->live};
-    if (place.row == 64) {
-        place = take_row(t, bank, position);
-        if (place.left == 0)
-            return 10;
-    } else {
-        uint32_t younger = turned(t, marks_of(t, place.row)) >> position >> 1;
-        if (younger) {
-            size_t met = position + 1 + __builtin_ctz(younger);
-            if (t->loads[place.row] >> stage_at(t, met) & 1)
-                place.left = met;
-        }
-    }
+    size_t position = position_of(t, s);
+    struct place place = place_for(t, address, position);
+    if (place.left == 0)
+        return 10;
+    place.left = left_by_store(t, place, position);
     out->value = 0;
-    tell_squash(t, place.left, out);
-    cut(t, place.left);
-    t->executed |= UINT32_C(1) << s;
-    t->addresses[place.row] = address;
+    enter(t, s, place, address, out);
     t->stores[place.row] |= UINT32_C(1) << s;
     t->values[s] = value;
     return 0;
 }
 
-// The oldest leaves the window, whose mark is in row r, 64 where it has none.
+// The word with the part at this byte number replaced by the low bits of `from`: lower bytes are lower bits, and
+// a half word at an odd number is the one at the byte below.
+static uint32_t merged(enum part part, uint32_t byte, uint32_t word, uint32_t from)
+{
+    unsigned low = part == BYTE ? byte % 4 * 8 : byte % 4 / 2 * 16;
+    uint32_t mask = (part == BYTE ? UINT32_C(0xff) : UINT32_C(0xffff)) << low;
+    return (word & ~mask) | (from << low & mask);
+}
+
+// A load of the word and a store of the whole word in one stage, which bears both marks. `whole` gets what is
+// stored.
+static unsigned part_step(struct table *t, size_t s, enum part part, uint32_t byte, uint32_t from,
+                          struct memory memory, struct outcome *out, uint32_t *whole)
+{
+    size_t position = position_of(t, s);
+    uint32_t address = byte / 4;
+    struct place place = place_for(t, address, position);
+    if (place.left == 0)
+        return 10;
+    *whole = merged(part, byte, forwarded(t, place.row, position, address, memory), from);
+    place.left = left_by_store(t, place, position);
+    out->value = 0;
+    enter(t, s, place, address, out);
+    t->loads[place.row] |= UINT32_C(1) << s;
+    t->stores[place.row] |= UINT32_C(1) << s;
+    t->values[s] = *whole;
+    return 0;
+}
+
+// The oldest leaves the window, whose marks are in row r, 64 where it has none.
 static void commit_step(struct table *t, size_t r)
 {
     if (r < 64) {
@@ -287,6 +323,14 @@ unsigned buffer_store(struct table *t, struct ticket ticket, uint32_t address, u
 {
     unsigned why = execute_refusal(t, ticket, memory.length);
     return why ? why : store_step(t, ticket.stage, address, value, out);
+}
+
+unsigned buffer_part(struct table *t, struct ticket ticket, enum part part, uint32_t byte, uint32_t from,
+                     struct memory memory, struct outcome *out)
+{
+    uint32_t whole;
+    unsigned why = execute_refusal(t, ticket, memory.length);
+    return why ? why : part_step(t, ticket.stage, part, byte, from, memory, out, &whole);
 }
 
 unsigned buffer_other(struct table *t, struct ticket ticket, struct memory memory, struct outcome *out)
@@ -351,8 +395,17 @@ static bool program_fits(struct lent program)
         return false;
     uint32_t bad = 0;
     for (const uint32_t *i = program.words; i < program.words + program.length; i += 4)
-        bad |= (i[0] - 1 > 3) | (i[1] > 7) | (i[2] > 7) | ((i[0] == 2) & (i[3] > 7));
+        bad |= (i[0] - 1 > 5) | (i[1] > 7) | (i[2] > 7) | ((i[0] == 2) & (i[3] > 7));
     return !bad;
+}
+
+// The codes that leave a load mark and those that leave a store mark, as bits; B and H leave both.
+enum { LOADING = 1 << 3 | 1 << 5 | 1 << 6, STORING = 1 << 4 | 1 << 5 | 1 << 6 };
+
+// The word number of an executed entry: the address of B and H is a byte number.
+static uint32_t word_of(const struct entry *e)
+{
+    return e->code >= 5 ? e->address / 4 : e->address;
 }
 
 static bool window_agrees(const struct machine *m, const struct marked *found)
@@ -365,9 +418,9 @@ static bool window_agrees(const struct machine *m, const struct marked *found)
             return false;
         if (!e->executed)
             continue;
-        if ((e->code == 3) != (found->loads >> s & 1) || (e->code == 4) != (found->stores >> s & 1))
+        if ((LOADING >> e->code ^ found->loads >> s) & 1 || (STORING >> e->code ^ found->stores >> s) & 1)
             return false;
-        if (e->code >= 3 && t->addresses[found->rows[s]] != e->address)
+        if (e->code >= 3 && t->addresses[found->rows[s]] != word_of(e))
             return false;
     }
     return true;
@@ -402,7 +455,7 @@ static bool operand(const struct machine *m, uint32_t k, size_t position, uint32
 {
     while (position > 0) {
         const struct entry *e = &m->window[stage_at(&m->table, --position)];
-        if (e->code != 4 && e->d == k) {
+        if (e->code < 4 && e->d == k) {
             *value = e->value;
             return e->executed;
         }
@@ -429,17 +482,18 @@ static unsigned execute_at(struct machine *m, size_t position, struct memory mem
     struct outcome outcome = {0, false, {0, 0}};
     uint32_t x, y = 0;
     if (!operand(m, e->s, position, &x) || (e->code == 2 && !operand(m, e->imm, position, &y)) ||
-        (e->code == 4 && !operand(m, e->d, position, &y)))
+        (e->code >= 4 && !operand(m, e->d, position, &y)))
         return 9;
-    unsigned why = 0;
     if (e->code <= 2) {
         e->value = e->code == 1 ? x + e->imm : x + y;
         e->address = 0;
         t->executed |= UINT32_C(1) << s;
     } else {
         uint32_t address = x + e->imm;
-        why = e->code == 3 ? load_step(t, s, address, memory, &outcome)
-                           : store_step(t, s, address, y, &outcome);
+        enum part part = e->code == 5 ? BYTE : HALF;
+        unsigned why = e->code == 3   ? load_step(t, s, address, memory, &outcome)
+                       : e->code == 4 ? store_step(t, s, address, y, &outcome)
+                                      : part_step(t, s, part, address, y, memory, &outcome, &y);
         if (why)
             return why;
         e->value = e->code == 3 ? outcome.value : y;
@@ -455,20 +509,22 @@ static unsigned execute_at(struct machine *m, size_t position, struct memory mem
     return 0;
 }
 
-// The oldest, which has executed, commits; 13 where its address is past the memory. Its mark is in row r, and
-// the word that a store writes is the table's, as in Rattle (docs/DECISIONS.md).
+// The oldest, which has executed, commits; 13 where its word is past the memory, 14 where it is an H at an odd byte.
+// Its marks are in row r, and the word that a store writes is the table's, as in Rattle (docs/DECISIONS.md).
 static unsigned commit_oldest(struct machine *m, size_t r, struct memory memory, uint32_t record[4])
 {
     const struct entry *e = &m->window[m->table.oldest];
-    if (e->code >= 3 && e->address >= m->table.words)
+    if (e->code >= 3 && m->table.addresses[r] >= m->table.words)
         return 13;
-    if (e->code == 4)
-        memory.words[e->address] = m->table.values[m->table.oldest];
+    if (e->code == 6 && e->address % 2)
+        return 14;
+    if (e->code >= 4)
+        memory.words[m->table.addresses[r]] = m->table.values[m->table.oldest];
     else
         m->registers[e->d] = e->value;
     record[0] = e->index;
     record[1] = e->code;
-    record[2] = e->code == 4 ? e->address : e->d;
+    record[2] = e->code >= 4 ? e->address : e->d;
     record[3] = e->value;
     commit_step(&m->table, r);
     return 0;
@@ -564,7 +620,7 @@ unsigned machine_finish(struct machine *m, struct lent program, uint32_t limit, 
         // the oldest has its operands, and a row is free or evicted for it
         if (!e->executed)
             execute_at(m, 0, memory, &ran);
-        size_t r = e->code >= 3 ? row_of(t, bank_of(t->banks, e->address), e->address) : 64;
+        size_t r = e->code >= 3 ? row_of(t, bank_of(t->banks, word_of(e)), word_of(e)) : 64;
         if (commit_oldest(m, r, memory, list.words + n * 4))
             break;
     }
@@ -634,6 +690,24 @@ static uint32_t address_drawn(size_t drawn)
     return (drawn & drawn / 16) % 16 * 5;
 }
 
+static enum part part_drawn(size_t drawn)
+{
+    return drawn / 1024 % 2 ? HALF : BYTE;
+}
+
+// In a row of the table the marks of one kind come or go where there is one of the other, or one mark does.
+static void spoil_marks(struct table *t, size_t x)
+{
+    if (t->banks == 0 || t->rows == 0 || t->stages == 0)
+        return;
+    size_t r = x % t->banks % 8 * 8 + x / 8 % t->rows % 8;
+    uint32_t bit = UINT32_C(1) << (t->oldest + x / 64) % t->stages % 16;
+    if (x < 16384)
+        t->loads[r] ^= x < 8192 ? t->stores[r] : bit;
+    else
+        t->stores[r] ^= x < 24576 ? t->loads[r] : bit;
+}
+
 static void spoil(struct table *t, size_t what, size_t x)
 {
     size_t r = x % 64;
@@ -649,12 +723,13 @@ static void spoil(struct table *t, size_t what, size_t x)
     case 6: t->executed ^= bit; break;
     case 7: t->loads[r] ^= outside ? 0 : bit; break;
     case 8: t->stores[r] = outside ? t->stores[r] : x < 16384 ? t->stores[r] ^ bit : marks_of(t, r); break;
-    default: t->addresses[r] = outside ? t->addresses[r] : address_drawn(x / 64);
+    case 9: t->addresses[r] = outside ? t->addresses[r] : address_drawn(x / 64); break;
+    default: spoil_marks(t, x);
     }
 }
 
 uint64_t inplace_buffer(struct sizes sizes, uint32_t calls, uint64_t seed, struct spoiling spoiling,
-                        struct memory memory)
+                        size_t whole, struct memory memory)
 {
     struct table t;
     uint64_t sum = with_done(0, buffer_open(&t, sizes, memory)), second = seed;
@@ -682,8 +757,11 @@ uint64_t inplace_buffer(struct sizes sizes, uint32_t calls, uint64_t seed, struc
         }
         if (kind < 25)
             why = buffer_load(&t, ticket, address, memory, &out);
-        else if (kind < 30)
+        else if (kind < whole)
             why = buffer_store(&t, ticket, address, bits(second), memory, &out);
+        else if (kind < 30)
+            why = buffer_part(&t, ticket, part_drawn(bits(second)), address * 4 + bits(second) / 256 % 4,
+                              (uint32_t)(second / 134217728), memory, &out);
         else
             why = buffer_other(&t, ticket, memory, &out);
         sum = with_executed(sum, why, &out);
@@ -714,22 +792,33 @@ static void spoil_entry(struct entry *e, size_t what, size_t x)
         e->value = 1;
         e->address = address;
         break;
-    default:
-        e->code = 3;
+    case 3:
+    case 4:
+    case 5:
+    case 6:
+        e->code = what;
         e->d = 2;
         e->s = 0;
         e->imm = address;
+        break;
+    default:
+        // of a waiting entry neither is read
+        e->value = 1;
+        e->address ^= x / 8 % 8;
     }
 }
 
 static void spoil_machine(struct machine *m, size_t what, size_t x)
 {
-    if (what < 10)
-        spoil(&m->table, what, x);
-    else if (what == 10)
+    struct table *t = &m->table;
+    if (what < 11)
+        spoil(t, what, x);
+    else if (what == 11)
         m->count++;
-    else
+    else if (what == 12)
         spoil_entry(&m->window[x / 128 % 16], x % 4, x);
+    else
+        spoil_entry(&m->window[t->stages ? (t->oldest + x / 128) % t->stages % 16 : 0], 3 + x % 8, x);
 }
 
 uint64_t inplace_machine(struct sizes sizes, uint32_t calls, uint64_t seed, struct spoiling spoiling,

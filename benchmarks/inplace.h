@@ -23,6 +23,9 @@ struct ticket {
     uint32_t number;
 };
 
+// What a part store replaces: the byte at its byte number, or the half word that holds it.
+enum part { BYTE, HALF };
+
 // The answer of an execution that was not refused.
 struct outcome {
     uint32_t value;
@@ -68,6 +71,8 @@ unsigned buffer_load(struct table *t, struct ticket ticket, uint32_t address, st
                      struct outcome *out);
 unsigned buffer_store(struct table *t, struct ticket ticket, uint32_t address, uint32_t value,
                       struct memory memory, struct outcome *out);
+unsigned buffer_part(struct table *t, struct ticket ticket, enum part part, uint32_t byte, uint32_t from,
+                     struct memory memory, struct outcome *out);
 unsigned buffer_other(struct table *t, struct ticket ticket, struct memory memory, struct outcome *out);
 unsigned buffer_squash(struct table *t, struct ticket ticket);
 unsigned buffer_commit(struct table *t, struct memory memory, struct ticket *ticket);
@@ -88,9 +93,10 @@ struct spoiling {
     size_t part, by;
 };
 
-// The mixes of crates/mixes_buffer and mixes_machine, with the same answers.
+// The mixes of crates/mixes_buffer and mixes_machine, with the same answers. Turns of the kinds 25 to 29 are the
+// buffer's stores, those from `whole` on of a part.
 uint64_t inplace_buffer(struct sizes sizes, uint32_t calls, uint64_t seed, struct spoiling spoiling,
-                        struct memory memory);
+                        size_t whole, struct memory memory);
 uint64_t inplace_machine(struct sizes sizes, uint32_t calls, uint64_t seed, struct spoiling spoiling,
                          struct lent program, struct memory memory);
 uint64_t inplace_finish(struct sizes sizes, uint32_t runs, uint32_t limit, struct lent program,

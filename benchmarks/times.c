@@ -4,7 +4,8 @@
 
 #include <stdio.h>
 
-enum { WORDS = 96, SECONDS = 15, LINES = 18 };
+// After the lines without part stores come those with them, of sixteen stages.
+enum { WORDS = 96, SECONDS = 22, PLAIN = 18, LINES = 27 };
 
 // A line of the table: a job, and the least time of a round in each.
 struct line {
@@ -20,7 +21,7 @@ static void measure(struct line *lines)
     double stop = now() + SECONDS * 1e9;
     while (now() < stop)
         for (struct line *line = lines; line < lines + LINES; line++) {
-            write_program(line->job.numbers / 4, line->job.seed, 0);
+            write_program(line->job.numbers / 4, line->job.seed, line->job.parts, 0);
             fill_both(0);
             for (int round = 0; round < 4; round++) {
                 double c, r;
@@ -35,8 +36,8 @@ static void print(const struct line *line)
 {
     const struct job *j = &line->job;
     double calls = j->mix == FINISH ? j->calls * j->numbers / 4 : j->calls;
-    printf("%-8s %3zu %5zux%zu %12.0f %12.0f %8.1f\n", mix_names[j->mix], j->sizes.stages, j->sizes.banks,
-           j->sizes.rows, line->c / calls, line->r / calls, line->r / line->c);
+    printf("%-14s %3zu %5zux%zu %12.0f %12.0f %8.1f\n", mix_names[j->parts][j->mix], j->sizes.stages,
+           j->sizes.banks, j->sizes.rows, line->c / calls, line->r / calls, line->r / line->c);
 }
 
 int main(void)
@@ -44,8 +45,10 @@ int main(void)
     static const struct sizes tables[] = {{1, 1, 0, WORDS}, {1, 8, 0, WORDS}, {8, 8, 0, WORDS}};
     struct line lines[LINES];
     for (size_t i = 0; i < LINES; i++) {
-        struct job j = {.mix = i / 6, .sizes = tables[i % 3], .seed = 11, .spoiling.when = NEVER};
-        j.sizes.stages = i / 3 % 2 ? 16 : 4;
+        bool parts = i >= PLAIN;
+        struct job j = {.parts = parts, .sizes = tables[i % 3], .seed = 11, .spoiling.when = NEVER};
+        j.mix = parts ? (i - PLAIN) / 3 : i / 6;
+        j.sizes.stages = parts || i / 3 % 2 ? 16 : 4;
         j.calls = j.mix == FINISH ? 1 : 1000;
         j.limit = 256;
         j.length = WORDS;
@@ -54,7 +57,7 @@ int main(void)
         lines[i] = (struct line){j, 1e18, 1e18};
     }
     measure(lines);
-    printf("%-8s %3s %7s %12s %12s %8s\n", "mix", "n", "B x R", "C, ns", "Rattle, ns", "ratio");
+    printf("%-14s %3s %7s %12s %12s %8s\n", "mix", "n", "B x R", "C, ns", "Rattle, ns", "ratio");
     for (size_t i = 0; i < LINES; i++)
         print(&lines[i]);
     if (differences)

@@ -4,7 +4,7 @@ use crate::events::Way;
 use crate::text::parse;
 
 /// The bytes of good lines.
-pub const GRAMMAR: &[u8] = b"0123456789,NAPLSieqcx";
+pub const GRAMMAR: &[u8] = b"0123456789,NAPLSBHieqcx";
 /// Longer lines are not looked at: no good line comes near.
 const LONGEST_LINE: usize = 80;
 

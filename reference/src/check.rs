@@ -36,6 +36,12 @@ impl Check {
     fn progress<R: Rules>(&self, mut machine: Machine<R>) {
         let Some(next) = self.run.ahead() else {
             assert_eq!(machine.advance(), None, "a commit after the end of the sequential run");
+            let ended = self.run.index == self.run.program.len();
+            assert_eq!(
+                (machine.done(), machine.faulted()),
+                (ended, !ended),
+                "not the end of the sequential run"
+            );
             return;
         };
         if machine.window.live.is_empty() {

@@ -1,9 +1,10 @@
 //! Counters of what scripts reach. Each kind has a name; most are members of a family with a number or two.
 
+use crate::window::{Code, CODES, LOADS, PARTS};
 use std::collections::HashMap;
 use std::sync::OnceLock;
 
-const SINGLE: [&str; 98] = [
+const SINGLE: [&str; 114] = [
     "issue wrapped",
     "re-issued executed late",
     "re-issued executed late, wrapped",
@@ -17,13 +18,8 @@ const SINGLE: [&str; 98] = [
     "violation at W or more",
     "operand with a choice",
     "operand across the wrap",
-    "operand past an S of the register",
     "operand of a load",
     "operand of the registers, a younger one writes",
-    "sum of A wrapped",
-    "sum of P wrapped",
-    "sum of L wrapped",
-    "sum of S wrapped",
     "q of the oldest",
     "q of the youngest",
     "q of executed ones",
@@ -32,6 +28,20 @@ const SINGLE: [&str; 98] = [
     "fault by c or x, executed before",
     "fault by x",
     "fault squashed",
+    "fault by e of an odd H",
+    "fault by c or x of an odd H, executed before",
+    "fault by x of an odd H",
+    "fault of an odd H squashed",
+    "odd H executed below W",
+    "odd H executed at W",
+    "odd H executed above W",
+    "odd H forwards",
+    "odd H takes a forwarded word",
+    "odd H squashed by a store",
+    "odd H evicted",
+    "B executed at byte 4W",
+    "B committed at byte 4W - 1",
+    "H committed at byte 4W - 2",
     "x limit 0",
     "x limit 1",
     "x limit above 256",
@@ -50,11 +60,12 @@ const SINGLE: [&str; 98] = [
     "refusal 8",
     "refusal 9",
     "refusal 9, an older writer has executed",
-    "refusal 9 of the second operand",
     "refusal 11",
     "refusal 12",
     "refusal 12, a younger one has executed",
     "refusal 13",
+    "refusal 13 of an odd H",
+    "refusal 14",
     "input empty",
     "input of 65536 bytes",
     "input longer",
@@ -94,14 +105,20 @@ const SINGLE: [&str; 98] = [
     "m line of word 4095",
     "256 commits",
     "end done",
-    "end fault of a load",
-    "end fault of a store",
+    "end fault of an odd H below W",
+    "end fault of an odd H at W or more",
+    "end fault of an even H",
     "end open",
     "end open, none live",
     "end open, all issued",
     "end open, the oldest waits and would fault",
     "end open, the next would fault",
+    "end open, the oldest waits and would be an odd H",
+    "end open, the next would be an odd H",
     "end open, a younger one is past the end",
+    "end open, a younger one is an odd H",
+    "end open, the oldest is an odd B",
+    "end open, the oldest is a part at a byte number of W or more",
 ];
 
 /// How one byte makes a line differ from a good one.
@@ -116,6 +133,21 @@ pub const WAYS: [Way; 3] = [Way::Replaced, Way::Inserted, Way::Appended];
 pub const BANKS: [u32; 4] = [1, 2, 4, 8];
 /// Sizes just outside their limits.
 const OUTSIDE: [&str; 9] = ["B 0", "B 3", "B 16", "R 0", "R 9", "n 0", "n 17", "W 0", "W 4097"];
+
+/// Events of a bad line that are told by its letter, too.
+pub const SPOILED: [&str; 3] = ["field missing", "field extra", "instruction after a step"];
+/// What a store of a part can meet.
+const OF_PART: [&str; 9] = [
+    "of a larger register",
+    "into a word of memory",
+    "into a forwarded word unlike memory's",
+    "of the word already there",
+    "violates by the word already there",
+    "in another bank than its byte number's",
+    "at W or more takes a forwarded word",
+    "committed at a byte number of W or more",
+    "committed with a word above 2147483647",
+];
 
 pub fn by_byte(way: Way, byte: u8) -> String {
     format!("byte {byte} {way:?}")
@@ -152,12 +184,43 @@ fn all() -> Vec<String> {
     names.extend((1..=8).map(|rows| format!("size R {rows}")));
     names.extend([1, 4096].map(|words| format!("size W {words}")));
     names.extend(OUTSIDE.map(|size| format!("size outside, {size}")));
-    for code in ["A", "P", "L", "S"] {
-        names.extend(["d", "s"].map(|field| format!("register 8, {field} of {code}")));
-    }
+    names.extend(CODES.into_iter().flat_map(of_code));
     names.push("register 8, imm of P".into());
     names.extend(WAYS.into_iter().flat_map(|way| (0..=255).map(move |byte| by_byte(way, byte))));
     names
+}
+
+/// The kinds of a code.
+fn of_code(code: Code) -> Vec<String> {
+    let mut kinds =
+        vec![format!("sum of {code:?} wrapped"), format!("refusal 9 of the first operand of {code:?}")];
+    kinds.extend(["d", "s"].map(|field| format!("register 8, {field} of {code:?}")));
+    kinds.extend(SPOILED.map(|event| format!("{event}, {code:?}")));
+    if code == Code::P || code.stores() {
+        kinds.push(format!("refusal 9 of the second operand of {code:?}"));
+    }
+    if code.loads() || code.stores() {
+        kinds.extend(["by", "of"].map(|word| format!("eviction {word} {code:?}")));
+        kinds.extend([10, 13].map(|number| format!("refusal {number} of {code:?}")));
+        kinds.push(format!("end fault of {code:?}"));
+    }
+    if code.stores() {
+        kinds.push(format!("operand past a store of the register, {code:?}"));
+        for load in LOADS {
+            let pair = |event| format!("{event}, {code:?} and {load:?}");
+            kinds.extend(["forward", "violation", "store between"].map(pair));
+        }
+    }
+    if code.is_part() {
+        kinds.extend((0..4).map(|place| format!("{code:?} at byte {place}")));
+        let places = (0..4).filter(|place| code == Code::B || place % 2 == 0);
+        kinds.extend(places.map(|place| format!("{code:?} committed at byte {place}")));
+        for older in PARTS {
+            kinds.extend(["beside", "over"].map(|how| format!("{code:?} {how} {older:?}")));
+        }
+        kinds.extend(OF_PART.map(|event| format!("{code:?} {event}")));
+    }
+    kinds
 }
 
 #[derive(Clone)]
@@ -190,23 +253,23 @@ impl Events {
         self.0.iter_mut().zip(&other.0).for_each(|(sum, count)| *sum += count);
     }
 
-    /// Lines that tell how often each kind was reached: of a family how many kinds it has, and the least of them.
+    /// Lines that tell how often each kind was reached: of a family with numbers how many kinds it has, and the least
+    /// of them.
     pub fn table(&self) -> Vec<String> {
-        let mut lines: Vec<String> =
-            self.list().take(SINGLE.len()).map(|(name, count)| format!("{name:54} {count:8}")).collect();
-        let mut families: Vec<(String, usize, u64)> = Vec::new();
-        for (name, count) in self.list().skip(SINGLE.len()) {
-            let name = family(name);
+        let mut families: Vec<(&str, usize, u64)> = Vec::new();
+        for (name, count) in self.list() {
             match families.last_mut() {
-                Some((last, kinds, least)) if *last == name => {
+                Some((last, kinds, least)) if family(last) == family(name) => {
                     (*kinds, *least) = (*kinds + 1, count.min(*least))
                 }
                 _ => families.push((name, 1, count)),
             }
         }
-        let line = |(name, kinds, least)| format!("{name:40} {kinds:4} kinds, least {least:8}");
-        lines.extend(families.into_iter().map(line));
-        lines
+        let line = |(name, kinds, least)| match kinds {
+            1 => format!("{name:60} {least:8}"),
+            _ => format!("{:40} {kinds:4} kinds, least {least:8}", family(name)),
+        };
+        families.into_iter().map(line).collect()
     }
 
     pub fn list(&self) -> impl Iterator<Item = (&'static str, u64)> + '_ {

@@ -1,16 +1,17 @@
-//! Scripts from a seed: full banks, pairs at both ends of a window, lines spoiled by every byte and by every limit,
-//! short scripts that probe windows before they finish, malformed ones, and rare huge ones.
+//! Scripts from a seed: full banks, pairs at both ends of a window, parts of words at the end of memory and at odd
+//! places, lines spoiled by every byte and by every limit, short scripts that probe windows before they finish,
+//! malformed ones, and rare huge ones.
 
 use crate::events::{BANKS, WAYS};
 use crate::player::LONGEST;
 use crate::prober::Prober;
 use crate::random::Random;
-use crate::reach::{cut_positions, full_bank, pair, PAIRS};
+use crate::reach::{cut_positions, edge, full_bank, guarded, pair, EDGES, PAIRS};
 use crate::rules::MOST_INSTRUCTIONS;
-use crate::spoil::{just_beyond, spoil, spoil_by};
+use crate::spoil::{just_beyond, spoil, spoil_by, BEYOND};
 use crate::taste::Taste;
 use crate::text::{Line, Step};
-use crate::window::{Instruction, Sizes};
+use crate::window::{Instruction, Sizes, LOADS, STORES};
 
 /// So many seeds in a row reach every table, every long pair, every limit and every byte, this in one of its ways.
 const ROUND: u64 = 1000;
@@ -27,16 +28,18 @@ pub fn generate(seed: u64) -> Vec<u8> {
         256..=415 => full_bank(random, BANKS[turn % 4], 1 + (turn / 4 % 8) as u32).text(),
         416..=559 => pair(random, PAIRS[turn % 4], 4 + turn / 4 % 12).text(),
         560..=569 => cut_positions(random).text(),
-        570..=605 => {
+        570..=609 => {
             let draft = Draft::probing(random);
-            just_beyond(random, draft, turn % 18)
+            just_beyond(random, draft, turn % BEYOND)
         }
+        610..=664 => edge(random, turn % EDGES).text(),
+        665..=682 => guarded(random, STORES[turn % 3], LOADS[turn / 3 % 3]).text(),
         _ => any(random),
     }
 }
 
 fn any(random: &mut Random) -> Vec<u8> {
-    match random.below(400) {
+    match random.below(340) {
         0..=7 => huge(random),
         8..=17 => crowded(random),
         18..=39 => slight(random),
@@ -116,7 +119,7 @@ fn crowded(random: &mut Random) -> Vec<u8> {
     let sizes = Sizes { stages: random.pick(&[5, 15, 16]), ..sizes(random) };
     let addresses = (0..200).map(|_| random.number(sizes.words)).collect();
     let mut taste = Taste::new(random, sizes);
-    (taste.faults, taste.chained) = (0, false);
+    (taste.faults, taste.odd, taste.chained) = (0, 0, false);
     if random.one_in(2) {
         taste.addresses = addresses;
     }

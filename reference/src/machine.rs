@@ -1,13 +1,13 @@
 //! The window machine: issue, execute, squash, commit and finish over the plain list.
 
 use crate::rules::Rules;
-use crate::window::{Code, Entry, Fate, Instruction, Sizes, Window};
+use crate::window::{Access, Code, Entry, Fate, Instruction, Sizes, Window};
 
 #[derive(Clone, Copy, PartialEq, Eq, Debug)]
 pub struct Commit {
     pub index: usize,
     pub code: Code,
-    /// The register, for S the address.
+    /// The register, for S the address, for B and H the byte number.
     pub target: u32,
     pub value: u32,
 }
@@ -63,9 +63,9 @@ impl<R: Rules> Machine<R> {
                 Ok(self.other(k, sum))
             }
             Code::L => self.load(k, self.rules.sum(base, imm)),
-            Code::S => {
-                let word = self.operand(k, d)?;
-                self.store(k, self.rules.sum(base, imm), word)
+            Code::S | Code::B | Code::H => {
+                let value = self.operand(k, d)?;
+                self.store(k, self.rules.sum(base, imm), value)
             }
         }
     }
@@ -80,15 +80,18 @@ impl<R: Rules> Machine<R> {
 
     pub fn commit(&mut self) -> Result<Commit, u32> {
         let oldest = *self.window.live.first().ok_or(11u32)?;
-        let Fate::Executed { value, address } = oldest.fate else { return Err(12) };
-        if address.is_some_and(|address| address >= self.window.sizes.words) {
+        let Fate::Executed { value, access } = oldest.fate else { return Err(12) };
+        if self.past(&oldest) {
             return Err(13);
         }
+        if self.odd(&oldest) {
+            return Err(14);
+        }
         let Instruction { code, d, .. } = oldest.instruction;
-        let target = match address {
-            Some(address) if code == Code::S => {
-                self.memory[address as usize] = value;
-                address
+        let target = match access {
+            Some(Access { number, word }) if code.stores() => {
+                self.memory[word as usize] = value;
+                number
             }
             _ => {
                 self.registers[d as usize] = value;
@@ -129,10 +132,19 @@ impl<R: Rules> Machine<R> {
         self.window.live.is_empty() && self.next == self.program.len()
     }
 
-    /// The oldest has executed at an address outside the memory.
+    /// The oldest has executed outside the memory, or is an H at an odd byte number.
     pub fn faulted(&self) -> bool {
-        let mark = self.window.live.first().and_then(Entry::mark);
-        mark.is_some_and(|address| address >= self.window.sizes.words)
+        self.window.live.first().is_some_and(|oldest| self.past(oldest) || self.odd(oldest))
+    }
+
+    /// It has executed outside the memory.
+    pub fn past(&self, entry: &Entry) -> bool {
+        entry.mark().is_some_and(|word| word >= self.window.sizes.words)
+    }
+
+    /// It has executed at a byte number that an H must not have.
+    pub fn odd(&self, entry: &Entry) -> bool {
+        entry.access().is_some_and(|access| self.rules.misaligned(entry.code(), access.number))
     }
 
     fn operand(&self, k: usize, register: u32) -> Result<u32, u32> {
@@ -140,32 +152,42 @@ impl<R: Rules> Machine<R> {
     }
 
     fn other(&mut self, k: usize, value: u32) -> Executed {
-        self.window.live[k].fate = Fate::Executed { value, address: None };
+        self.window.live[k].fate = Fate::Executed { value, access: None };
         Executed { value: 0, squashed: None }
     }
 
     fn load(&mut self, k: usize, address: u32) -> Result<Executed, u32> {
         let squashed = self.rules.room(&self.window, k, address)?;
-        let value = match self.rules.forward(&self.window, k, address) {
-            Some(store) => self.window.live[store].value().unwrap_or(0),
-            None => self.memory.get(address as usize).copied().unwrap_or(0),
-        };
-        self.mark(k, value, address, squashed);
+        let value = self.taken(k, address);
+        self.mark(k, value, Access { number: address, word: address }, squashed);
         Ok(Executed { value, squashed })
     }
 
-    fn store(&mut self, k: usize, address: u32, value: u32) -> Result<Executed, u32> {
-        let evicted = self.rules.room(&self.window, k, address)?;
-        let squashed = evicted.or_else(|| self.rules.violation(&self.window, k, address, value));
-        self.mark(k, value, address, squashed);
+    /// A store of a part takes the word as a load does, and stores the whole of it.
+    fn store(&mut self, k: usize, number: u32, value: u32) -> Result<Executed, u32> {
+        let code = self.window.live[k].code();
+        let word = self.rules.word(code, number);
+        let evicted = self.rules.room(&self.window, k, word)?;
+        let whole =
+            if code.is_part() { self.rules.merge(code, number, self.taken(k, word), value) } else { value };
+        let squashed = evicted.or_else(|| self.rules.violation(&self.window, k, word, whole));
+        self.mark(k, whole, Access { number, word }, squashed);
         Ok(Executed { value: 0, squashed })
     }
 
-    fn mark(&mut self, k: usize, value: u32, address: u32, squashed: Option<usize>) {
+    /// The word that position `k` takes: of the nearest older store to it, else of memory, else 0.
+    fn taken(&self, k: usize, word: u32) -> u32 {
+        match self.rules.forward(&self.window, k, word) {
+            Some(store) => self.window.live[store].value().unwrap_or(0),
+            None => self.memory.get(word as usize).copied().unwrap_or(0),
+        }
+    }
+
+    fn mark(&mut self, k: usize, value: u32, access: Access, squashed: Option<usize>) {
         if let Some(from) = squashed {
             self.drop_from(from);
         }
-        self.window.live[k].fate = Fate::Executed { value, address: Some(address) };
+        self.window.live[k].fate = Fate::Executed { value, access: Some(access) };
     }
 
     fn drop_from(&mut self, from: usize) {

@@ -4,7 +4,7 @@ use crate::machine::Machine;
 use crate::random::Random;
 use crate::rules::Stated;
 use crate::text::Step;
-use crate::window::{Code, Instruction, Sizes};
+use crate::window::{Instruction, Sizes};
 
 /// Which waiting position is executed next.
 #[derive(Clone, Copy)]
@@ -68,6 +68,11 @@ impl<'a> Prober<'a> {
         for k in 0..self.machine.window.live.len() as u32 {
             self.take(if squashes { Step::Squash(above + k) } else { Step::Execute(above + k) });
         }
+    }
+
+    /// The steps so far, and none after them.
+    pub fn stop(self) -> Vec<Step> {
+        self.steps
     }
 
     pub fn commit_all(mut self) -> Vec<Step> {
@@ -174,8 +179,8 @@ impl<'a> Prober<'a> {
     fn waiting(&mut self, order: Order) -> Option<u32> {
         let live = &self.machine.window.live;
         let mut waiting: Vec<usize> = (0..live.len()).filter(|&p| live[p].waits()).collect();
-        if matches!(order, Order::LoadsFirst) && waiting.iter().any(|&p| live[p].is(Code::L)) {
-            waiting.retain(|&p| live[p].is(Code::L));
+        if matches!(order, Order::LoadsFirst) && waiting.iter().any(|&p| live[p].code().loads()) {
+            waiting.retain(|&p| live[p].code().loads());
         }
         let position = match order {
             // Now and then another one, as the first can wait for a writer or a row.

@@ -1,10 +1,11 @@
-//! Scripts that fill a bank of any size, that make two far instructions of a window meet, and that name positions far
-//! outside of it.
+//! Scripts that fill a bank of any size, that make two far instructions of a window meet, that store parts of words at
+//! the end of memory and at odd places, and that name positions far outside of the window.
 
 use crate::generator::Draft;
 use crate::prober::{Order, Prober};
 use crate::random::Random;
-use crate::window::{Code, Instruction, Sizes};
+use crate::taste::part_of;
+use crate::window::{Code, Instruction, Sizes, PARTS};
 
 /// What the two instructions of a pair are to each other.
 #[derive(Clone, Copy, PartialEq, Eq, Debug)]
@@ -15,6 +16,8 @@ pub enum Pair {
     Eviction,
 }
 
+/// How many kinds of places `edge` knows.
+pub const EDGES: usize = 11;
 pub const PAIRS: [Pair; 4] = [Pair::Forward, Pair::Violation, Pair::Operand, Pair::Eviction];
 
 /// References to one bank, of one or two addresses more than it has rows, executed from either end of the window:
@@ -70,6 +73,81 @@ pub fn pair(random: &mut Random, pair: Pair, distance: usize) -> Draft {
     Draft::new(sizes, program, prober.show())
 }
 
+/// A store of a part where it just commits or is refused, or would be by another reading, with stores before it and
+/// loads after it. The last kinds end with it executed and not committed, the very last with it as the oldest.
+pub fn edge(random: &mut Random, which: usize) -> Draft {
+    let stages = 3 + random.number(6);
+    let words = random.pick(&[1, 2, 3, 8, 100, 4096]);
+    let sizes = Sizes { banks: random.pick(&[1, 2]), rows: 1 + random.number(3), stages, words };
+    let mut program = Vec::new();
+    let turned = constants(random, &mut program, stages);
+    let some = random.number(words);
+    let (code, byte) = edge_of(random, which, words, some);
+    let (open, oldest) = (which + 2 >= EDGES, which + 1 == EDGES);
+    let (before, after) = (random.pick(&PARTS), random.pick(&PARTS));
+    let mut add = |code, imm| {
+        let d = if code == Code::L { 4 } else { 1 + random.number(3) };
+        program.push(Instruction { code, d, s: 0, imm });
+    };
+    if !oldest {
+        add(Code::S, if byte / 4 < words { byte / 4 } else { some });
+        add(before, 4 * some);
+    }
+    add(code, byte);
+    add(Code::L, byte / 4);
+    add(after, some & !1);
+    add(Code::L, some / 4);
+    let order = random.pick(&[Order::Oldest, Order::Youngest, Order::Any]);
+    let mut prober = Prober::new(random, sizes, program.clone());
+    if !open && prober.heads() {
+        return Draft::new(sizes, program, prober.probe(40));
+    }
+    prober.start(turned, stages);
+    prober.all(order);
+    Draft::new(sizes, program, if open { prober.stop() } else { prober.show() })
+}
+
+/// A code and a byte number: the last ones of memory, those past its end, those below it if upper bits are cut off, and
+/// odd ones.
+fn edge_of(random: &mut Random, which: usize, words: u32, some: u32) -> (Code, u32) {
+    let (end, odd) = (4 * words, random.pick(&[1, 3]));
+    match which {
+        0 => (Code::B, end - 1),
+        1 => (Code::H, end - 2),
+        2 => (Code::B, end + random.pick(&[0, 0, odd])),
+        3 => (Code::H, end + random.pick(&[0, 2])),
+        4 => (Code::H, end + odd),
+        5 => (Code::H, end + 4 * random.number(1 << 20) + odd),
+        6 => (Code::H, (1 << 16) + 4 * some),
+        7 => (Code::H, (1 << 31) + 4 * some),
+        8 | 9 => (Code::H, 4 * some + odd),
+        _ => random.pick(&[(Code::B, 4 * some + odd), (Code::B, end - 1), (Code::H, end - 2)]),
+    }
+}
+
+/// A store, a younger S and a still younger load side at one word, executed so that the S stands between them.
+pub fn guarded(random: &mut Random, store: Code, load: Code) -> Draft {
+    let stages = 5 + random.number(12);
+    let sizes = Sizes { banks: random.pick(&[1, 2, 4, 8]), rows: 3, stages, words: 64 };
+    let mut program = Vec::new();
+    let turned = constants(random, &mut program, stages);
+    let old = random.number(stages - 2);
+    let middle = old + 1 + random.number(stages - 2 - old);
+    let young = middle + 1 + random.number(stages - 1 - middle);
+    let codes = [(old, store), (middle, Code::S), (young, load)];
+    for position in 0..stages {
+        let one = codes.iter().find(|(place, _)| *place == position);
+        program.push(match one {
+            Some((_, code)) => at_word(random, *code, 5),
+            None => between(random, Pair::Forward),
+        });
+    }
+    let mut prober = Prober::new(random, sizes, program.clone());
+    prober.start(turned, stages);
+    prober.executes(&[middle, young, old]);
+    Draft::new(sizes, program, prober.show())
+}
+
 /// Positions that name a live one only if their upper bits are cut off, and nothing but commits after them.
 pub fn cut_positions(random: &mut Random) -> Draft {
     let stages = 1 + random.number(16);
@@ -89,7 +167,8 @@ pub fn cut_positions(random: &mut Random) -> Draft {
 /// Three constants, for words that tell stores apart, and as many more as turn the window; answers how many.
 fn constants(random: &mut Random, program: &mut Vec<Instruction>, stages: u32) -> u32 {
     let count = 3 + random.number(stages);
-    let constant = |step| Instruction { code: Code::A, d: 1 + step % 3, s: 0, imm: 10 + step };
+    let word = |step: u32| (10 + step).wrapping_mul(0x0b1d_2f41);
+    let constant = |step| Instruction { code: Code::A, d: 1 + step % 3, s: 0, imm: word(step) };
     program.extend((0..count).map(constant));
     count
 }
@@ -98,21 +177,40 @@ fn reference(random: &mut Random, address: u32) -> Instruction {
     let (loaded, stored) = (4 + random.number(3), 1 + random.number(3));
     let load = Instruction { code: Code::L, d: loaded, s: 0, imm: address };
     let store = Instruction { code: Code::S, d: stored, s: 0, imm: address };
-    random.pick(&[load, store])
+    let part = part(random, stored, address);
+    random.pick(&[load, load, store, part])
+}
+
+/// A store of a part of the word at this address.
+fn part(random: &mut Random, d: u32, address: u32) -> Instruction {
+    let code = random.pick(&PARTS);
+    Instruction { d, ..at_word(random, code, address) }
+}
+
+/// A load or store of this code at a word.
+fn at_word(random: &mut Random, code: Code, address: u32) -> Instruction {
+    let d = if code == Code::L { 4 } else { 1 + random.number(3) };
+    let imm = if code.is_part() { 4 * address + part_of(random, code, false) } else { address };
+    Instruction { code, d, s: 0, imm }
 }
 
 /// The first and the last instruction of a pair. No other of the window writes register 7 or is at word 5.
 fn ends(random: &mut Random, pair: Pair) -> (Instruction, Instruction) {
-    let store = Instruction { code: Code::S, d: 1 + random.number(3), s: 0, imm: 5 };
+    let (d, e) = (1 + random.number(3), 1 + random.number(3));
+    let (one, other) = (part(random, d, 5), part(random, e, 5));
+    let store = Instruction { code: Code::S, d, s: 0, imm: 5 };
     let load = Instruction { code: Code::L, d: 4, s: 0, imm: 5 };
+    let (store, load) = (random.pick(&[store, store, one]), random.pick(&[load, load, other]));
     let writer = Instruction { code: Code::A, d: 7, s: 0, imm: 9 + random.number(9) };
     let sum = Instruction { code: Code::A, d: 4, s: 7, imm: random.number(3) };
     let both = Instruction { code: Code::P, d: 4, s: 0, imm: 7 };
     let stored = Instruction { code: Code::S, d: 7, s: 0, imm: 5 };
-    let elsewhere = Instruction { imm: 5 + 8 * (1 + random.number(5)), ..random.pick(&[store, load]) };
+    let stored_part = part(random, 7, 5);
+    let word = 5 + 8 * (1 + random.number(5));
+    let elsewhere = reference(random, word);
     match pair {
         Pair::Forward | Pair::Violation => (store, load),
-        Pair::Operand => (writer, random.pick(&[sum, both, stored])),
+        Pair::Operand => (writer, random.pick(&[sum, both, stored, stored_part])),
         Pair::Eviction => (random.pick(&[store, load]), elsewhere),
     }
 }
@@ -127,8 +225,8 @@ fn between(random: &mut Random, pair: Pair) -> Instruction {
     }
     let word = random.pick(&[6, 13]);
     let other = reference(random, word);
-    match (pair, other.code) {
-        (Pair::Operand, Code::S) => Instruction { d: random.pick(&[7, 7, 1]), ..other },
-        _ => other,
+    if pair == Pair::Operand && other.code.stores() {
+        return Instruction { d: random.pick(&[7, 7, 1]), ..other };
     }
+    other
 }

@@ -7,16 +7,17 @@ use crate::window::{Code, Fate, Instruction, Sizes, Window};
 pub const MOST_INSTRUCTIONS: usize = 256;
 
 pub trait Rules: Clone {
-    /// The store whose word a load at position `k` takes: the youngest older one to this address.
+    /// The store whose word position `k` takes, a load or a store of a part: the youngest older one to this address.
     fn forward(&self, window: &Window, k: usize, address: u32) -> Option<usize> {
-        let stores = |p: &usize| window.live[*p].is(Code::S) && window.live[*p].mark() == Some(address);
+        let stores = |p: &usize| window.live[*p].code().stores() && window.live[*p].mark() == Some(address);
         (0..k).rev().find(stores)
     }
 
-    /// Where a store at position `k` squashes from. The value plays no part.
+    /// Where a store at position `k` squashes from. The value plays no part, and what loads and stores is met as a
+    /// load.
     fn violation(&self, window: &Window, k: usize, address: u32, _value: u32) -> Option<usize> {
         let first = (k + 1..window.live.len()).find(|&p| window.live[p].mark() == Some(address))?;
-        window.live[first].is(Code::L).then_some(first)
+        window.live[first].code().loads().then_some(first)
     }
 
     /// A row for position `k`: had or free (nothing to squash), by eviction (where to squash from), or none.
@@ -52,6 +53,30 @@ pub trait Rules: Clone {
 
     fn sum(&self, left: u32, right: u32) -> u32 {
         left.wrapping_add(right)
+    }
+
+    /// The word that an instruction of this code is at. Rows, marks and memory go by it.
+    fn word(&self, code: Code, number: u32) -> u32 {
+        if code.is_part() {
+            number / 4
+        } else {
+            number
+        }
+    }
+
+    /// A word with the low bits of `value` put where the byte number says; an H at an odd one is at the byte below.
+    fn merge(&self, code: Code, byte: u32, word: u32, value: u32) -> u32 {
+        let (low, ones) = match code {
+            Code::B => (byte % 4 * 8, 0xff),
+            Code::H => (byte % 4 / 2 * 16, 0xffff),
+            _ => (0, u32::MAX),
+        };
+        word & !(ones << low) | (value & ones) << low
+    }
+
+    /// Whether a commit at this number is refused although the memory has its word.
+    fn misaligned(&self, code: Code, number: u32) -> bool {
+        code == Code::H && number % 2 == 1
     }
 
     /// The next instruction after a squash from this position on.

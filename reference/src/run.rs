@@ -30,6 +30,7 @@ impl Run {
                 self.memory.get(sum as usize)?;
                 (sum, self.registers[d as usize])
             }
+            Code::B | Code::H => (sum, self.whole(code, sum, self.registers[d as usize])?),
         };
         Some(Commit { index, code, target, value })
     }
@@ -38,9 +39,22 @@ impl Run {
         let commit = self.ahead()?;
         match commit.code {
             Code::S => self.memory[commit.target as usize] = commit.value,
+            Code::B | Code::H => self.memory[commit.target as usize / 4] = commit.value,
             _ => self.registers[commit.target as usize] = commit.value,
         }
         self.index += 1;
         Some(commit)
+    }
+
+    /// What the word of a byte number becomes by the lowest byte of a value, or by its lowest two. None before a fault.
+    fn whole(&self, code: Code, byte: u32, value: u32) -> Option<u32> {
+        let mut bytes = self.memory.get(byte as usize / 4)?.to_le_bytes();
+        let (place, [first, second, ..]) = (byte as usize % 4, value.to_le_bytes());
+        match code {
+            Code::H if place % 2 == 1 => return None,
+            Code::H => bytes[place..place + 2].copy_from_slice(&[first, second]),
+            _ => bytes[place] = first,
+        }
+        Some(u32::from_le_bytes(bytes))
     }
 }

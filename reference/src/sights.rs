@@ -2,20 +2,34 @@
 
 use crate::events::Events;
 use crate::rules::{Rules, Stated};
-use crate::window::{Code, Entry, Instruction, Window};
+use crate::window::{Access, Code, Entry, Instruction, Window};
+use std::cmp::Ordering;
 
 /// An execution at position `k` that was not refused; `entry` is what it became.
-pub fn executed(events: &mut Events, before: &Window, registers: &[u32; 8], k: usize, entry: Entry) {
-    let Instruction { code, s, imm, .. } = entry.instruction;
+pub fn executed(
+    events: &mut Events,
+    before: &Window,
+    registers: &[u32; 8],
+    memory: &[u32],
+    k: usize,
+    entry: Entry,
+) {
+    let Instruction { code, d, s, imm } = entry.instruction;
     operands_of(entry.instruction).for_each(|register| operand(events, before, k, register));
     let held = |register| Stated.operand(before, registers, k, register).unwrap_or(0);
     let right = if code == Code::P { held(imm) } else { imm };
     events.add_if(held(s).checked_add(right).is_none(), &format!("sum of {code:?} wrapped"));
-    let (Some(address), Some(value)) = (entry.mark(), entry.value()) else { return };
-    rows(events, before, k, address);
-    match code {
-        Code::L => load(events, before, k, address),
-        _ => store(events, before, k, address, value),
+    let (Some(access), Some(value)) = (entry.access(), entry.value()) else { return };
+    rows(events, before, k, access.word, code);
+    if code.loads() {
+        load(events, before, k, access.word, code);
+    }
+    if code.stores() {
+        store(events, before, k, access.word, entry, value);
+    }
+    if code.is_part() {
+        let memory = memory.get(access.word as usize).copied().unwrap_or(0);
+        part(events, before, k, access, Part { code, whole: value, register: held(d), memory });
     }
 }
 
@@ -30,13 +44,15 @@ pub fn unexecuted(events: &mut Events, before: &Window, k: usize, number: u32) {
             let waiting: Vec<u32> = operands_of(before.live[k].instruction).filter(waits).collect();
             let passed = |register: &u32| writers(before, k, *register).any(|p| !before.live[p].waits());
             events.add_if(waiting.iter().any(passed), "refusal 9, an older writer has executed");
-            let second = !waits(&before.live[k].instruction.s);
-            events.add_if(second, "refusal 9 of the second operand");
+            let Instruction { code, s, .. } = before.live[k].instruction;
+            let which = if waits(&s) { "first" } else { "second" };
+            events.add(&format!("refusal 9 of the {which} operand of {code:?}"));
         }
         10 => {
             events.add_if(mixed(before, k), "full bank, an address marked on both sides");
             let sizes = before.sizes;
             events.add(&format!("refusal 10, B {} R {}", sizes.banks, sizes.rows));
+            events.add(&format!("refusal 10 of {:?}", before.live[k].code()));
         }
         _ => events.add(&format!("refusal {number}")),
     }
@@ -46,6 +62,15 @@ pub fn uncommitted(events: &mut Events, window: &Window, number: u32) {
     events.add(&format!("refusal {number}"));
     let younger = window.live.iter().any(|entry| !entry.waits());
     events.add_if(number == 12 && younger, "refusal 12, a younger one has executed");
+    if let (13, Some(oldest)) = (number, window.live.first()) {
+        events.add(&format!("refusal 13 of {:?}", oldest.code()));
+        events.add_if(odd(oldest), "refusal 13 of an odd H");
+    }
+}
+
+/// An H that executed at an odd byte number.
+pub fn odd(entry: &Entry) -> bool {
+    entry.access().is_some_and(|access| Stated.misaligned(entry.code(), access.number))
 }
 
 /// The registers that an instruction reads.
@@ -53,8 +78,8 @@ fn operands_of(instruction: Instruction) -> impl Iterator<Item = u32> {
     let Instruction { code, d, s, imm } = instruction;
     let second = match code {
         Code::P => Some(imm),
-        Code::S => Some(d),
-        _ => None,
+        Code::S | Code::B | Code::H => Some(d),
+        Code::A | Code::L => None,
     };
     [s].into_iter().chain(second)
 }
@@ -74,11 +99,13 @@ fn operand(events: &mut Events, before: &Window, k: usize, register: u32) {
     events.add_if(writers(before, k, register).count() > 1, "operand with a choice");
     events.add_if(before.stage(writer) > before.stage(k), "operand across the wrap");
     events.add_if(live[writer].is(Code::L), "operand of a load");
-    let stored = live[writer + 1..k].iter().any(|entry| entry.is(Code::S) && entry.instruction.d == register);
-    events.add_if(stored, "operand past an S of the register");
+    let stored = |entry: &&Entry| entry.code().stores() && entry.instruction.d == register;
+    for entry in live[writer + 1..k].iter().filter(stored) {
+        events.add(&format!("operand past a store of the register, {:?}", entry.code()));
+    }
 }
 
-fn rows(events: &mut Events, before: &Window, k: usize, address: u32) {
+fn rows(events: &mut Events, before: &Window, k: usize, address: u32, code: Code) {
     let sizes = before.sizes;
     let rows = before.rows(sizes.bank(address));
     if rows.len() < sizes.rows as usize {
@@ -89,30 +116,89 @@ fn rows(events: &mut Events, before: &Window, k: usize, address: u32) {
     };
     events.add(&format!("eviction, B {} R {}", sizes.banks, sizes.rows));
     events.add(&format!("eviction over {:2}", from - k));
+    events.add(&format!("eviction by {code:?}"));
+    events.add(&format!("eviction of {:?}", before.live[from].code()));
+    events.add_if(before.live[from..].iter().any(odd), "odd H evicted");
     if rows.iter().filter(|row| row.oldest > k).count() > 1 {
         events.add(&format!("eviction with a choice, R {}", sizes.rows));
     }
     events.add_if(mixed(before, k), "full bank, an address marked on both sides");
 }
 
-fn load(events: &mut Events, before: &Window, k: usize, address: u32) {
+fn load(events: &mut Events, before: &Window, k: usize, address: u32, code: Code) {
     let Some(store) = Stated.forward(before, k, address) else { return };
     events.add(&format!("forward over {:2}", k - store));
+    events.add(&format!("forward, {:?} and {code:?}", before.live[store].code()));
     events.add_if(Stated.forward(before, store, address).is_some(), "forward with a choice");
     events.add_if(before.stage(store) > before.stage(k), "forward across the wrap");
     events.add_if(address >= before.sizes.words, "forward at W or more");
+    events.add_if(odd(&before.live[store]), "odd H forwards");
 }
 
-fn store(events: &mut Events, before: &Window, k: usize, address: u32, value: u32) {
+fn store(events: &mut Events, before: &Window, k: usize, address: u32, entry: Entry, value: u32) {
+    let code = entry.code();
     let mut met = before.live[k + 1..].iter().filter(|entry| entry.mark() == Some(address));
-    let between = met.next().is_some_and(|first| first.is(Code::S)) && met.any(|entry| entry.is(Code::L));
-    events.add_if(between, "store between");
+    if met.next().is_some_and(|first| first.is(Code::S)) {
+        for load in met.filter(|entry| entry.code().loads()).take(1) {
+            events.add("store between");
+            events.add(&format!("store between, {code:?} and {:?}", load.code()));
+        }
+    }
     let Some(from) = Stated.violation(before, k, address, value) else { return };
+    let first = before.live[from];
     events.add(&format!("violation over {:2}", from - k));
-    events.add_if(before.live[from].value() == Some(value), "violation by the same word");
+    events.add(&format!("violation, {code:?} and {:?}", first.code()));
+    events.add_if(first.is(Code::L) && first.value() == Some(value), "violation by the same word");
     events.add_if(address >= before.sizes.words, "violation at W or more");
+    events.add_if(before.live[from..].iter().any(odd), "odd H squashed by a store");
     let past = (from..before.live.len()).any(|p| before.stage(p) < before.stage(from));
     events.add_if(past, "violation squashing past the wrap");
+}
+
+/// What a store of a part put together.
+struct Part {
+    code: Code,
+    whole: u32,
+    register: u32,
+    /// The word in memory, 0 at W or more.
+    memory: u32,
+}
+
+fn part(events: &mut Events, before: &Window, k: usize, access: Access, part: Part) {
+    let (Access { number, word }, Part { code, whole, register, memory }) = (access, part);
+    let mut add_if = |reached: bool, what: &str| events.add_if(reached, &format!("{code:?} {what}"));
+    add_if(true, &format!("at byte {}", number % 4));
+    let width = if code == Code::B { 8 } else { 16 };
+    add_if(register >> width != 0, "of a larger register");
+    // The same part of two words, and what these words have beside it.
+    let rest = |word| Stated.merge(code, number, word, 0);
+    let store = Stated.forward(before, k, word).map(|store| before.live[store]);
+    let taken = store.map_or(memory, |store| store.value().unwrap_or(0));
+    add_if(store.is_none() && rest(memory) != 0, "into a word of memory");
+    add_if(store.is_some() && rest(taken) != rest(memory), "into a forwarded word unlike memory's");
+    add_if(whole == taken, "of the word already there");
+    let violates = Stated.violation(before, k, word, whole).is_some();
+    add_if(whole == taken && violates, "violates by the word already there");
+    let outside = word >= before.sizes.words;
+    add_if(outside && store.is_some(), "at W or more takes a forwarded word");
+    let bank = |address| before.sizes.bank(address);
+    add_if(bank(word) != bank(number), "in another bank than its byte number's");
+    if let Some((older, Access { number: other, .. })) =
+        store.and_then(|store| Some((store.code(), store.access()?)))
+    {
+        let touched = |code, number| Stated.merge(code, number, 0, u32::MAX);
+        let over = touched(code, number) & touched(older, other) != 0;
+        add_if(older.is_part(), &format!("{} {older:?}", if over { "over" } else { "beside" }));
+    }
+    events.add_if(code == Code::B && number == 4 * before.sizes.words, "B executed at byte 4W");
+    if Stated.misaligned(code, number) {
+        events.add_if(store.is_some(), "odd H takes a forwarded word");
+        events.add(match word.cmp(&before.sizes.words) {
+            Ordering::Less => "odd H executed below W",
+            Ordering::Equal => "odd H executed at W",
+            Ordering::Greater => "odd H executed above W",
+        });
+    }
 }
 
 /// Whether an address has marks on both sides of position `k`.

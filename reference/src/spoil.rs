@@ -4,6 +4,10 @@ use crate::blame::GRAMMAR;
 use crate::events::Way;
 use crate::generator::Draft;
 use crate::random::Random;
+use crate::window::CODES;
+
+/// How many places `just_beyond` knows.
+pub const BEYOND: usize = 40;
 
 pub fn spoil(random: &mut Random, mut draft: Draft) -> Vec<u8> {
     match random.below(10) {
@@ -53,7 +57,7 @@ pub fn spoil_by(random: &mut Random, mut draft: Draft, way: Way, byte: u8) -> Ve
 
 /// A line of a letter that is as likely as the other letters, although lines of it may be few.
 fn place(random: &mut Random, draft: &Draft) -> usize {
-    let letter = random.pick(b"NAPLSieqcx");
+    let letter = random.pick(b"NAPLSBHieqcx");
     let of_it = |place: &usize| draft.lines[*place][0] == letter;
     let places: Vec<usize> = (0..draft.lines.len()).filter(of_it).collect();
     if places.is_empty() {
@@ -93,8 +97,8 @@ fn beyond(random: &mut Random, draft: &mut Draft) {
         1 => format!("N,1,{},4,8", random.pick(&[0, 9, 257, u32::MAX])),
         2 => format!("N,1,1,{},8", random.pick(&[0, 0, 17, 17, 32, 257, u32::MAX])),
         3 => format!("N,1,1,4,{}", random.pick(&[0, 4097, 65_537, u32::MAX])),
-        4 => format!("{},{outside},0,1", random.pick(&["A", "P", "L", "S"])),
-        5 => format!("{},0,{outside},1", random.pick(&["A", "P", "L", "S"])),
+        4 => format!("{:?},{outside},0,1", random.pick(&CODES)),
+        5 => format!("{:?},0,{outside},1", random.pick(&CODES)),
         _ => format!("P,1,2,{outside}"),
     };
     if line.starts_with('N') {
@@ -104,7 +108,7 @@ fn beyond(random: &mut Random, draft: &mut Draft) {
     }
 }
 
-/// A size just outside its limits, or register 8, in one of 18 places.
+/// A size just outside its limits, register 8, or an instruction with a field less, with one more, or after a step.
 pub fn just_beyond(random: &mut Random, mut draft: Draft, which: usize) -> Vec<u8> {
     let sizes = [
         "0,1,4,8",
@@ -117,13 +121,22 @@ pub fn just_beyond(random: &mut Random, mut draft: Draft, which: usize) -> Vec<u
         "1,1,4,0",
         "1,1,4,4097",
     ];
-    let registers = ["A,8,0", "A,0,8", "P,8,0", "P,0,8", "L,8,0", "L,0,8", "S,8,0", "S,0,8"];
-    let place = 1 + random.below(draft.steps);
-    match which {
-        0..=8 => draft.lines[0] = format!("N,{}", sizes[which]).into(),
-        9..=16 => draft.lines.insert(place, format!("{},{}", registers[which - 9], random.number(8)).into()),
-        _ => draft.lines.insert(place, b"P,0,0,8".to_vec()),
+    let before = 1 + random.below(draft.steps);
+    let after = draft.steps + 1 + random.below(draft.lines.len() - draft.steps);
+    let (code, any) = (CODES[which % 6], random.number(8));
+    let (place, line) = match which {
+        0..=8 => (0, format!("N,{}", sizes[which])),
+        9 => (before, "P,0,0,8".into()),
+        10..=15 => (before, format!("{code:?},8,0,{any}")),
+        16..=21 => (before, format!("{code:?},0,8,{any}")),
+        22..=27 => (before, format!("{code:?},1,{any}")),
+        28..=33 => (before, format!("{code:?},1,0,{any},0")),
+        _ => (after, format!("{code:?},1,0,{any}")),
+    };
+    if place == 0 {
+        draft.lines.remove(0);
     }
+    draft.lines.insert(place, line.into());
     draft.text()
 }
 
@@ -132,15 +145,15 @@ fn numbers(random: &mut Random, line: &[u8]) -> Vec<u8> {
     let mut fields: Vec<Vec<u8>> = line.split(|&byte| byte == b',').map(<[u8]>::to_vec).collect();
     let place = random.below(fields.len()).max(fields.len().min(2) - 1);
     let field = fields[place].clone();
-    match random.below(10) {
+    match random.below(11) {
         0 => drop(fields.pop()),
         1 => fields.push(b"0".to_vec()),
         2 => fields.push(Vec::new()),
         3 => fields[place].clear(),
         4 => fields.insert(1, Vec::new()),
         5 => fields[place] = [b"0", field.as_slice()].concat(),
-        6 => fields[place] = [random.pick(&[b"+", b"-"]).as_slice(), &field].concat(),
-        7 => fields[place] = [field.as_slice(), random.pick(&[b"a", b":", b"/", b"."])].concat(),
+        6..=7 => fields[place] = [random.pick(&[b"+", b"-"]).as_slice(), &field].concat(),
+        8 => fields[place] = [field.as_slice(), random.pick(&[b"a", b":", b"/", b"."])].concat(),
         _ => {
             // The last three are small numbers if a sum of 32 or 64 bits wraps.
             let large = ["99999999999", "4294967296", "4294967297", "18446744073709551617"];
@@ -156,7 +169,7 @@ fn bytes(random: &mut Random, line: &[u8]) -> Vec<u8> {
     let place = random.below(line.len() + 1);
     let high = 128 + random.number(128) as u8;
     match random.below(7) {
-        0 => line[0] = random.pick(b"BZbzMn0,\"#"),
+        0 => line[0] = random.pick(b"CZbzMn0,\"#"),
         1 => line[0] ^= 32,
         2 => line.insert(1, line[0]),
         3 => line.insert(place, high),

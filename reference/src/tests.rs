@@ -4,10 +4,10 @@ use crate::events::Events;
 use crate::generator::generate;
 use crate::machine::{Executed, Machine};
 use crate::player::play;
-use crate::rules::Stated;
+use crate::rules::{Rules, Stated};
 use crate::text::{parse, Line};
 use crate::watch::watch;
-use crate::window::Sizes;
+use crate::window::{Access, Code, Fate, Sizes};
 
 /// Lines parted by blanks here.
 fn played(lines: &str) -> String {
@@ -143,6 +143,145 @@ fn forward_across_the_last_stage() {
     assert_eq!((machine.execute(1), machine.execute(2)), (took(0), took(7)));
 }
 
+/// Against a word as an array of bytes, and by quotients and remainders.
+#[test]
+fn merges() {
+    let words =
+        [0, 1, 127, 128, 255, 256, 65_535, 65_536, 1 << 31, u32::MAX - 1, u32::MAX, 0x0102_0304, 0xf0e0_d0c0];
+    for byte in (0..8).chain([
+        16_383,
+        16_384,
+        (1 << 31) - 1,
+        1 << 31,
+        u32::MAX - 3,
+        u32::MAX - 2,
+        u32::MAX - 1,
+        u32::MAX,
+    ]) {
+        for (word, value) in words.into_iter().flat_map(|word| words.map(|value| (word, value))) {
+            let (place, stored) = (byte as usize % 4, value.to_le_bytes());
+            let mut one = word.to_le_bytes();
+            one[place] = stored[0];
+            let mut two = word.to_le_bytes();
+            two[place & 2] = stored[0];
+            two[place & 2 | 1] = stored[1];
+            let replaced = |low: u32, width: u32| {
+                let (word, value) = (u64::from(word), u64::from(value));
+                let above = word >> (low + width) << (low + width);
+                (above + ((value % (1 << width)) << low) + word % (1 << low)) as u32
+            };
+            for (code, bytes, computed) in
+                [(Code::B, one, replaced(byte % 4 * 8, 8)), (Code::H, two, replaced(byte % 4 / 2 * 16, 16))]
+            {
+                let whole = Stated.merge(code, byte, word, value);
+                assert_eq!(whole, u32::from_le_bytes(bytes), "{code:?} {byte} {word} {value}");
+                assert_eq!(whole, computed, "{code:?} {byte} {word} {value}");
+            }
+        }
+    }
+}
+
+#[test]
+fn parts_as_scripts() {
+    let examples = [
+        (
+            "N,1,1,4,1 A,1,0,511 B,1,0,3 H,1,0,0 B,0,0,1 L,2,0,0 x,9",
+            "0,A,1,511 1,B,3,4278190080 2,H,0,4278190591 3,B,1,4278190335 4,L,2,4278190335 m,0,4278190335 end,done,5",
+        ),
+        (
+            "N,1,2,4,8 A,1,0,255 B,1,0,0 B,1,0,1 i i i e,0 e,2 e,1 c c c x,1",
+            "0,A,1,255 1,B,0,255 2,B,1,65535 m,0,65535 end,done,3",
+        ),
+        ("N,1,1,2,2 A,1,0,7 B,1,0,7 B,1,0,8 x,9", "0,A,1,7 1,B,7,117440512 m,1,117440512 end,fault,2"),
+        ("N,1,1,2,2 A,1,0,7 H,1,0,5 L,2,0,1 i i e,0 c i e,0 e,1 c c x,3", "0,A,1,7 end,fault,1"),
+        ("N,1,1,4,8 B,0,0,3 L,1,0,0 B,0,0,4 i i i e,0 e,1 e,2 c c", "0,B,3,0 1,L,1,0 end,open,2"),
+    ];
+    for (lines, output) in examples {
+        assert_eq!(played(lines), output, "{lines}");
+    }
+}
+
+#[test]
+fn parts_take_words_as_loads_do() {
+    let mut memory = machine(4, 4, "A,1,0,511 B,1,0,401 L,2,0,100", 1);
+    assert_eq!((memory.execute(0), memory.execute(1)), (took(0), took(140 + (255 << 8))));
+    let mut store = machine(4, 4, "A,1,0,65541 S,1,0,5 H,1,0,22 L,2,0,5", 1);
+    assert_eq!((store.execute(0), store.execute(1), store.execute(2)), (took(0), took(0), took(0x0005_0005)));
+    let mut younger = machine(4, 4, "A,1,0,511 B,1,0,20 S,1,0,5 L,2,0,5", 1);
+    assert_eq!((younger.execute(1), younger.execute(0)), (took(0), took(0)));
+    assert_eq!((younger.window.live[0].value(), younger.execute(2)), (Some(255), took(511)));
+    let mut beyond = machine(4, 4, "A,1,0,1 B,1,0,801 H,1,0,802 L,2,0,200", 1);
+    assert_eq!(
+        (beyond.execute(0), beyond.execute(1), beyond.execute(2)),
+        (took(0), took(0), took(0x0001_0100))
+    );
+    assert_eq!(beyond.commit(), Err(13));
+}
+
+/// Whatever the bytes and the words are.
+#[test]
+fn parts_are_met_load_side_first() {
+    for older in ["S,1,0,5", "B,1,0,20", "H,1,0,20"] {
+        for younger in ["L,2,0,5", "B,1,0,23", "H,1,0,22", "B,0,0,20"] {
+            let mut met = machine(4, 4, &format!("A,1,0,0 {older} A,3,0,1 {younger} L,4,0,9"), 1);
+            assert_eq!(
+                (met.execute(2), met.execute(3), met.execute(0)),
+                (took(0), took(0), squashed_from(2))
+            );
+            assert_eq!((met.window.live.len(), met.next), (2, 3), "{older} {younger}");
+            let mut between = machine(4, 4, &format!("A,1,0,0 {older} S,1,0,5 {younger}"), 1);
+            assert_eq!(
+                (between.execute(1), between.execute(2), between.execute(0)),
+                (took(0), took(0), took(0))
+            );
+        }
+    }
+}
+
+#[test]
+fn rows_of_parts_go_by_the_word() {
+    let mut one = machine(1, 4, "B,0,0,20 H,0,0,22 L,1,0,5 B,0,0,24", 0);
+    assert_eq!((one.execute(0), one.execute(1), one.execute(2)), (took(0), took(0), took(0)));
+    assert_eq!(one.execute(3), Err(10));
+    let mut evicts = machine(1, 4, "B,0,0,24 L,1,0,5", 0);
+    assert_eq!((evicts.execute(1), evicts.execute(0)), (took(0), squashed_from(1)));
+    let mut evicted = machine(1, 4, "L,1,0,5 H,0,0,24", 0);
+    assert_eq!((evicted.execute(1), evicted.execute(0)), (took(0), squashed_from(1)));
+}
+
+#[test]
+fn operands_of_parts() {
+    let mut waits = machine(4, 4, "A,1,0,21 A,2,0,3 B,2,1,0 A,3,2,0", 0);
+    assert_eq!((waits.execute(2), waits.execute(0), waits.execute(2)), (Err(9), took(0), Err(9)));
+    assert_eq!((waits.execute(1), waits.execute(2), waits.execute(3)), (took(0), took(0), took(0)));
+    assert_eq!(waits.window.live[3].value(), Some(3));
+    advance(&mut waits, 4);
+    assert_eq!((waits.registers, waits.memory[5]), ([0, 21, 3, 3, 0, 0, 0, 0], 3 << 8));
+}
+
+/// Executes as at the byte below, keeps its number, and is refused by 13 before 14.
+#[test]
+fn odd_half_words() {
+    let mut below = machine(4, 4, "A,1,0,511 H,1,0,403 L,2,0,100", 1);
+    assert_eq!((below.execute(0), below.execute(1)), (took(0), took(140 + (511 << 16))));
+    let access = Some(Access { number: 403, word: 100 });
+    assert_eq!(below.window.live[0].fate, Fate::Executed { value: 140 + (511 << 16), access });
+    assert_eq!((below.commit(), below.fate(), below.memory[100]), (Err(14), "fault", 140));
+    assert_eq!((below.finish(9), below.window.live.len()), (Vec::new(), 2));
+    for (byte, refusal) in
+        [(799, Err(14)), (800, Err(13)), (801, Err(13)), (803, Err(13)), (u32::MAX, Err(13))]
+    {
+        let mut last = machine(4, 4, &format!("H,0,0,{byte}"), 0);
+        assert_eq!((last.finish(9), last.commit(), last.fate()), (Vec::new(), refusal, "fault"), "{byte}");
+        assert!(!last.window.live[0].waits());
+        assert_eq!((last.squash(0), last.fate()), (Ok(()), "open"));
+    }
+    for line in ["H,0,0,798", "B,0,0,799", "B,0,0,201"] {
+        assert!(machine(4, 4, line, 0).advance().is_some(), "{line}");
+    }
+    assert_eq!(machine(4, 4, "B,0,0,800", 0).advance(), None);
+}
+
 #[test]
 fn small_scripts() {
     assert_eq!(played("N,1,1,1,1"), "end,done,0");
@@ -196,11 +335,11 @@ fn whole_texts() {
 fn malformed_steps() {
     let start = b"N,1,2,4,8\nA,1,0,5\nS,1,0,3\nx,2\n";
     #[rustfmt::skip]
-    let lines: [&[u8]; 31] = [
+    let lines: [&[u8]; 33] = [
         b"", b"i,", b"i,0", b"e", b"e,", b"e,00", b"e,01", b"e,+1", b"e,-1", b"e, 1", b"e,1 ",
         b" e,1", b"e,4294967296", b"e,18446744073709551616", b"e,1,", b"e,1,2", b"E,1", b"I", b"x",
         b"x,", b"n,1,2,4,8", b"N,1,2,4,8", b"A,1,0,5", b"z", b"ii", b"i\r", b"i\0", b"\ti",
-        b"i\x80", b"\xff", b",",
+        b"i\x80", b"\xff", b",", b"B,1,0,5", b"H,1,0,5",
     ];
     for line in lines {
         let text = [start, line, b"\nx,9\n"].concat();
@@ -211,10 +350,19 @@ fn malformed_steps() {
 #[test]
 fn instruction_lines() {
     let bad = ["A,8,0,0", "A,0,8,0", "P,0,0,8", "L,8,0,0", "S,0,4294967295,0", "A,1", "A,1,2,3,4", "A,,0,0"];
-    for line in bad {
+    let parts = ["B,8,0,0", "H,0,8,0", "B,1,0", "H,1,0", "B,1,0,0,0", "H,1,0,0,", "b,1,0,0", "H1,0,0"];
+    for line in bad.into_iter().chain(parts) {
         assert_eq!(played(&format!("N,1,1,1,1 A,7,7,0 {line} x,1")), "bad,3", "{line}");
     }
-    for line in ["A,7,7,4294967295", "P,7,7,7", "L,7,7,4294967295", "S,7,7,8", "A,0,0,0"] {
+    for line in [
+        "A,7,7,4294967295",
+        "P,7,7,7",
+        "L,7,7,4294967295",
+        "S,7,7,8",
+        "A,0,0,0",
+        "B,7,7,8",
+        "H,7,7,4294967295",
+    ] {
         assert_eq!(played(&format!("N,1,1,1,1 A,7,7,0 {line}")), "end,open,0", "{line}");
     }
 }

@@ -34,6 +34,8 @@ pub fn parse(line: &[u8]) -> Option<Line> {
         (b"P", _) => instruction(Code::P),
         (b"L", _) => instruction(Code::L),
         (b"S", _) => instruction(Code::S),
+        (b"B", _) => instruction(Code::B),
+        (b"H", _) => instruction(Code::H),
         (b"i", []) => Some(Line::Step(Step::Issue)),
         (b"e", &[k]) => Some(Line::Step(Step::Execute(k))),
         (b"q", &[k]) => Some(Line::Step(Step::Squash(k))),
@@ -90,7 +92,7 @@ fn foreign(byte: u8) -> Option<&'static str> {
 fn fields_of(letter: &[u8]) -> Option<usize> {
     match letter {
         b"N" => Some(5),
-        b"A" | b"P" | b"L" | b"S" => Some(4),
+        b"A" | b"P" | b"L" | b"S" | b"B" | b"H" => Some(4),
         b"e" | b"q" | b"x" => Some(2),
         b"i" | b"c" => Some(1),
         _ => None,

@@ -3,7 +3,7 @@
 
 use crate::blame::blame;
 use crate::check::Check;
-use crate::events::{by_byte, Events};
+use crate::events::{by_byte, Events, SPOILED};
 use crate::machine::{Commit, Machine};
 use crate::player::{play_by, Printed, LONGEST};
 use crate::rules::{Rules, MOST_INSTRUCTIONS};
@@ -57,6 +57,10 @@ fn spoiled(events: &mut Events, text: &[u8], number: usize, event: &str) {
     let Some(number) = number.checked_sub(1) else { return };
     let line = text.split(|&byte| byte == b'\n').nth(number).unwrap_or_default();
     events.add_if(event == "line unended" && parse(line).is_some(), "line unended but good");
+    if SPOILED.contains(&event) {
+        let letter = String::from_utf8_lossy(&line[..1]).into_owned();
+        events.add_known(&format!("{event}, {letter}"));
+    }
     match parse(line) {
         None if event == "line unended" => {}
         None => {
@@ -145,30 +149,48 @@ impl<R: Rules> Game<R> {
             events.add_if(before.stage(k) < before.stage(0), "re-issued executed late, wrapped");
         }
         let entry = self.machine.window.live[k];
-        let outside = entry.mark().is_some_and(|address| address >= before.sizes.words);
-        events.add_if(k == 0 && outside, "fault by e");
-        sights::executed(events, &before, &registers, k, entry);
+        events.add_if(k == 0 && self.machine.past(&entry), "fault by e");
+        events.add_if(k == 0 && self.stopped_by_odd(), "fault by e of an odd H");
+        sights::executed(events, &before, &registers, &self.machine.memory, k, entry);
     }
 
     fn squash(&mut self, events: &mut Events, k: usize) {
         let before = self.machine.window.live.clone();
-        let faulted = self.machine.faulted();
+        let (faulted, odd) = (self.machine.faulted(), self.stopped_by_odd());
         match self.machine.squash(k) {
             Ok(()) => {
                 events.add_if(k == 0, "q of the oldest");
                 events.add_if(k > 0 && k + 1 == before.len(), "q of the youngest");
                 events.add_if(before[k..].iter().any(|entry| !entry.waits()), "q of executed ones");
                 events.add_if(faulted && k == 0, "fault squashed");
+                events.add_if(odd && k == 0, "fault of an odd H squashed");
             }
             Err(number) => events.add(&format!("refusal {number} of q")),
         }
     }
 
     fn committed(&mut self, events: &mut Events, commit: Commit) {
-        events.add_if(commit.code != Code::S && commit.target == 0, "register 0 written");
-        events.add_if(commit.value >= 1 << 31, "word above 2147483647");
+        let Commit { code, target, value, .. } = commit;
+        events.add_if(!code.stores() && target == 0, "register 0 written");
+        events.add_if(value >= 1 << 31, "word above 2147483647");
         events.add_if(self.machine.faulted(), "fault by c or x, executed before");
+        events.add_if(self.stopped_by_odd(), "fault by c or x of an odd H, executed before");
+        if code.is_part() {
+            let words = self.machine.window.sizes.words;
+            let mut add_if = |reached, what: &str| events.add_if(reached, &format!("{code:?} {what}"));
+            add_if(true, &format!("committed at byte {}", target % 4));
+            add_if(target >= words, "committed at a byte number of W or more");
+            add_if(value >= 1 << 31, "committed with a word above 2147483647");
+            events.add_if(code == Code::B && target == 4 * words - 1, "B committed at byte 4W - 1");
+            events.add_if(code == Code::H && target == 4 * words - 2, "H committed at byte 4W - 2");
+        }
         self.check.committed(commit);
+    }
+
+    /// The oldest is an H at an odd byte number, below the end of memory.
+    fn stopped_by_odd(&self) -> bool {
+        let oldest = self.machine.window.live.first();
+        oldest.is_some_and(|oldest| sights::odd(oldest) && !self.machine.past(oldest))
     }
 
     fn finish(&mut self, events: &mut Events, limit: u32) {
@@ -178,9 +200,11 @@ impl<R: Rules> Game<R> {
         events.add_if(limit >= 1 << 31, "x limit above 2147483647");
         for round in 0..limit {
             let (live, faulted) = (self.machine.window.live.len(), self.machine.faulted());
+            let odd = self.stopped_by_odd();
             events.add_if(self.machine.done(), "x ended by the program's end");
             let answer = self.machine.advance();
             events.add_if(!faulted && self.machine.faulted(), "fault by x");
+            events.add_if(!odd && self.stopped_by_odd(), "fault by x of an odd H");
             events.add_if(self.machine.window.live.len() + 1 < live, "x squashed");
             events.add_if(answer.is_some() && round as usize == MANY, "x of more than 64 commits");
             self.reached = self.reached.max(self.machine.next);
@@ -206,21 +230,38 @@ impl<R: Rules> Game<R> {
             events.add(fate);
             events.add_if(!all_issued, "end open, none live");
             events.add_if(!all_issued && self.check.ahead().is_none(), "end open, the next would fault");
-            return;
+            return events.add_if(self.would_be_odd(), "end open, the next would be an odd H");
         };
         if self.machine.faulted() {
-            return events.add(if oldest.is(Code::L) {
-                "end fault of a load"
-            } else {
-                "end fault of a store"
-            });
+            let place = match (sights::odd(oldest), self.machine.past(oldest)) {
+                (true, false) => "an odd H below W",
+                (true, true) => "an odd H at W or more",
+                _ => "an even H",
+            };
+            events.add_if(oldest.is(Code::H), &format!("end fault of {place}"));
+            return events.add(&format!("end fault of {:?}", oldest.code()));
         }
         events.add("end open");
+        let number = oldest.access().map_or(0, |access| access.number);
+        events.add_if(oldest.is(Code::B) && number % 2 == 1, "end open, the oldest is an odd B");
+        let beyond = oldest.code().is_part() && number >= window.sizes.words;
+        events.add_if(beyond, "end open, the oldest is a part at a byte number of W or more");
         events.add_if(all_issued, "end open, all issued");
         let would = oldest.waits() && self.check.ahead().is_none();
         events.add_if(would, "end open, the oldest waits and would fault");
-        let past = |address| address >= window.sizes.words;
-        let younger = window.live[1..].iter().filter_map(|entry| entry.mark()).any(past);
-        events.add_if(younger, "end open, a younger one is past the end");
+        let odd = oldest.waits() && self.would_be_odd();
+        events.add_if(odd, "end open, the oldest waits and would be an odd H");
+        let mut younger = window.live[1..].iter();
+        let past = younger.clone().any(|entry| self.machine.past(entry));
+        events.add_if(past, "end open, a younger one is past the end");
+        let odd = younger.any(|entry| sights::odd(entry) && !self.machine.past(entry));
+        events.add_if(odd, "end open, a younger one is an odd H");
+    }
+
+    /// The next that the sequential run comes to is an H at an odd byte number.
+    fn would_be_odd(&self) -> bool {
+        let mut tried = self.machine.clone();
+        let stopped = tried.advance().is_none() && tried.faulted();
+        stopped && tried.window.live.first().is_some_and(|oldest| sights::odd(oldest) && !tried.past(oldest))
     }
 }

@@ -27,6 +27,29 @@ pub enum Code {
     P,
     L,
     S,
+    B,
+    H,
+}
+
+pub const CODES: [Code; 6] = [Code::A, Code::P, Code::L, Code::S, Code::B, Code::H];
+pub const LOADS: [Code; 3] = [Code::L, Code::B, Code::H];
+pub const STORES: [Code; 3] = [Code::S, Code::B, Code::H];
+pub const PARTS: [Code; 2] = [Code::B, Code::H];
+
+impl Code {
+    /// Takes a word: a store of a part needs the rest of its word.
+    pub fn loads(self) -> bool {
+        LOADS.contains(&self)
+    }
+
+    pub fn stores(self) -> bool {
+        STORES.contains(&self)
+    }
+
+    /// Stores a part of a word, at a byte number.
+    pub fn is_part(self) -> bool {
+        PARTS.contains(&self)
+    }
 }
 
 #[derive(Clone, Copy, PartialEq, Eq, Debug)]
@@ -43,15 +66,23 @@ impl Instruction {
     }
 
     pub fn writes(&self, register: u32) -> bool {
-        self.code != Code::S && self.d == register
+        !self.code.stores() && self.d == register
     }
 }
 
-/// What became of a live instruction; only loads and stores have an address.
+/// Where a load or store executed.
+#[derive(Clone, Copy, PartialEq, Eq, Debug)]
+pub struct Access {
+    /// As the record has it: of B and H the byte number, else the word number.
+    pub number: u32,
+    pub word: u32,
+}
+
+/// What became of a live instruction; only loads and stores have an access. The value of a store is the whole word.
 #[derive(Clone, Copy, PartialEq, Eq, Debug)]
 pub enum Fate {
     Waiting,
-    Executed { value: u32, address: Option<u32> },
+    Executed { value: u32, access: Option<Access> },
 }
 
 #[derive(Clone, Copy, PartialEq, Eq, Debug)]
@@ -66,12 +97,16 @@ impl Entry {
         self.fate == Fate::Waiting
     }
 
-    /// The address this one executed to: its mark.
-    pub fn mark(&self) -> Option<u32> {
+    pub fn access(&self) -> Option<Access> {
         match self.fate {
-            Fate::Executed { address, .. } => address,
+            Fate::Executed { access, .. } => access,
             Fate::Waiting => None,
         }
+    }
+
+    /// The word this one executed to: its mark.
+    pub fn mark(&self) -> Option<u32> {
+        self.access().map(|access| access.word)
     }
 
     pub fn value(&self) -> Option<u32> {
@@ -82,11 +117,15 @@ impl Entry {
     }
 
     pub fn is(&self, code: Code) -> bool {
-        self.instruction.code == code
+        self.code() == code
+    }
+
+    pub fn code(&self) -> Code {
+        self.instruction.code
     }
 }
 
-/// A row in use: an address that live references executed to, and the position of the oldest of them.
+/// A row in use: a word that live references executed to, and the position of the oldest of them.
 #[derive(Clone, Copy, PartialEq, Eq, Debug)]
 pub struct Row {
     pub address: u32,

@@ -6,6 +6,7 @@
 pub use buffer_execute::execute;
 pub use buffer_execute::execute_load;
 pub use buffer_execute::execute_other;
+pub use buffer_execute::execute_part;
 pub use buffer_execute::execute_store;
 pub use buffer_model::DoneAnswer;
 pub use buffer_model::DoneResult;
@@ -19,3 +20,4 @@ pub use buffer_moves::issue;
 pub use buffer_moves::open;
 pub use buffer_moves::squash;
 pub use engine::Action;
+pub use engine::Part;

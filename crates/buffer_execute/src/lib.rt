@@ -6,6 +6,7 @@ use buffer_model::ExecuteAnswer;
 use buffer_model::ExecuteResult;
 use buffer_model::Squashed;
 use engine::Action;
+use engine::Part;
 use table::STAGES;
 use table::Table;
 use table::Ticket;
@@ -15,7 +16,7 @@ ghost use lib.ListN.{length};
 ghost use Rattle.marks.specs.Stages.{has};
 ghost use Rattle.table.specs.Limits.{stagesMost};
 ghost use Rattle.buffer_model.specs.Answers.{executeSays};
-ghost use Rattle.buffer_model.specs.Calls.{execute, executeLoad, executeStore, executeOther};
+ghost use Rattle.buffer_model.specs.Calls.{execute, executeLoad, executeStore, executePart, executeOther};
 ghost use Rattle.buffer_model.specs.Contract.{Meets};
 ghost use Rattle.buffer_model.specs.computed.Parts.{namedBy, executeRefusal, cutFrom};
 
@@ -140,17 +141,15 @@ pub fn execute(mut t: Table, ticket: Ticket, action: Action, memory: &[u32]) -> 
     engine_steps::cut(&mut t.stores, banks, oldest, stages, live, left);
     t.live = left;
     t.executed = marks::including(executed, s);
-    engine_steps::set_word(
-        &mut t.addresses,
-        effect.load | effect.store,
-        r,
-        effect.address,
-    );
+    engine_steps::set_word(&mut t.addresses, effect.load | effect.store, r, effect.word);
     engine_steps::add_mark(&mut t.loads, effect.load, r, s);
     engine_steps::add_mark(&mut t.stores, effect.store, r, s);
     engine_steps::set_value(&mut t.values, effect.store, s, effect.value);
     ExecuteResult {
-        answer: ExecuteAnswer::Executed(engine_steps::answered(effect.load, effect.value), squash),
+        answer: ExecuteAnswer::Executed(
+            engine_steps::answered(effect.load, effect.store, effect.value),
+            squash,
+        ),
         table: t,
     }
 }
@@ -175,6 +174,21 @@ pub fn execute_store(
         (now (memory .entry)) ⌝ }
 {
     execute(t, ticket, Action::StoreAt(address, value), memory)
+}
+
+// It executes as a store of the part of `value` at byte number `byte`.
+pub fn execute_part(
+    t: Table,
+    ticket: Ticket,
+    part: Part,
+    byte: u32,
+    value: u32,
+    memory: &[u32],
+) -> ExecuteResult
+    ensures { λ r. ⌜ Meets t (executePart ticket part byte value) (now (memory .entry)) (executeSays (r .answer)) (r .table)
+        (now (memory .entry)) ⌝ }
+{
+    execute(t, ticket, Action::PartAt(part, byte, value), memory)
 }
 
 // It executes without memory.

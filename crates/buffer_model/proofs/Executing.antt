@@ -25,14 +25,13 @@ use Rattle.engine.specs.declared.Action.{Action}
 use Rattle.engine.specs.declared.Effect.{Effect}
 use Rattle.engine.specs.Conditions.{refusal, hasExecuted}
 use Rattle.engine.specs.Contract.{refused, executed}
-use Rattle.engine.specs.Execution.{fateBy}
-use Rattle.engine.specs.computed.Effect.{effectAt, applyEffect}
+use Rattle.engine.specs.computed.Effect.{effectAt, answered, applyEffect}
 use Rattle.engine.proofs.Fated.{executed-at}
 use Rattle.engine.proofs.Executed.{effect-left, effect-value, effect-view, effect-rules}
 use Rattle.buffer_model.specs.declared.Squashed.{Squashed}
 use Rattle.buffer_model.specs.Answers.{squashSays}
 use Rattle.buffer_model.specs.Refusals.{place, names, executeChecks}
-use Rattle.buffer_model.specs.Calls.{execute, squashFrom}
+use Rattle.buffer_model.specs.Calls.{execute, squashFrom, comesTo}
 use Rattle.buffer_model.specs.Contract.{Meets}
 use Rattle.buffer_model.specs.computed.Parts.{namedBy, executeRefusal, cutFrom}
 use Rattle.buffer_model.proofs.MeetingContract.{refused-meets, accepted-meets}
@@ -121,25 +120,28 @@ module _ (t : Table) (rules : Rules t) (τ : Ticket) (m : List ℕ) where
       (stalling f) (named-names t rules τ) executed-here
 
   module _ (act : Action) where
+    abbrev fate : Fate
+    fate = comesTo (view t) m τ act
+
     -- the code's early refusal
     pub turned-down : (k : ℕ) → k ≡ earlyBy t τ m → (k ≡ 0 → ⊥) → Meets t (execute τ act) m (refused k) t m
     turned-down k e some =
         refused-meets t (execute τ act) m rules k
-        (checks-early (fateBy act)
-        ∙ ap (λ (b : Bool). cond b (stalling (fateBy act)) (earlyBy t τ m))
+        (checks-early fate
+        ∙ ap (λ (b : Bool). cond b (stalling fate) (earlyBy t τ m))
         (ne-eqb (earlyBy t τ m) 0 (λ z. some (e ∙ z)))
         ∙ sym e)
         some
 
     module _ (early : earlyBy t τ m ≡ 0) (q : Effect) (found : q ≡ effectAt t p m act) where
-      left-is : q .left ≡ survivors (view t) p (fateBy act)
+      left-is : q .left ≡ survivors (view t) p fate
       left-is = ap (λ (x : Effect). x .left) found ∙ effect-left t rules p (ready early .live) m act
 
       -- where the code refuses nothing yet, what is left decides
-      left-decides : refusal (executeChecks (view t) m τ (fateBy act)) ≡ cond (eqb (q .left) 0) 10 0
+      left-decides : refusal (executeChecks (view t) m τ fate) ≡ cond (eqb (q .left) 0) 10 0
       left-decides =
-          checks-early (fateBy act)
-          ∙ ap (λ (b : Bool). cond b (stalling (fateBy act)) (earlyBy t τ m)) (eq-eqb (earlyBy t τ m) 0 early)
+          checks-early fate
+          ∙ ap (λ (b : Bool). cond b (stalling fate) (earlyBy t τ m)) (eq-eqb (earlyBy t τ m) 0 early)
           ∙ ap (λ (k : ℕ). cond (eqb k 0) 10 0) (sym left-is)
 
       -- refusal 10: no row is to be had
@@ -149,7 +151,7 @@ module _ (t : Table) (rules : Rules t) (τ : Ticket) (m : List ℕ) where
           (left-decides ∙ ap (λ (b : Bool). cond b 10 0) (eq-eqb (q .left) 0 none))
           (λ z. omega arith)
 
-      pub executes-meets : Lengths t → (q .left ≡ 0 → ⊥) → (v : ℕ) → v ≡ cond (q .load) (q .value) 0
+      pub executes-meets : Lengths t → (q .left ≡ 0 → ⊥) → (v : ℕ) → v ≡ answered (q .load) (q .store) (q .value)
           → (gone : Squashed) → gone ≡ cutFrom (t .oldest) (t .stages) (t .live) (q .left) (t .numbers)
           → (u : Table) → u ≡ applyEffect t q (τ .stage)
           → Meets t (execute τ act) m (executed v (squashSays gone)) u m
@@ -164,7 +166,9 @@ module _ (t : Table) (rules : Rules t) (τ : Ticket) (m : List ℕ) where
           u
           m
           (ap₂ executed
-          (hv ∙ ap (λ (x : Effect). cond (x .load) (x .value) 0) found ∙ effect-value t rules p (now .live) m act stays)
+          (hv
+          ∙ ap (λ (x : Effect). answered (x .load) (x .store) (x .value)) found
+          ∙ effect-value t rules p (now .live) m act stays)
           (ap squashSays hg ∙ squash-from t rules (q .left) ∙ ap (squashFrom (view t)) left-is))
           (ap view is ∙ effect-view t rules p (now .live) m lengths (now .idle) act stays)
           refl

@@ -24,12 +24,12 @@ use Rattle.table.specs.Reference.{Fate, waiting, Ref, ref, numberOf, blank, at,
 use Rattle.table.specs.Moves.{issued, squashTo, retire}
 use Rattle.lookup.specs.Outcome.{survivors, executes}
 use Rattle.engine.specs.Contract.{refused}
-use Rattle.engine.specs.Execution.{fateBy}
 use Rattle.engine.specs.Opening.{opening}
 use Rattle.engine.proofs.Meeting.{turned}
 use Rattle.buffer_model.specs.Answers.{Answer}
 use Rattle.buffer_model.specs.Refusals.{place, names}
-use Rattle.buffer_model.specs.Calls.{Call, issue, execute, squash, commit, Result, acceptedResult, refusalOf, respond}
+use Rattle.buffer_model.specs.Calls.{Call, issue, execute, squash, commit, comesTo}
+use Rattle.buffer_model.specs.Calls.{Result, acceptedResult, refusalOf, respond}
 use Rattle.buffer_model.specs.Life.{Event, event, withIssue, unlessSquashed, unlessCommitted, movedTo, onward}
 
 -- the issue number of the reference at position p
@@ -118,7 +118,7 @@ refused-moves commit k P = keeps (keeps-all P) (λ n. refl) (λ p. refl)
 
 accepted-moves : (c : Call) (P : State) (m : List ℕ) → Moves c (acceptedResult c P m .answer) P (acceptedResult c P m .state)
 accepted-moves issue P m = grows (λ n. refl) (λ p. refl)
-accepted-moves (execute τ act) P m = keeps (keeps-executes P (place P τ) (fateBy act)) (λ n. refl) (λ p. refl)
+accepted-moves (execute τ act) P m = keeps (keeps-executes P (place P τ) (comesTo P m τ act)) (λ n. refl) (λ p. refl)
 accepted-moves (squash τ) P m = keeps (keeps-first P (place P τ)) (λ n. refl) (λ p. refl)
 accepted-moves commit P m = retires (λ n. refl) (λ p. refl)
 

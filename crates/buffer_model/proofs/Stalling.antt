@@ -11,7 +11,7 @@ use lib.ListN.{length}
 use borrow.Author.Tests.{ltb-true, eqb-true, eq-eqb}
 use Rattle.table.specs.declared.Table.{Table}
 use Rattle.table.specs.declared.Ticket.{Ticket}
-use Rattle.table.specs.Reference.{fateOf, at}
+use Rattle.table.specs.Reference.{Fate, fateOf, at}
 use Rattle.table.specs.View.{view}
 use Rattle.table.specs.Rules.{Rules}
 use Rattle.table.specs.computed.Check.{lawful}
@@ -22,10 +22,9 @@ use Rattle.lookup.proofs.Eviction.{Stalled, stalls, stalls-only}
 use Rattle.engine.specs.declared.Action.{Action}
 use Rattle.engine.specs.Conditions.{when, refusal, hasExecuted}
 use Rattle.engine.specs.Contract.{refused}
-use Rattle.engine.specs.Execution.{fateBy}
 use Rattle.buffer_model.specs.Answers.{Answer}
 use Rattle.buffer_model.specs.Refusals.{place, names}
-use Rattle.buffer_model.specs.Calls.{execute}
+use Rattle.buffer_model.specs.Calls.{execute, comesTo}
 use Rattle.buffer_model.specs.Contract.{Meets}
 use Rattle.buffer_model.proofs.Ordered.{Asked, calls, conditions, Answered, called, decided, refused-first}
 
@@ -51,6 +50,9 @@ module _ (t : Table) (τ : Ticket) (act : Action) (m : List ℕ) where
   abbrev asked : Asked
   asked = calls (execute τ act) t m
 
+  abbrev fate : Fate
+  fate = comesTo (view t) m τ act
+
   -- the position that the ticket names is live
   named-place : names (view t) τ ≡ true → place (view t) τ < length (view t .refs)
   named-place e =
@@ -59,12 +61,12 @@ module _ (t : Table) (τ : Ticket) (act : Action) (m : List ℕ) where
       ltb-true (place (view t) τ) (length (view t .refs)) (inner .0)
 
   pub ten-stalls : {u : Table} {v : List ℕ} → Meets t (execute τ act) m (refused 10) u v
-      → Executable t τ m × ((a : ℕ) × (touches a (fateBy act) ≡ true) × Stalled (view t) (place (view t) τ) a)
+      → Executable t τ m × ((a : ℕ) × (touches a fate ≡ true) × Stalled (view t) (place (view t) τ) a)
   ten-stalls meets =
       let answered : Answered asked (refused 10) = called meets in
       let w = last-of-five (lawful t) (eqb (length m) (t .words)) (names (view t) τ)
       (hasExecuted (fateOf (at (view t .refs) (place (view t) τ))))
-      (eqb (survivors (view t) (place (view t) τ) (fateBy act)) 0)
+      (eqb (survivors (view t) (place (view t) τ) fate) 0)
       (refused-first 10 answered .0) in (
         record {
           rules = lawful-rules t (w .0);
@@ -72,20 +74,20 @@ module _ (t : Table) (τ : Ticket) (act : Action) (m : List ℕ) where
           named = w .2;
           waits = w .3;
         },
-        stalls-only (view t) (place (view t) τ) (fateBy act) (named-place (w .2)) (eqb-true _ 0 (w .4)),
+        stalls-only (view t) (place (view t) τ) fate (named-place (w .2)) (eqb-true _ 0 (w .4)),
       )
 
   pub stalls-ten : {u : Table} {v : List ℕ} {said : Answer} → Meets t (execute τ act) m said u v → Executable t τ m
-      → (a : ℕ) → touches a (fateBy act) ≡ true → Stalled (view t) (place (view t) τ) a → said ≡ refused 10
+      → (a : ℕ) → touches a fate ≡ true → Stalled (view t) (place (view t) τ) a → said ≡ refused 10
   stalls-ten {u} {v} {said} meets ready a e stall =
       let answered : Answered asked said = called meets in
-      let none = stalls (view t) (place (view t) τ) a (fateBy act) e stall in
+      let none = stalls (view t) (place (view t) τ) a fate e stall in
       let ten : refusal (conditions asked) ≡ 10 =
       rw (
         rules-lawful t (ready .rules),
         eq-eqb (length m) (t .words) (ready .lent),
         ready .named,
         ready .waits,
-        eq-eqb (survivors (view t) (place (view t) τ) (fateBy act)) 0 none,
+        eq-eqb (survivors (view t) (place (view t) τ) fate) 0 none,
       ) in
       decided answered .1 (λ z. omega (arith, ten)) ∙ ap refused ten

@@ -28,6 +28,7 @@ use Rattle.buffer_model.specs.Calls.{respond}
 use Rattle.buffer_model.specs.Examples.{Turn, Example, played, answered, Session, over, goes, lends, Shown, AllShown}
 use Rattle.buffer_model.specs.Examples.{examples}
 use Rattle.buffer_model.specs.Edges.{openings, calls}
+use Rattle.buffer_model.specs.PartStores.{partStores}
 
 session-played : {t : Table} {m : List ℕ} {turns : List Turn} {answers : List Answer} → Rules t
     → Session t m turns answers → answers ≡ played (view t) m turns
@@ -77,6 +78,6 @@ each : (rows : List Example) → map answered rows ≡ map (λ e. e .answers) ro
 each [] h = tt
 each (e ∷ rows) h = (shown e cc, each rows cc)
 
-pub starred : AllShown (examples ++ openings ++ calls)
-unfolding examples openings calls played respond sizesFit tabulate seen keptYounger touched count last home bank
-starred = each (examples ++ openings ++ calls) refl
+pub starred : AllShown (examples ++ openings ++ calls ++ partStores)
+unfolding examples openings calls partStores played respond sizesFit tabulate seen keptYounger touched count last home bank
+starred = each (examples ++ openings ++ calls ++ partStores) refl

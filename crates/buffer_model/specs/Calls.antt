@@ -8,12 +8,13 @@ use lib.Dec.{ltb}
 use lib.ListN.{length}
 use Rattle.marks.specs.Circle.{stage}
 use Rattle.table.specs.declared.Ticket.{Ticket}
-use Rattle.table.specs.Reference.{numberOf, fateOf, at, State}
+use Rattle.table.specs.Reference.{Fate, numberOf, fateOf, at, State}
 use Rattle.table.specs.Moves.{issued, squashTo, retire}
 use Rattle.lookup.specs.Forwarding.{forwarded}
 use Rattle.lookup.specs.Outcome.{survivors, executes}
 use Rattle.engine.specs.declared.Action.{Action}
-use Rattle.engine.specs.declared.Action.the-variants.{Compute, LoadAt, StoreAt}
+use Rattle.engine.specs.declared.Action.the-variants.{Compute, LoadAt, StoreAt, PartAt}
+use Rattle.engine.specs.declared.Part.{Part}
 use Rattle.engine.specs.Conditions.{Check, refusal}
 use Rattle.engine.specs.Contract
 use Rattle.engine.specs.Contract.{done, named, executed, judged}
@@ -26,12 +27,16 @@ pub data Call : Type 0 where
   squash : Ticket → Call
   commit : Call
 
--- the executes by name: a load of an address, a store at an address of a word, a reference that touches no memory
+-- the executes by name: a load of an address, a store at an address of a word, a store at a byte number of a word's part, a
+-- reference that touches no memory
 abbrev pub executeLoad : Ticket → ℕ → Call
 executeLoad τ a = execute τ (LoadAt a)
 
 abbrev pub executeStore : Ticket → ℕ → ℕ → Call
 executeStore τ a v = execute τ (StoreAt a v)
+
+abbrev pub executePart : Ticket → Part → ℕ → ℕ → Call
+executePart τ part b v = execute τ (PartAt part b v)
 
 abbrev pub executeOther : Ticket → Call
 executeOther τ = execute τ (Compute 0)
@@ -47,6 +52,10 @@ ticketAt P p = record { stage = stage (P .oldest) (P .stages) p; number = number
 abbrev pub squashFrom : State → ℕ → Option Ticket
 squashFrom P k = cond (ltb k (length (P .refs))) (some (ticketAt P k)) none
 
+-- the fate of the ticket's reference once it has executed this, on memory as the older references leave it
+abbrev pub comesTo : State → List ℕ → Ticket → Action → Fate
+comesTo P memory τ act = fateBy (forwarded P memory (place P τ)) act
+
 -- what each call that is not refused comes to
 abbrev pub acceptedResult : Call → State → List ℕ → Result
 acceptedResult issue P memory =
@@ -58,8 +67,10 @@ acceptedResult issue P memory =
     }
 acceptedResult (execute τ act) P memory =
     record {
-      answer = executed (answerOf (forwarded P memory (place P τ)) act) (squashFrom P (survivors P (place P τ) (fateBy act)));
-      state = executes P (place P τ) (fateBy act);
+      answer =
+          executed (answerOf (forwarded P memory (place P τ)) act)
+          (squashFrom P (survivors P (place P τ) (comesTo P memory τ act)));
+      state = executes P (place P τ) (comesTo P memory τ act);
       memory = memory;
       list = [];
     }
@@ -75,7 +86,7 @@ acceptedResult commit P memory =
 -- the conditions of each call
 abbrev pub checksOf : Call → State → List ℕ → List Check
 checksOf issue P memory = issueChecks P
-checksOf (execute τ act) P memory = executeChecks P memory τ (fateBy act)
+checksOf (execute τ act) P memory = executeChecks P memory τ (comesTo P memory τ act)
 checksOf (squash τ) P memory = squashChecks P τ
 checksOf commit P memory = commitChecks P memory
 

@@ -1,36 +1,44 @@
--- Tables that break the table's own rules, each in one of them, beside tables like them that keep them all. Every call on a
--- broken one is refused with 2 and hands everything back; proofs/Broken.antt shows it of every table here.
+-- Tables that break the table's own rules, each in one of them, beside tables like them that keep them all, some with the fates
+-- that are seen in them. Every call on a broken one is refused with 2 and hands everything back; proofs/Broken.antt shows it of
+-- every table here.
 -- Stage s in a mark word is 2 ^ s: 1, 2, 4 and 8 are stages 0 to 3. Rows 0 to 7 are places of bank 0, rows 8 to 15 of bank 1.
 -- Assumes nothing.
 use mathlib.Core.Path.{_≡_}
-use mathlib.Core.List.{List, [], _∷_}
+use mathlib.Core.List.{List, [], _∷_, map}
 use Prim.Native.Nat.{ℕ}
 use lib.ListN.{replicate, set}
 use Rattle.table.specs.declared.Table.{Table}
 use Rattle.table.specs.Limits.{stagesMost, slots}
+use Rattle.table.specs.Reference.{Fate, waiting, loaded, stored, merged, fateOf}
+use Rattle.table.specs.View.{view}
 use Rattle.table.specs.Rules.{Rules}
 use Rattle.engine.specs.Contract.{refused}
 use Rattle.buffer_model.specs.Answers.{Answer}
 use Rattle.buffer_model.specs.Calls.{Call}
 use Rattle.buffer_model.specs.Contract.{Meets}
 
--- a table, and whether it keeps the rules
+-- a table, and whether it keeps the rules; one that keeps them, and the fates of its live references, oldest first
 pub data Case : Type 0 where
   keeps : Table → Case
   breaks : Table → Case
+  shows : Table → List Fate → Case
+
+abbrev pub fates : Table → List Fate
+fates t = map fateOf (view t .refs)
 
 -- so it is of the table, and of every call on it
 abbrev pub Told : Case → Type 0
 Told (keeps t) = Rules t
 Told (breaks t) =
     (c : Call) (m v : List ℕ) (said : Answer) (u : Table) → Meets t c m said u v → (said ≡ refused 2) × (u ≡ t) × (v ≡ m)
+Told (shows t seen) = Rules t × (fates t ≡ seen)
 
 abbrev pub AllTold : List Case → Type 0
 AllTold [] = Unit {0}
 AllTold (d ∷ cases) = Told d × AllTold cases
 
-abbrev pub table : ℕ → ℕ → ℕ → ℕ → ℕ → ℕ → ℕ → List ℕ → List ℕ → List ℕ → Table
-table B R n W oldest live executed addresses loads stores =
+abbrev pub table : ℕ → ℕ → ℕ → ℕ → ℕ → ℕ → ℕ → List ℕ → List ℕ → List ℕ → List ℕ → Table
+table B R n W oldest live executed addresses loads stores values =
     record {
       banks = B;
       rows = R;
@@ -44,8 +52,12 @@ table B R n W oldest live executed addresses loads stores =
       addresses = addresses;
       loads = loads;
       stores = stores;
-      values = replicate stagesMost 0;
+      values = values;
     }
+
+-- zeros at every stage
+abbrev pub noWords : List ℕ
+noWords = replicate stagesMost 0
 
 -- zeros but for x at row r, and for y at row q
 abbrev pub one : ℕ → ℕ → List ℕ
@@ -56,11 +68,16 @@ two r x q y = set (one r x) q y
 
 -- a table without marks, with these sizes, oldest and number of live references
 abbrev pub bare : ℕ → ℕ → ℕ → ℕ → ℕ → ℕ → Table
-bare B R n W oldest live = table B R n W oldest live 0 (one 0 0) (one 0 0) (one 0 0)
+bare B R n W oldest live = table B R n W oldest live 0 (one 0 0) (one 0 0) (one 0 0) noWords
 
 -- Two banks of two rows, four stages, of which 2, 3 and 0 are live, from the oldest on.
 abbrev pub window : ℕ → List ℕ → List ℕ → List ℕ → Table
-window = table 2 2 4 8 2 3
+window executed addresses loads stores = table 2 2 4 8 2 3 executed addresses loads stores noWords
+
+-- the same with these words at stages 0 to 3
+abbrev pub wording : ℕ → List ℕ → List ℕ → List ℕ → ℕ → ℕ → ℕ → ℕ → Table
+wording executed addresses loads stores v0 v1 v2 v3 =
+    table 2 2 4 8 2 3 executed addresses loads stores (set (set (set (set noWords 0 v0) 1 v1) 2 v2) 3 v3)
 
 unfoldable pub cases : List Case
 cases =
@@ -80,10 +97,20 @@ cases =
     ∷ keeps (window 30 (two 0 4 8 5) (one 0 4) (one 8 8))
     -- Stage 0 is live; it has not executed, then it has.
     ∷ breaks (window 12 (two 0 4 8 5) (one 0 5) (one 8 8)) ∷ keeps (window 13 (two 0 4 8 5) (one 0 5) (one 8 8))
-    -- "Each live stage bears one mark, in one row, if it executed to memory, otherwise none." Stage 3 bears two marks in row 8;
-    -- it bears marks in rows 0 and 8; it bears marks in rows 0 and 1; it bears none.
-    ∷ breaks (window 12 (two 0 4 8 5) (two 0 4 8 8) (one 8 8))
+    -- "Each live stage bears one mark, in one row, if it executed to memory, otherwise none", and "one stage may bear both marks,
+    -- in one row". Stage 3 bears both marks in row 8, and is seen with its own word; stages 3 and 0 bear both in a row where
+    -- stage 2 stored; stage 3 does where stage 2 loaded; then one stage bears a load mark, one both, one a store mark.
+    ∷ shows (wording 12 (two 0 4 8 5) (two 0 4 8 8) (one 8 8) 1 2 3 9) (loaded 4 ∷ merged 5 9 ∷ waiting ∷ [])
+    ∷ shows (wording 13 (one 8 5) (one 8 9) (one 8 13) 7 2 3 9) (stored 5 3 ∷ merged 5 9 ∷ merged 5 7 ∷ [])
+    ∷ shows (wording 12 (one 8 5) (one 8 12) (one 8 8) 1 2 3 9) (loaded 5 ∷ merged 5 9 ∷ waiting ∷ [])
+    ∷ shows (wording 13 (two 0 4 8 5) (two 0 4 8 8) (two 0 1 8 8) 7 2 3 9) (loaded 4 ∷ merged 5 9 ∷ stored 4 7 ∷ [])
+    -- Stage 3 bears a load mark in row 0 and a store mark in row 8, or in row 1; both in row 8 and a load mark, a store mark or
+    -- both in row 0; both, where it has not executed; stage 1, which is not live, bears both.
     ∷ breaks (window 12 (two 0 4 8 5) (one 0 12) (one 8 8)) ∷ breaks (window 12 (two 0 4 1 6) (one 0 12) (one 1 8))
+    ∷ breaks (window 12 (two 0 4 8 5) (two 0 12 8 8) (one 8 8)) ∷ breaks (window 12 (two 0 4 8 5) (two 0 4 8 8) (two 0 8 8 8))
+    ∷ breaks (window 12 (two 0 4 8 5) (two 0 12 8 8) (two 0 8 8 8))
+    ∷ breaks (window 4 (two 0 4 8 5) (two 0 4 8 8) (one 8 8)) ∷ breaks (window 14 (two 0 4 8 5) (two 0 4 8 2) (one 8 2))
+    -- Stage 3 bears none.
     ∷ keeps (window 12 (one 0 4) (one 0 4) (one 0 0))
     -- "No address has two rows": 4 has rows 0 and 1; row 1 is 6's; row 1 is free.
     ∷ breaks (window 12 (two 0 4 1 4) (one 0 4) (one 1 8)) ∷ keeps (window 12 (two 0 4 1 6) (one 0 4) (one 1 8))

@@ -6,9 +6,10 @@ use mathlib.Core.Option.{none, some}
 use Prim.Native.Nat.{ℕ, suc}
 use lib.ListN.{replicate}
 use Rattle.table.specs.View.{tabulate}
+use Rattle.engine.specs.declared.Part.the-variants.{Byte, Half}
 use Rattle.engine.specs.Contract.{refused, done, named, executed}
 use Rattle.buffer_model.specs.Answers.{Answer}
-use Rattle.buffer_model.specs.Calls.{issue, executeLoad, executeStore, executeOther, squash, commit}
+use Rattle.buffer_model.specs.Calls.{issue, executeLoad, executeStore, executePart, executeOther, squash, commit}
 use Rattle.buffer_model.specs.Examples.{Turn, call, callOn, Example, τ}
 
 -- sizes, the words of a memory of zeros, the calls and the answers
@@ -51,8 +52,8 @@ openings =
     ∷ opens 1 1 1 4097 4096 (refused 1)
     -- The table of a refused opening breaks the rules: 2.
     ∷ row 1 1 1 1 0
-    (map call (issue ∷ executeLoad (τ 0 0) 0 ∷ squash (τ 0 0) ∷ commit ∷ []))
-    (refused 3 ∷ refused 2 ∷ refused 2 ∷ refused 2 ∷ refused 2 ∷ [])
+    (map call (issue ∷ executeLoad (τ 0 0) 0 ∷ executePart (τ 0 0) Half 0 0 ∷ squash (τ 0 0) ∷ commit ∷ []))
+    (refused 3 ∷ replicate 5 (refused 2))
     ∷ []
 
 unfoldable pub calls : List Example
@@ -72,10 +73,10 @@ calls =
     (map call
     (issue ∷ executeOther (τ 1 0) ∷ squash (τ 1 1) ∷ executeOther (τ 2 0) ∷ squash (τ 2 0) ∷ executeOther (τ 0 1)
     ∷ squash (τ 0 1) ∷ squash (τ 0 0) ∷ issue ∷ executeOther (τ 0 0) ∷ squash (τ 0 0) ∷ executeOther (τ 0 1) ∷ commit
-    ∷ executeOther (τ 0 1) ∷ squash (τ 0 1) ∷ []))
+    ∷ executeOther (τ 0 1) ∷ executePart (τ 0 1) Byte 0 9 ∷ squash (τ 0 1) ∷ []))
     (done ∷ named (τ 0 0) ∷ refused 7 ∷ refused 7 ∷ refused 7 ∷ refused 7 ∷ refused 7
     ∷ refused 7 ∷ done ∷ named (τ 0 1) ∷ refused 7 ∷ refused 7 ∷ executed 0 none ∷ named (τ 0 1)
-    ∷ refused 7 ∷ refused 7 ∷ [])
+    ∷ refused 7 ∷ refused 7 ∷ refused 7 ∷ [])
     -- 7: with stage 1 the oldest of two, stage 0 is at position 1, and stage 2 is no stage.
     ∷ row 1 4 2 8 8
     (map call
@@ -86,17 +87,20 @@ calls =
     -- 8: executed, whatever it executed.
     ∷ row 1 4 4 8 8
     (map call
-    (issue ∷ issue ∷ issue ∷ executeOther (τ 0 0) ∷ executeLoad (τ 1 1) 5 ∷ executeStore (τ 2 2) 6 7
-    ∷ executeOther (τ 0 0) ∷ executeLoad (τ 1 1) 5 ∷ executeStore (τ 2 2) 6 7 ∷ []))
-    (done ∷ firstTickets 3
-    ++ (executed 0 none ∷ executed 0 none ∷ executed 0 none ∷ refused 8 ∷ refused 8 ∷ refused 8 ∷ []))
-    -- 10: eight rows hold eight addresses; the ninth stalls, as a load and as a store, and one of the eight does not.
+    (replicate 4 issue
+    ++ (executeOther (τ 0 0) ∷ executeLoad (τ 1 1) 5 ∷ executeStore (τ 2 2) 6 7 ∷ executePart (τ 3 3) Byte 6 7
+    ∷ executeOther (τ 0 0) ∷ executeLoad (τ 1 1) 5 ∷ executeStore (τ 2 2) 6 7 ∷ executePart (τ 3 3) Byte 6 7
+    ∷ executePart (τ 0 0) Half 6 7 ∷ executeLoad (τ 3 3) 1 ∷ [])))
+    (done ∷ firstTickets 4 ++ replicate 4 (executed 0 none) ++ replicate 6 (refused 8))
+    -- 10: eight rows hold eight addresses; the ninth stalls, as a load and as a store, and one of the eight does not. (Byte 31 is
+    -- of word 7, byte 32 of word 8.)
     ∷ row 1 8 16 8 8
     (map call
     (replicate 10 issue ++ tabulate (λ (p : ℕ). executeLoad (τ p p) p) 8
-    ++ (executeLoad (τ 8 8) 8 ∷ executeStore (τ 8 8) 8 7 ∷ executeLoad (τ 8 8) 7 ∷ executeOther (τ 9 9) ∷ [])))
+    ++ (executeLoad (τ 8 8) 8 ∷ executeStore (τ 8 8) 8 7 ∷ executePart (τ 8 8) Byte 32 7 ∷ executeLoad (τ 8 8) 7
+    ∷ executePart (τ 9 9) Byte 31 7 ∷ [])))
     (done ∷ firstTickets 10 ++ replicate 8 (executed 0 none)
-    ++ (refused 10 ∷ refused 10 ∷ executed 0 none ∷ executed 0 none ∷ []))
+    ++ (refused 10 ∷ refused 10 ∷ refused 10 ∷ executed 0 none ∷ executed 0 none ∷ []))
     -- A ninth address at the oldest position evicts the youngest row: squash from 8.
     ∷ row 1 8 16 8 8
     (map call
@@ -122,11 +126,10 @@ calls =
     (callOn short issue
     ∷ callOn short (executeLoad (τ 0 0) 5) ∷ callOn long (executeLoad (τ 0 0) 5)
     ∷ callOn short (executeStore (τ 0 0) 5 7) ∷ callOn long (executeStore (τ 0 0) 5 7)
+    ∷ callOn short (executePart (τ 0 0) Half 5 7) ∷ callOn long (executePart (τ 0 0) Half 5 7)
     ∷ callOn short (executeOther (τ 0 0)) ∷ callOn long (executeOther (τ 0 0))
     ∷ call (executeOther (τ 0 0)) ∷ callOn short commit ∷ callOn long commit ∷ callOn short (squash (τ 0 0)) ∷ [])
-    (done ∷ named (τ 0 0)
-    ∷ refused 3 ∷ refused 3 ∷ refused 3 ∷ refused 3 ∷ refused 3 ∷ refused 3
-    ∷ executed 0 none ∷ refused 3 ∷ refused 3 ∷ done ∷ [])
+    (done ∷ named (τ 0 0) ∷ replicate 8 (refused 3) ++ (executed 0 none ∷ refused 3 ∷ refused 3 ∷ done ∷ []))
     -- Two at once: 3 with 11, with 12, with 7; then the oldest has executed at W.
     ∷ row 1 1 4 8 8
     (callOn short commit ∷ call issue ∷ callOn short commit ∷ callOn short (executeLoad (τ 1 1) 5) ∷ call (executeLoad (τ 0 0) 8)

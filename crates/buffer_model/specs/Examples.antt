@@ -1,6 +1,6 @@
 -- 01's starred examples as a table: the sizes and the memory of an opening, the calls after it, and what opening and calls
--- answer. Below them stand rows for what they leave out; specs/Edges.antt has the limits and the refusals. proofs/Starred.antt
--- shows that every row comes out.
+-- answer. Below them stand rows for what they leave out; specs/Edges.antt has the limits and the refusals, specs/PartStores.antt
+-- the stores of bytes and half words. proofs/Starred.antt shows that every row comes out.
 -- As long as nothing has been squashed or committed, position p is at stage p under issue number p: its ticket is τ p p.
 -- Assumes nothing.
 use mathlib.Core.Path.{_≡_}

@@ -6,5 +6,6 @@ pub mod Contract
 pub mod Life
 pub mod Examples
 pub mod Edges
+pub mod PartStores
 pub mod Damaged
 pub mod computed

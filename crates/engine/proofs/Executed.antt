@@ -3,20 +3,20 @@
 -- with that effect applied has the references that stay, the executing one with its fate, and keeps the rules (effect-view,
 -- effect-rules). By what is executed: a value alone is noted, an access is marked in the row found in the table that is left.
 -- Assumes nothing.
-use mathlib.Core.Path.{_≡_, refl, sym, ap, subst, _∙_}
-use mathlib.Core.Bool.{Bool, true, false, cond, _||_, true≢false}
+use mathlib.Core.Path.{_≡_, refl, sym, ap, ap₂, subst, _∙_}
+use mathlib.Core.Bool.{Bool, true, false, cond, _||_}
 use mathlib.Core.List.{List}
 use Prim.Native.Nat.{ℕ, _^_, _≤_, _<_}
 use native.Mathlib.Nat.{le-refl, le-of-lt}
 use native.Mathlib.Omega.{arith}
 use lib.Bits.{bitOr}
-use lib.ListN.{length, set}
+use lib.ListN.{length, getD, set}
 use lib.Seq.{take-all}
 use borrow.Author.Tests.{le-ltb}
 use Rattle.marks.specs.Stages.{has}
 use Rattle.table.specs.declared.Table.{Table}
 use Rattle.table.specs.Limits.{slots}
-use Rattle.table.specs.Reference.{other, accessed, loaded, stored, State}
+use Rattle.table.specs.Reference.{other, accessed, loaded, stored, merged, State}
 use Rattle.table.specs.View.{stageOf, wordIf, view}
 use Rattle.table.specs.Rules.{Rules}
 use Rattle.table.specs.Moves.{windowed, squashTo, withFate}
@@ -28,20 +28,25 @@ use Rattle.engine.proofs.Narrowing.{cut-rules, cut-view, cut-lengths, c
 use Rattle.engine.proofs.Marking.{access-rules, access-view, noted-rules, noted-view}
 use Rattle.lookup.specs.declared.Place.{Place}
 use Rattle.lookup.specs.Forwarding.{forwarded}
+use Rattle.lookup.specs.computed.Search.{forward}
 use Rattle.lookup.specs.Outcome.{survivors, executes}
 use Rattle.lookup.proofs.Forwards.{forward-seen}
 use Rattle.lookup.proofs.Places.{placeAt, storeAt, Placed, place-left, placed, store-left, store-placed}
 use Rattle.engine.specs.declared.Action.{Action}
-use Rattle.engine.specs.declared.Action.the-variants.{Compute, LoadAt, StoreAt}
+use Rattle.engine.specs.declared.Action.the-variants.{Compute, LoadAt, StoreAt, PartAt}
+use Rattle.engine.specs.declared.Part.{Part}
 use Rattle.engine.specs.declared.Effect.{Effect}
 use Rattle.engine.specs.Execution.{fateBy, answerOf}
-use Rattle.engine.specs.computed.Effect.{effectAt, applyEffect}
+use Rattle.engine.specs.computed.Effect.{effectAt, answered, applyEffect}
+use Rattle.engine.specs.Part.{wordOf, whole}
 
 module _ (t : Table) (rules : Rules t) (p : ℕ) (live : p < t .live) (w : List ℕ) where
-  pub effect-left : (act : Action) → effectAt t p w act .left ≡ survivors (view t) p (fateBy act)
+  pub effect-left : (act : Action) → effectAt t p w act .left ≡ survivors (view t) p (fateBy (forwarded (view t) w p) act)
   effect-left (Compute x) = sym (length-refs t)
   effect-left (LoadAt a) = place-left t rules a p live
   effect-left (StoreAt a x) = store-left t rules a p live false x
+  effect-left (PartAt part b x) =
+      store-left t rules (wordOf b) p live true (whole part b (forwarded (view t) w p (wordOf b)) x)
 
   bounds : (a : ℕ) (found : Place) → Placed t a p found
       → (p < found .left) × (found .left ≤ t .live) × (found .row < slots)
@@ -52,6 +57,7 @@ module _ (t : Table) (rules : Rules t) (p : ℕ) (live : p < t .live) (w : List 
   effect-bounds (Compute x) stays = (live, le-refl (t .live), omega arith)
   effect-bounds (LoadAt a) stays = bounds a (placeAt t a p) (placed t rules a p live stays)
   effect-bounds (StoreAt a x) stays = bounds a (storeAt t a p) (store-placed t rules a p live stays)
+  effect-bounds (PartAt part b x) stays = bounds (wordOf b) (storeAt t (wordOf b) p) (store-placed t rules (wordOf b) p live stays)
 
   -- of the effect that was found
   pub found-bounds : (act : Action) {q : Effect} → q ≡ effectAt t p w act → (q .left ≡ 0 → ⊥)
@@ -60,27 +66,38 @@ module _ (t : Table) (rules : Rules t) (p : ℕ) (live : p < t .live) (w : List 
       subst (λ (x : Effect). (p < x .left) × (x .left ≤ t .live) × (x .row < slots)) (sym found)
       (effect-bounds act (λ z. stays (ap (λ (x : Effect). x .left) found ∙ z)))
 
+  -- the word found in the row is the one that a load takes
+  taken : (a : ℕ) (found : Place) → Placed t a p found
+      → forward (t .oldest) (t .stages) (t .stores) (t .values) (found .row) p (getD w a 0) ≡ forwarded (view t) w p a
+  taken a found q =
+      forward-seen t rules a (found .row) p _ (le-of-lt live)
+      (row-for-less t a (found .row) (found .left) p (le-of-lt (q .after)) (q .owned))
+
   pub effect-value : (act : Action) → (effectAt t p w act .left ≡ 0 → ⊥)
-      → cond (effectAt t p w act .load) (effectAt t p w act .value) 0 ≡ answerOf (forwarded (view t) w p) act
+      → answered (effectAt t p w act .load) (effectAt t p w act .store) (effectAt t p w act .value) ≡ answerOf (forwarded (view t) w p) act
   effect-value (Compute x) stays = refl
-  effect-value (LoadAt a) stays =
-      let q = placed t rules a p live stays in
-      forward-seen t rules a (placeAt t a p .row) p _ (le-of-lt live)
-      (row-for-less t a (placeAt t a p .row) (placeAt t a p .left) p (le-of-lt (q .after)) (q .owned))
+  effect-value (LoadAt a) stays = taken a (placeAt t a p) (placed t rules a p live stays)
   effect-value (StoreAt a x) stays = refl
+  effect-value (PartAt part b x) stays = refl
+
+  -- what a part's store stores
+  pub part-value : (part : Part) (b x : ℕ) → (effectAt t p w (PartAt part b x) .left ≡ 0 → ⊥)
+      → effectAt t p w (PartAt part b x) .value ≡ whole part b (forwarded (view t) w p (wordOf b)) x
+  part-value part b x stays =
+      let a = wordOf b in
+      ap (λ (v : ℕ). whole part b v x) (taken a (storeAt t a p) (store-placed t rules a p live stays))
 
   module _ (lengths : Lengths t) (idle : has (t .executed) (stageOf t p) ≡ false) where
     -- every reference stays
-    whole : applyEffect t (effectAt t p w (Compute 0)) (stageOf t p) ≡ noted t (stageOf t p)
-    whole = rw (le-ltb (t .live) (t .live) (le-refl (t .live)))
+    uncut : applyEffect t (effectAt t p w (Compute 0)) (stageOf t p) ≡ noted t (stageOf t p)
+    uncut = rw (le-ltb (t .live) (t .live) (le-refl (t .live)))
 
     all-kept : squashTo (view t) (length (view t .refs)) ≡ view t
     all-kept =
         ap (windowed (view t) (t .oldest)) (take-all (length (view t .refs)) (view t .refs) (le-refl (length (view t .refs))))
 
     -- an access of address a, marked in the row found, in the table that is left
-    module _ (a v : ℕ) (found : Place) (q : Placed t a p found) (load store : Bool)
-        (apart : load ≡ true → store ≡ true → ⊥) where
+    module _ (a v : ℕ) (found : Place) (q : Placed t a p found) (load store : Bool) where
       left-rules : Rules (cut t (found .left))
       left-rules = cut-rules t rules (found .left) (q .within)
 
@@ -90,41 +107,50 @@ module _ (t : Table) (rules : Rules t) (p : ℕ) (live : p < t .live) (w : List 
       accessed-rules : Rules (accessMarked (cut t (found .left)) (found .row) (stageOf t p) a load store v)
       accessed-rules =
           access-rules (cut t (found .left)) left-rules (cut-lengths t lengths (found .left)) p a (found .row) v (q .after) idle
-          left-row load store apart
+          left-row load store
 
       accessed-view : (load || store) ≡ true
           → view (accessMarked (cut t (found .left)) (found .row) (stageOf t p) a load store v)
           ≡ withFate (squashTo (view t) (found .left)) p (accessed a load (wordIf store v))
       accessed-view some =
           access-view (cut t (found .left)) left-rules (cut-lengths t lengths (found .left)) p a (found .row) v (q .after) idle
-          left-row load store apart some
+          left-row load store some
           ∙ ap (λ (P : State). withFate P p (accessed a load (wordIf store v))) (cut-view t rules (found .left) (q .within))
 
     pub effect-rules : (act : Action) → (effectAt t p w act .left ≡ 0 → ⊥)
         → Rules (applyEffect t (effectAt t p w act) (stageOf t p))
-    effect-rules (Compute x) stays = subst Rules (sym whole) (noted-rules t rules p live)
+    effect-rules (Compute x) stays = subst Rules (sym uncut) (noted-rules t rules p live)
     effect-rules (LoadAt a) stays =
-        accessed-rules a 0 (placeAt t a p) (placed t rules a p live stays) true false (λ _ e. true≢false (sym e))
+        accessed-rules a 0 (placeAt t a p) (placed t rules a p live stays) true false
     effect-rules (StoreAt a x) stays =
-        accessed-rules a x (storeAt t a p) (store-placed t rules a p live stays) false true (λ e _. true≢false (sym e))
+        accessed-rules a x (storeAt t a p) (store-placed t rules a p live stays) false true
+    effect-rules (PartAt part b x) stays =
+        let a = wordOf b in
+        accessed-rules a (effectAt t p w (PartAt part b x) .value) (storeAt t a p) (store-placed t rules a p live stays) true true
 
     pub effect-view : (act : Action) → (effectAt t p w act .left ≡ 0 → ⊥)
-        → view (applyEffect t (effectAt t p w act) (stageOf t p)) ≡ executes (view t) p (fateBy act)
+        → view (applyEffect t (effectAt t p w act) (stageOf t p)) ≡ executes (view t) p (fateBy (forwarded (view t) w p) act)
     effect-view (Compute x) stays =
-        ap view whole ∙ noted-view t rules p live idle ∙ ap (λ (P : State). withFate P p other) (sym all-kept)
+        ap view uncut ∙ noted-view t rules p live idle ∙ ap (λ (P : State). withFate P p other) (sym all-kept)
     effect-view (LoadAt a) stays =
-        accessed-view a 0 (placeAt t a p) (placed t rules a p live stays) true false (λ _ e. true≢false (sym e)) refl
+        accessed-view a 0 (placeAt t a p) (placed t rules a p live stays) true false refl
         ∙ ap (λ (k : ℕ). withFate (squashTo (view t) k) p (loaded a)) (effect-left (LoadAt a))
     effect-view (StoreAt a x) stays =
-        accessed-view a x (storeAt t a p) (store-placed t rules a p live stays) false true (λ e _. true≢false (sym e)) refl
+        accessed-view a x (storeAt t a p) (store-placed t rules a p live stays) false true refl
         ∙ ap (λ (k : ℕ). withFate (squashTo (view t) k) p (stored a x)) (effect-left (StoreAt a x))
+    effect-view (PartAt part b x) stays =
+        let a = wordOf b in
+        accessed-view a (effectAt t p w (PartAt part b x) .value) (storeAt t a p) (store-placed t rules a p live stays) true true
+        refl
+        ∙ ap₂ (λ (k v : ℕ). withFate (squashTo (view t) k) p (merged a v)) (effect-left (PartAt part b x))
+        (part-value part b x stays)
 
 -- the parts changed in place make the table with the effect applied
 pub effect-made : (t : Table) (q : Effect) (s done : ℕ) (addresses cutLoads loads cutStores stores values : List ℕ)
     → cutLoads ≡ cutMarks (t .banks) (t .oldest) (t .stages) (t .live) (q .left) (t .loads)
     → cutStores ≡ cutMarks (t .banks) (t .oldest) (t .stages) (t .live) (q .left) (t .stores)
     → done ≡ bitOr (t .executed) (2 ^ s)
-    → addresses ≡ cond (q .load || q .store) (set (t .addresses) (q .row) (q .address)) (t .addresses)
+    → addresses ≡ cond (q .load || q .store) (set (t .addresses) (q .row) (q .word)) (t .addresses)
     → loads ≡ marking cutLoads (q .load) (q .row) s → stores ≡ marking cutStores (q .store) (q .row) s
     → values ≡ cond (q .store) (set (t .values) s (q .value)) (t .values)
     → remade t (t .oldest) (q .left) done addresses loads stores values ≡ applyEffect t q s

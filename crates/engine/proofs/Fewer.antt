@@ -42,8 +42,6 @@ fewer-rules t u rules f sizes room start live executed =
       start = start;
       live = live;
       executed = executed;
-      one-mark = λ r s h l m.
-          let b = in-use r h in rules .one-mark r s b (f .loads r s b l) (f .stores r s b m);
       one-row = λ r q s h k l m. rules .one-row r q s (in-use r h) (in-use q k) (less r s h l) (less q s k m);
       one-address = λ r q s v h k l m e.
           rules .one-address r q s v (in-use r h) (in-use q k) (less r s h l) (less q v k m) (sym (same r) ∙ e ∙ same q);

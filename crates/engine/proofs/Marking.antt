@@ -7,7 +7,7 @@
 use mathlib.Core.Bool.{Bool, true, false, cond, _||_, true≢false, or-true, or-false}
 use mathlib.Core.List.{List}
 use mathlib.Core.Logic.{_⊎_, inl, inr, ⊎-elim}
-use mathlib.Core.Path.{_≡_, refl, sym, ap, ap₂, subst, subst₂, _∙_}
+use mathlib.Core.Path.{_≡_, refl, sym, ap, ap₂, subst, _∙_}
 use Prim.Native.Nat.{ℕ, _^_, _≤_, _<_}
 use native.Mathlib.Nat.{le-of-lt}
 use native.Mathlib.Omega.{arith}
@@ -26,7 +26,7 @@ use Rattle.table.specs.Reference.{Fate, other, accessed, ref, numberOf, at}
 use Rattle.table.specs.Rules.{Live, Rules}
 use Rattle.table.specs.View.{stageOf, address, loadMark, storeMark, mark, value, wordIf, fateAt, refAt}
 use Rattle.table.specs.View.{view}
-use Rattle.table.proofs.Fates.{mark-load, mark-kind, no-load, no-store, side-same, fates-same, fate-marked, fate-other, at-refs}
+use Rattle.table.proofs.Fates.{mark-kind, no-load, no-store, side-same, fates-same, fate-marked, fate-other, at-refs}
 use Rattle.table.proofs.Lists.{tabulate-set}
 use Rattle.table.proofs.Owning.{RowFor, row-small, row-of-mark, mark-position}
 use Rattle.engine.specs.computed.Steps.{executing, noted, withStage, marking, accessMarked}
@@ -128,13 +128,12 @@ module _ (t : Table) (rules : Rules t) where
       let place = mark-position t rules q v h m in
       row .only q (place .0) h (place .1) (subst (λ (x : ℕ). mark t q x ≡ true) (sym (place .2)) m) e
 
--- The marks are those of t but for stage s, which at most row r has, by one mark; the values are t's but for stage s.
+-- The marks are those of t but for stage s, which at most row r has; the values are t's but for stage s.
 record Gains (t : Table) (r s : ℕ) (loads stores values : List ℕ) : Type 0 where
   load-else : (q u : ℕ) → (u ≡ s → ⊥) → has (getD loads q 0) u ≡ loadMark t q u
   store-else : (q u : ℕ) → (u ≡ s → ⊥) → has (getD stores q 0) u ≡ storeMark t q u
   load-row : (q : ℕ) → q < rowsIn (t .banks) → has (getD loads q 0) s ≡ true → q ≡ r
   store-row : (q : ℕ) → q < rowsIn (t .banks) → has (getD stores q 0) s ≡ true → q ≡ r
-  one : has (getD loads r 0) s ≡ true → has (getD stores r 0) s ≡ true → ⊥
   value-else : (u : ℕ) → (u ≡ s → ⊥) → getD values u 0 ≡ value t u
 
 module _ (t : Table) (rules : Rules t) (lengths : Lengths t) (p a r : ℕ) (here : p < t .live) (row : RowFor t a r (t .live))
@@ -213,14 +212,6 @@ module _ (t : Table) (rules : Rules t) (lengths : Lengths t) (p a r : ℕ) (here
             (λ w. subst (λ (x : ℕ). has (after .executed) x ≡ true) (sym (w .1)) (more-here (t .executed) (stageOf t p)))
             (λ w. more-had (t .executed) (stageOf t p) v (rules .executed q v h (w .1)))
             (mark-old q v h m);
-        one-mark = λ q v h l m.
-            ⊎-elim
-            (λ w.
-            gains .one (subst₂ (λ (x y : ℕ). has (getD loads x 0) y ≡ true) (w .0) (w .1) l)
-            (subst₂ (λ (x y : ℕ). has (getD stores x 0) y ≡ true) (w .0) (w .1) m))
-            (λ w.
-            rules .one-mark q v h (sym (gains .load-else q v (w .0)) ∙ l) (sym (gains .store-else q v (w .0)) ∙ m))
-            (mark-old q v h (mark-load after q v l));
         one-row = λ q z v h k l m.
             ⊎-elim
             (λ w. ⊎-elim (λ x. w .0 ∙ sym (x .0)) (λ x. absurd (x .0 (w .1))) (mark-old z v k m))
@@ -250,8 +241,7 @@ module _ (t : Table) (rules : Rules t) (lengths : Lengths t) (p a r : ℕ) (here
       (λ k b m. gains .value-else (stageOf t q) d))
 
 module _ (t : Table) (rules : Rules t) (lengths : Lengths t) (p a r v : ℕ) (here : p < t .live)
-    (idle : has (t .executed) (stageOf t p) ≡ false) (row : RowFor t a r (t .live)) (load store : Bool)
-    (apart : load ≡ true → store ≡ true → ⊥) where
+    (idle : has (t .executed) (stageOf t p) ≡ false) (row : RowFor t a r (t .live)) (load store : Bool) where
   abbrev loads : List ℕ
   loads = marking (t .loads) load r (stageOf t p)
 
@@ -288,7 +278,6 @@ module _ (t : Table) (rules : Rules t) (lengths : Lengths t) (p a r v : ℕ) (he
             marking-other (t .stores) store r (stageOf t p) (omega (arith, row-small t rules r (row .row), lengths .stores));
         load-row = λ q h m. marking-row (t .loads) load r (stageOf t p) q (no-load t q (stageOf t p) (bare q h)) m;
         store-row = λ q h m. marking-row (t .stores) store r (stageOf t p) q (no-store t q (stageOf t p) (bare q h)) m;
-        one = λ l m. apart (sym load-here ∙ l) (sym store-here ∙ m);
         value-else = value-other store;
       }
 

@@ -12,7 +12,6 @@ use Rattle.table.specs.Limits.{slots, rowsIn, sizesFit}
 use Rattle.table.specs.Rules.{Rules}
 use Rattle.table.specs.View.{mark, tabulate, view}
 use Rattle.table.proofs.Sizes.{sizes}
-use Rattle.table.proofs.Fates.{mark-load}
 use Rattle.engine.specs.Opening.{opening, fresh}
 
 no-bit : (r s : ℕ) → r < slots → has (getD (replicate slots 0) r 0) s ≡ false
@@ -33,7 +32,6 @@ module _ (banks rows stages words : ℕ) where
         start = sizes banks rows stages words fit .some-stage;
         live = λ r s h m. absurd (no-mark fit r s h m);
         executed = λ r s h m. absurd (no-mark fit r s h m);
-        one-mark = λ r s h l m. no-mark fit r s h (mark-load (fresh banks rows stages words) r s l);
         one-row = λ r q s h l m n. absurd (no-mark fit r s h m);
         one-address = λ r q s u h l m n e. absurd (no-mark fit r s h m);
         in-bank = λ r s h m. absurd (no-mark fit r s h m);

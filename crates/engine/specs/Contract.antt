@@ -11,7 +11,7 @@ use lib.Dec.{eqb}
 
 -- A refusal with its number; that it was done; the reference issued, or the one that the buffer committed; the value (of a
 -- load, else 0) and the reference from which on references were squashed, if any; the machine's commit: index, code, register
--- (for S the address) and value; how many commits a finish made.
+-- (for S, B and H the address) and value; how many commits a finish made.
 pub data Answer (N : Type 0) : Type 0 where
   refused : ℕ → Answer N
   done : Answer N

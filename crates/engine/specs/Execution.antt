@@ -3,21 +3,25 @@
 use mathlib.Core.List.{List}
 use Prim.Native.Nat.{ℕ}
 use lib.ListN.{set}
-use Rattle.table.specs.Reference.{Side, lacks, holds, Fate, waiting, other, accessed, loaded, stored}
+use Rattle.table.specs.Reference.{Side, lacks, holds, Fate, waiting, other, accessed, loaded, stored, merged}
 use Rattle.engine.specs.declared.Action.{Action}
-use Rattle.engine.specs.declared.Action.the-variants.{Compute, LoadAt, StoreAt}
+use Rattle.engine.specs.declared.Action.the-variants.{Compute, LoadAt, StoreAt, PartAt}
+use Rattle.engine.specs.Part.{wordOf, whole}
 
--- the fate of a reference that executed this
-abbrev pub fateBy : Action → Fate
-fateBy (Compute v) = other
-fateBy (LoadAt a) = loaded a
-fateBy (StoreAt a v) = stored a v
+-- The fate of a reference that executed this where the memory is seen as μ. A store of a part loads the word and then stores
+-- the whole of it.
+abbrev pub fateBy : (ℕ → ℕ) → Action → Fate
+fateBy μ (Compute v) = other
+fateBy μ (LoadAt a) = loaded a
+fateBy μ (StoreAt a v) = stored a v
+fateBy μ (PartAt part b v) = merged (wordOf b) (whole part b (μ (wordOf b)) v)
 
--- the value that its execution answers where the memory is seen as μ: of a load the word that it takes, else 0
+-- the value that its execution answers: of a load the word that it takes, else 0
 abbrev pub answerOf : (ℕ → ℕ) → Action → ℕ
 answerOf μ (Compute v) = 0
 answerOf μ (LoadAt a) = μ a
 answerOf μ (StoreAt a v) = 0
+answerOf μ (PartAt part b v) = 0
 
 -- memory with a store's word at address a, if there is one
 abbrev pub writtenAt : List ℕ → ℕ → Side → List ℕ

@@ -5,6 +5,7 @@
 // was passed with these.
 use engine::Action;
 use engine::Effect;
+use engine::Part;
 use lookup::Mark;
 use table::ROWS;
 use table::SLOTS;
@@ -20,8 +21,9 @@ ghost use Rattle.lookup.specs.computed.Search.{markedFate};
 ghost use Rattle.engine.specs.Conditions.{faults};
 ghost use Rattle.engine.specs.Opening.{fresh};
 ghost use Rattle.engine.specs.Execution.{written};
+ghost use Rattle.engine.specs.Part.{whole};
 ghost use Rattle.engine.specs.computed.Steps.{within, cutMarks, marking};
-ghost use Rattle.engine.specs.computed.Effect.{effectOf};
+ghost use Rattle.engine.specs.computed.Effect.{effectOf, answered};
 
 // A table with these sizes and nothing in it.
 pub fn empty(banks: usize, rows: usize, stages: usize, words: usize) -> Table
@@ -41,6 +43,32 @@ pub fn empty(banks: usize, rows: usize, stages: usize, words: usize) -> Table
         loads: [0; SLOTS],
         stores: [0; SLOTS],
         values: [0; STAGES],
+    }
+}
+
+// The word `w` with the part of `v` at byte `b` in it.
+fn merge(part: Part, b: u32, w: u32, v: u32) -> u32
+    ensures { λ r. ⌜ r ≡ whole part b w v ⌝ }
+{
+    match part {
+        Part::Byte => {
+            if b % 4 == 0 {
+                return w / 256 * 256 + v % 256;
+            }
+            if b % 4 == 1 {
+                return w / 65536 * 65536 + v % 256 * 256 + w % 256;
+            }
+            if b % 4 == 2 {
+                return w / 16777216 * 16777216 + v % 256 * 65536 + w % 65536;
+            }
+            v % 256 * 16777216 + w % 16777216
+        }
+        Part::Half => {
+            if b % 4 < 2 {
+                return w / 65536 * 65536 + v % 65536;
+            }
+            v % 65536 * 65536 + w % 65536
+        }
     }
 }
 
@@ -73,6 +101,7 @@ pub fn effect_of<'a>(
             load: false,
             store: false,
             row: 0,
+            word: 0,
             left: live,
             value: v,
             address: 0,
@@ -104,6 +133,7 @@ pub fn effect_of<'a>(
                 load: true,
                 store: false,
                 row: r,
+                word: a,
                 left: place.left,
                 value: v,
                 address: a,
@@ -137,9 +167,54 @@ pub fn effect_of<'a>(
                 load: false,
                 store: true,
                 row: r,
+                word: a,
                 left,
                 value: v,
                 address: a,
+            }
+        }
+        Action::PartAt(part, b, v) => {
+            let a = b / 4;
+            let place = lookup_rows::place_of(
+                banks,
+                rows,
+                stages,
+                oldest,
+                live,
+                addresses,
+                loads,
+                stores,
+                a,
+                p,
+            );
+            let r = place.row;
+            let w = lookup_marks::forwarded(
+                oldest,
+                stages,
+                stores,
+                values,
+                r,
+                p,
+                lookup_marks::word(memory, a),
+            );
+            let left = lookup_rows::left_after(
+                oldest,
+                stages,
+                live,
+                loads,
+                stores,
+                r,
+                place.left,
+                p,
+            );
+            Effect {
+                load: true,
+                store: true,
+                row: r,
+                word: a,
+                left,
+                value: merge(part, b, w, v),
+                address: b,
             }
         }
     }
@@ -222,11 +297,14 @@ pub fn add_mark(a: &mut [u32; SLOTS], on: bool, i: usize, s: usize)
     }
 }
 
-// The value that an execution answers: a load's, else 0.
-pub fn answered(load: bool, value: u32) -> u32
-    ensures { λ r. ⌜ r ≡ cond load value 0 ⌝ }
+// The value that an execution with these marks answers: a load's, else 0.
+pub fn answered(load: bool, store: bool, value: u32) -> u32
+    ensures { λ r. ⌜ r ≡ answered load store value ⌝ }
 {
     if load {
+        if store {
+            return 0;
+        }
         return value;
     }
     0

@@ -1,6 +1,7 @@
--- 01's sentences of a load's value and of a store's check, shown of the definitions in specs/Forwarding and
--- specs/Violation: "youngest", "older", "first met" by positions of the list. Induction on the load's position; for the
--- check, the references that have not executed to the address are passed (spared-skip), and the next one decides.
+-- 01's sentences of a load's value and of a store's check, and 02's of a part's store met by that check, shown of the
+-- definitions in specs/Forwarding and specs/Violation: "youngest", "older", "first met" by positions of the list. Induction on
+-- the load's position; for the check, the references that have not executed to the address are passed (spared-skip), and the
+-- next one decides.
 -- Assumes nothing.
 use mathlib.Core.Bool.{Bool, true, false, cond}
 use mathlib.Core.List.{List}
@@ -12,10 +13,12 @@ use native.Mathlib.Omega.{arith}
 use lib.Dec.{eqb}
 use lib.ListN.{length, take, drop, length-drop}
 use borrow.Author.Tests.{eq-eqb, eqb-true}
-use Rattle.table.specs.Reference.{Side, lacks, holds, Fate, waiting, other, accessed, Ref, ref, fateOf, at, State}
+use Rattle.table.specs.Reference.{Side, lacks, holds, Fate, waiting, other, accessed, merged, Ref, ref, fateOf, at, State}
 use Rattle.lookup.specs.Forwarding.{wordOr, wordAfter, seen}
 use Rattle.lookup.specs.Rows.{touches}
 use Rattle.lookup.specs.Violation.{keptFrom, keptYounger, keptAfterStore}
+use Rattle.lookup.specs.Outcome.{survivors}
+use Rattle.lookup.proofs.Firsts.{touched-at}
 use Rattle.lookup.proofs.Forwards.{seen-next}
 use Rattle.lookup.proofs.Violations.{spared-next, spared-skip, spared-all}
 
@@ -75,6 +78,14 @@ module _ (P : State) (p a : ℕ) where
   spared-load q n s l h e none =
       met-at q n (accessed a true s) l h e none
       ∙ ap (λ (t : Bool). q + cond t 0 (suc (keptYounger a (drop (suc q) (P .refs))))) (eq-eqb a a refl) ∙ omega arith
+
+  -- "Walking from an older store, its load side is met before its store side": where a part's store is the first one met, it and
+  -- everything younger is squashed. The older store is one of a word or of a part.
+  pub squashes-merged : (q n v u : ℕ) (l : Bool) → p < q → q < length (P .refs) → at (P .refs) q ≡ ref n (merged a v)
+      → ((k : ℕ) → p < k → k < q → touches a (fateOf (at (P .refs) k)) ≡ false) → survivors P p (accessed a l (holds u)) ≡ q
+  squashes-merged q n v u l h live e none =
+      let met : touches a (fateOf (at (P .refs) q)) ≡ true = ap (λ (x : Ref). touches a (fateOf x)) e ∙ eq-eqb a a refl in
+      rw (touched-at a (P .refs) q live met) (spared-load q n (holds v) h live e none)
 
   -- "If it is a store, or there is none, nothing is": it is a store
   pub spared-store : (q n v : ℕ) → p < q → q < length (P .refs) → at (P .refs) q ≡ ref n (accessed a false (holds v))

@@ -6,7 +6,7 @@ ghost use mathlib.Core.List.{[]};
 ghost use Rattle.machine_model.specs.Calls.{commit};
 ghost use Rattle.machine_model.specs.Contract.{commitSays, Meets};
 
-// Commits the oldest entry: its register, or for S its memory word, takes the value.
+// Commits the oldest entry: its register, or for S, B and H its memory word, takes the value.
 pub fn commit(mut m: Machine, program: &[u32], memory: &mut [u32]) -> CommitResult
     ensures { λ r. ⌜ Meets (now (program .entry)) m commit (now (memory .entry)) (commitSays (r .answer)) (r .machine)
         (now (memory .exit)) [] ⌝ }
@@ -55,6 +55,12 @@ pub fn commit(mut m: Machine, program: &[u32], memory: &mut [u32]) -> CommitResu
     if engine_steps::mark_faults(mark, m.table.words) {
         return CommitResult {
             answer: CommitAnswer::Refused(13),
+            machine: m,
+        };
+    }
+    if machine_isa::is_misaligned(e) {
+        return CommitResult {
+            answer: CommitAnswer::Refused(14),
             machine: m,
         };
     }

@@ -93,7 +93,12 @@ pub fn execute(mut m: Machine, program: &[u32], p: usize, memory: &[u32]) -> Exe
     engine_steps::cut(&mut m.table.stores, banks, oldest, stages, live, left);
     m.table.live = left;
     m.table.executed = marks::including(executed, s);
-    engine_steps::set_word(&mut m.table.addresses, effect.load | effect.store, r, a);
+    engine_steps::set_word(
+        &mut m.table.addresses,
+        effect.load | effect.store,
+        r,
+        effect.word,
+    );
     engine_steps::add_mark(&mut m.table.loads, effect.load, r, s);
     engine_steps::add_mark(&mut m.table.stores, effect.store, r, s);
     engine_steps::set_value(&mut m.table.values, effect.store, s, v);
@@ -106,7 +111,7 @@ pub fn execute(mut m: Machine, program: &[u32], p: usize, memory: &[u32]) -> Exe
     m.next = machine_steps::next_after(f.index, live, left, m.next);
     ExecuteResult {
         answer: ExecuteAnswer::Executed(
-            engine_steps::answered(effect.load, v),
+            engine_steps::answered(effect.load, effect.store, v),
             machine_steps::squashed_at(live, left),
         ),
         machine: m,

@@ -106,7 +106,12 @@ pub fn finish(
             engine_steps::cut(&mut m.table.stores, banks, oldest, stages, live, left);
             m.table.live = left;
             m.table.executed = marks::including(executed, oldest);
-            engine_steps::set_word(&mut m.table.addresses, effect.load | effect.store, r, a);
+            engine_steps::set_word(
+                &mut m.table.addresses,
+                effect.load | effect.store,
+                r,
+                effect.word,
+            );
             engine_steps::add_mark(&mut m.table.loads, effect.load, r, oldest);
             engine_steps::add_mark(&mut m.table.stores, effect.store, r, oldest);
             engine_steps::set_value(&mut m.table.values, effect.store, oldest, v);
@@ -126,6 +131,12 @@ pub fn finish(
             engine_steps::at_stage(&m.table.values, oldest),
         );
         if engine_steps::mark_faults(mark, m.table.words) {
+            return FinishResult {
+                answer: FinishAnswer::Finished(n),
+                machine: m,
+            };
+        }
+        if machine_isa::is_misaligned(done) {
             return FinishResult {
                 answer: FinishAnswer::Finished(n),
                 machine: m,

@@ -1,6 +1,7 @@
 // The instruction set and the window's entries: an instruction read from the program and held to it, its operands and what it
 // asks with them, and what an entry says of itself. Inner: `instruction_at` requires what its callers have shown.
 use engine::Action;
+use engine::Part;
 use machine_model::Entry;
 use machine_model::Fate;
 use machine_model::Instruction;
@@ -13,9 +14,9 @@ ghost use lib.Seq.{sets};
 ghost use Rattle.machine_model.specs.Program.{decoded, instructionAt, wellFormed, programFits, codeOf, dOf, sOf, immOf};
 ghost use Rattle.machine_model.specs.Program.{kind, destination};
 ghost use Rattle.machine_model.specs.Contract.{kindOf, placeOf};
-ghost use Rattle.machine_model.specs.Window.{reference};
-ghost use Rattle.machine_model.specs.Calls.{waits, valueBy, addressBy, target};
-ghost use Rattle.machine_model.specs.computed.Parts.{registerNumber, likeBy, actionOf, second};
+ghost use Rattle.machine_model.specs.Window.{addressBy, misaligned, reference};
+ghost use Rattle.machine_model.specs.Calls.{waits, valueBy, target};
+ghost use Rattle.machine_model.specs.computed.Parts.{registerNumber, kindBy, placeBy, likeBy, actionOf, second};
 
 // The four numbers of an instruction.
 struct Numbers {
@@ -49,6 +50,8 @@ fn numbers_of(i: Instruction) -> Numbers
         Instruction::Sum(d, s, imm) => Numbers { code: 2, d, s, imm },
         Instruction::Load(d, s, imm) => Numbers { code: 3, d, s, imm },
         Instruction::Store(d, s, imm) => Numbers { code: 4, d, s, imm },
+        Instruction::Byte(d, s, imm) => Numbers { code: 5, d, s, imm },
+        Instruction::Half(d, s, imm) => Numbers { code: 6, d, s, imm },
     }
 }
 
@@ -65,7 +68,13 @@ fn decode(code: u32, d: u32, s: u32, imm: u32) -> Instruction
     if code == 3 {
         return Instruction::Load(d, s, imm);
     }
-    Instruction::Store(d, s, imm)
+    if code == 4 {
+        return Instruction::Store(d, s, imm);
+    }
+    if code == 5 {
+        return Instruction::Byte(d, s, imm);
+    }
+    Instruction::Half(d, s, imm)
 }
 
 // The instruction at index `i` of the program.
@@ -81,7 +90,7 @@ pub fn instruction_at(program: &[u32], i: usize) -> Instruction
 pub fn well_formed(code: u32, d: u32, s: u32, imm: u32) -> bool
     ensures { λ r. ⌜ r ≡ wellFormed code d s imm ⌝ }
 {
-    ((1 <= code) & (code <= 4)) & ((d <= 7) & (s <= 7)) & (!(code == 2) | (imm <= 7))
+    ((1 <= code) & (code <= 6)) & ((d <= 7) & (s <= 7)) & (!(code == 2) | (imm <= 7))
 }
 
 // Whether the program is whole instructions, each well formed.
@@ -140,20 +149,40 @@ pub fn entry_fits(program: &[u32], e: Entry) -> bool
     (n.code == own.code) & (n.d == own.d) & (n.s == own.s) & (n.imm == own.imm)
 }
 
-// An entry's kind and address as the buffer has them: 0 executed without memory, 1 a load, 2 a store, 4 waiting.
+// The kind and the address of an executed entry with this code. By comparisons: a jump by the instruction would be one to guess.
+fn kind_by(code: u32) -> u32
+    ensures { λ r. ⌜ r ≡ kindBy code ⌝ }
+{
+    if code < 3 {
+        return 0;
+    }
+    if code < 5 {
+        return code - 2;
+    }
+    3
+}
+
+fn place_by(code: u32, a: u32) -> u32
+    ensures { λ r. ⌜ r ≡ placeBy code a ⌝ }
+{
+    if code < 3 {
+        return 0;
+    }
+    if code < 5 {
+        return a;
+    }
+    a / 4
+}
+
+// An entry's kind and address as the buffer has them: 0 executed without memory, 1 a load, 2 a store, 3 both, 4 waiting.
 pub fn entry_kind(e: Entry) -> u32
     ensures { λ r. ⌜ r ≡ kindOf (reference e) ⌝ }
 {
     let fate = e.fate;
     let i = e.instruction;
-    let kind = kind_of(i);
     match fate {
         Fate::Waiting => 4,
-        Fate::Executed(_, _) => match kind {
-            Kind::Computing => 0,
-            Kind::Loading => 1,
-            Kind::Storing => 2,
-        },
+        Fate::Executed(_, _) => kind_by(code_of(i)),
     }
 }
 
@@ -162,14 +191,9 @@ pub fn entry_place(e: Entry) -> u32
 {
     let fate = e.fate;
     let i = e.instruction;
-    let kind = kind_of(i);
     match fate {
         Fate::Waiting => 0,
-        Fate::Executed(_, a) => match kind {
-            Kind::Computing => 0,
-            Kind::Loading => a,
-            Kind::Storing => a,
-        },
+        Fate::Executed(_, a) => place_by(code_of(i), a),
     }
 }
 
@@ -182,6 +206,8 @@ pub fn kind_of(i: Instruction) -> Kind
         Instruction::Sum(_, _, _) => Kind::Computing,
         Instruction::Load(_, _, _) => Kind::Loading,
         Instruction::Store(_, _, _) => Kind::Storing,
+        Instruction::Byte(_, _, _) => Kind::Merging,
+        Instruction::Half(_, _, _) => Kind::Merging,
     }
 }
 
@@ -194,6 +220,7 @@ pub fn destination_of(i: Instruction) -> u32
         Kind::Computing => d_of(i),
         Kind::Loading => d_of(i),
         Kind::Storing => 8,
+        Kind::Merging => 8,
     }
 }
 
@@ -206,6 +233,8 @@ pub fn second_of(i: Instruction) -> u32
         Instruction::Sum(_, _, r) => r,
         Instruction::Load(_, s, _) => s,
         Instruction::Store(d, _, _) => d,
+        Instruction::Byte(d, _, _) => d,
+        Instruction::Half(d, _, _) => d,
     }
 }
 
@@ -218,6 +247,12 @@ pub fn action_of(i: Instruction, x: u32, y: u32) -> Action
         Instruction::Sum(_, _, _) => Action::Compute(std::num::wrapping_add_u32(x, y)),
         Instruction::Load(_, _, imm) => Action::LoadAt(std::num::wrapping_add_u32(x, imm)),
         Instruction::Store(_, _, imm) => Action::StoreAt(std::num::wrapping_add_u32(x, imm), y),
+        Instruction::Byte(_, _, imm) => {
+            Action::PartAt(Part::Byte, std::num::wrapping_add_u32(x, imm), y)
+        }
+        Instruction::Half(_, _, imm) => {
+            Action::PartAt(Part::Half, std::num::wrapping_add_u32(x, imm), y)
+        }
     }
 }
 
@@ -243,21 +278,37 @@ pub fn value_of(e: Entry) -> u32
     }
 }
 
-// The third number of a commit: the register, for S the address.
+// The address of an entry.
+fn address_of(e: Entry) -> u32
+    ensures { λ r. ⌜ r ≡ addressBy (e .fate) ⌝ }
+{
+    let fate = e.fate;
+    match fate {
+        Fate::Waiting => 0,
+        Fate::Executed(_, a) => a,
+    }
+}
+
+// The third number of a commit: the register, for S, B and H the address.
 pub fn target_of(e: Entry) -> u32
     ensures { λ r. ⌜ r ≡ target (e .instruction) (addressBy (e .fate)) ⌝ }
 {
     let i = e.instruction;
-    let fate = e.fate;
     let kind = kind_of(i);
     match kind {
         Kind::Computing => d_of(i),
         Kind::Loading => d_of(i),
-        Kind::Storing => match fate {
-            Fate::Waiting => 0,
-            Fate::Executed(_, a) => a,
-        },
+        Kind::Storing => address_of(e),
+        Kind::Merging => address_of(e),
     }
+}
+
+// Whether an entry has executed as an H at an odd byte number.
+pub fn is_misaligned(e: Entry) -> bool
+    ensures { λ r. ⌜ r ≡ misaligned e ⌝ }
+{
+    let i = e.instruction;
+    (code_of(i) == 6) & (address_of(e) % 2 == 1)
 }
 
 // Four numbers from place `at` of the list on.

@@ -1,16 +1,15 @@
 -- How the code compares window and table is how the contract does: of a table that keeps its rules, an entry agrees with
 -- what the marks say of its stage exactly where the test of the code passes (stage-law).
--- Members of a union are those of its parts (union-has, union-from). A stage with a mark is in the union over all rows. A
--- row with a mark lies in the bank of its address, so the marks at an address are those of the rows of the bank that have
--- it (row-in, row-found). How it compares window and program is how the contract does too, of a well-formed program of the
--- opened length (fitting-law). So the validation over the machine's parts is that of the contract (validate-law): where the
--- rules are
--- broken, both are 2. Assumes nothing.
-use mathlib.Core.Bool.{Bool, true, false, cond, not, _&&_, _||_, true≢false, or-true, or-false, not-eq-not}
-use mathlib.Core.Bool.{and-eq-true-iff}
+-- Members of a union are those of its parts (union-has, union-from). A row with a mark lies in the bank of its address, so the
+-- marks at an address are those of the rows of the bank that have it (row-in, row-found); a stage's marks are in one row, so at
+-- its address they are that row's (at-row) and at another there are none (at-none). How it compares window and program is how
+-- the contract does too, of a well-formed program of the opened length (fitting-law). So the validation over the machine's
+-- parts is that of the contract (validate-law): where the rules are broken, both are 2. Assumes nothing.
+use mathlib.Core.Bool.{Bool, true, false, cond, not, _&&_, _||_, true≢false, and-true, and-false, or-true, or-false}
+use mathlib.Core.Bool.{not-eq-not, and-eq-true-iff}
 use mathlib.Core.List.{List, [], _∷_}
 use mathlib.Core.Logic.{⊎-elim}
-use mathlib.Core.Path.{_≡_, refl, sym, ap, ap₂, _∙_}
+use mathlib.Core.Path.{_≡_, refl, sym, ap, ap₂, subst, _∙_}
 use Prim.Native.Nat.{ℕ, zero, suc, _+_, _*_, _/_, _%_, _<_}
 use native.Mathlib.Nat.{not-suc-le-zero, le-of-suc-le-suc, eq-or-lt-of-le}
 use native.Mathlib.Numerals.{add-one}
@@ -18,7 +17,7 @@ use native.Mathlib.Omega.{arith}
 use lib.Bits.{bitOr}
 use lib.Dec.{eqb, leb, ltb}
 use lib.ListN.{length, getD}
-use borrow.Author.Tests.{eqb-true, eqb-false, eq-eqb, leb-true, ltb-true, ltb-false, lt-ltb, le-ltb}
+use borrow.Author.Tests.{eqb-true, eqb-false, eq-eqb, ne-eqb, leb-true, ltb-true, ltb-false, lt-ltb, le-ltb}
 use Rattle.marks.specs.Circle.{stage}
 use Rattle.marks.specs.Counting.{every}
 use Rattle.marks.specs.Stages.{has}
@@ -36,10 +35,11 @@ use Rattle.table.proofs.Fates.{Fated, waits, bare, marks, fated, mark-load, mar
 use Rattle.table.proofs.Lawful.{lawful-rules, taken-has, taken-from}
 use Rattle.machine_model.specs.Contract.{markKind, kindOf, placeOf, entryOf, agree}
 use Rattle.engine.specs.Conditions.{refusal, when}
+use Rattle.engine.specs.Part.{wordOf}
 use Rattle.machine_model.specs.declared.Instruction.{Instruction}
-use Rattle.machine_model.specs.declared.Instruction.the-variants.{Add, Sum, Load, Store}
+use Rattle.machine_model.specs.declared.Instruction.the-variants.{Add, Sum, Load, Store, Byte, Half}
 use Rattle.machine_model.specs.declared.Kind.{Kind}
-use Rattle.machine_model.specs.declared.Kind.the-variants.{Computing, Loading, Storing}
+use Rattle.machine_model.specs.declared.Kind.the-variants.{Computing, Loading, Storing, Merging}
 use Rattle.machine_model.specs.declared.Fate as Entered
 use Rattle.machine_model.specs.declared.Fate.the-variants.{Waiting, Executed}
 use Rattle.machine_model.specs.declared.Entry.{Entry}
@@ -50,7 +50,8 @@ use Rattle.machine_model.specs.Window.{blankEntry, accessBy, referenceBy
 use Rattle.machine_model.specs.Calls.{matchesProgram}
 use Rattle.machine_model.proofs.Comparing.{marked-kind}
 use Rattle.machine_model.proofs.Sounding.{agreeing, fitting, validateOf}
-use Rattle.machine_model.specs.computed.Parts.{union, marksAt, agreesBy, agreeingBy, likeBy, fittingBy, validateBy}
+use Rattle.machine_model.specs.computed.Parts.{union, marksAt, markNumber, agreesBy, agreeingBy, likeBy, fittingBy}
+use Rattle.machine_model.specs.computed.Parts.{validateBy}
 
 module _ (test : ℕ → Bool) (f : ℕ → ℕ) where
   -- one number more
@@ -97,6 +98,14 @@ module _ (test : ℕ → Bool) (f : ℕ → ℕ) where
       go true e o below = let w = below e in (w .0, omega arith, w .2, w .3)
       go false e o below = let w = and-eq-true-iff (test k) (has (f k) s) .0 o in (k, omega arith, w .0, w .1)
 
+-- a comparison the other way round
+turned : (j k : ℕ) → eqb j k ≡ eqb k j
+turned j k = go (eqb j k) refl
+  where
+    go : (b : Bool) → eqb j k ≡ b → b ≡ eqb k j
+    go true e = sym (eq-eqb k j (sym (eqb-true j k e)))
+    go false e = sym (ne-eqb k j (λ z. eqb-false j k e (sym z)))
+
 -- two tests that pass together
 together : (x y : Bool) → (x ≡ true → y ≡ true) → (y ≡ true → x ≡ true) → x ≡ y
 together true y f g = sym (f refl)
@@ -107,17 +116,6 @@ together false false f g = refl
 where-true : (x y z : Bool) → (x ≡ true → y ≡ z) → (x && y) ≡ (x && z)
 where-true true y z f = f refl
 where-true false y z f = refl
-
--- the marks by their kind
-kind-load : (ld st : Bool) (v : ℕ) → markKind ld (wordIf st v) ≡ 1 → ld ≡ true
-kind-load true st v e = refl
-kind-load false true v e = absurd (omega arith)
-kind-load false false v e = absurd (omega arith)
-
-kind-store : (ld st : Bool) (v : ℕ) → markKind ld (wordIf st v) ≡ 2 → st ≡ true
-kind-store ld true v e = refl
-kind-store true false v e = absurd (omega arith)
-kind-store false false v e = absurd (omega arith)
 
 module _ (t : Table) (rules : Rules t) (s : ℕ) where
   -- the stages with a mark
@@ -197,50 +195,77 @@ module _ (t : Table) (rules : Rules t) (s : ℕ) where
       (ap (agree other) (fate-marked t rules r s h m)
       ∙ ap (λ (b : Bool). b && eqb 0 (address t r)) (marked-kind (loadMark t r s) (said r) .2))
 
-  -- The marks of one kind at an address are the fate's, where rows with such a mark have no other.
-  module _ (k : ℕ) (words : List ℕ) (idle : eqb k 4 ≡ false) (bare-not : eqb k 0 ≡ false)
-      (is : (r : ℕ) → r < rowsIn (t .banks) → has (getD words r 0) s ≡ true
-      → (mark t r s ≡ true) × (markKind (loadMark t r s) (said r) ≡ k))
-      (was : (r : ℕ) → markKind (loadMark t r s) (said r) ≡ k → has (getD words r 0) s ≡ true) where
-    access-law : (a : ℕ) → at-address words a ≡ (eqb k (kindOf (fateAt t s)) && eqb a (placeOf (fateAt t s)))
-    access-law a =
-        together (at-address words a) (eqb k (kindOf (fateAt t s)) && eqb a (placeOf (fateAt t s)))
+  -- Marks of one kind: every one is a mark. Those at an address are those of its row; where the stage has no mark at the address
+  -- there are none.
+  module _ (words : List ℕ) (some : (r : ℕ) → has (getD words r 0) s ≡ true → mark t r s ≡ true) (a : ℕ) where
+    at-row : (r : ℕ) → r < rowsIn (t .banks) → mark t r s ≡ true → a ≡ address t r
+        → at-address words a ≡ has (getD words r 0) s
+    at-row r l m e =
+        together (at-address words a) (has (getD words r 0) s)
         (λ h.
         let w = row-found words a h in
-        let i = is (w .0) (w .1) (w .3) in
-        ap like (fate-marked t rules (w .0) s (w .1) (i .0)) ∙ ap₂ _&&_ (eq-eqb _ _ (sym (i .1))) (eq-eqb _ _ (sym (w .2))))
-        (λ h. go h (fated t s))
-      where
-        like : Fate → Bool
-        like f = eqb k (kindOf f) && eqb a (placeOf f)
+        subst (λ (q : ℕ). has (getD words q 0) s ≡ true) (rules .one-row (w .0) r s (w .1) l (some (w .0) (w .3)) m) (w .3))
+        (row-in words r a (rules .in-bank r s l m ∙ ap (bank (t .banks)) (sym e)) (sym e))
 
-        go : like (fateAt t s) ≡ true → Fated t s → at-address words a ≡ true
-        go h (waits e) =
-            absurd (true≢false (sym h ∙ ap like (fate-waiting t rules s e) ∙ ap (λ (b : Bool). b && eqb a 0) idle))
-        go h (bare e none) =
-            absurd (true≢false (sym h ∙ ap like (fate-other t rules s e none) ∙ ap (λ (b : Bool). b && eqb a 0) bare-not))
-        go h (marks r l m) =
-            let both = and-eq-true-iff _ _ .0 (sym (ap like (fate-marked t rules r s l m)) ∙ h) in
-            let e : a ≡ address t r = eqb-true a (address t r) (both .1) in
-            row-in words r a (rules .in-bank r s l m ∙ ap (bank (t .banks)) (sym e)) (sym e)
-            (was r (sym (eqb-true k _ (both .0))))
+    at-none : ((r : ℕ) → r < rowsIn (t .banks) → mark t r s ≡ true → address t r ≡ a → ⊥) → at-address words a ≡ false
+    at-none none =
+        not-eq-not {b = false} .0
+        (λ h. let w = row-found words a h in none (w .0) (w .1) (some (w .0) (w .3)) (w .2))
 
-  -- a row with a load mark there has no store mark, and the other way round
-  load-only : (r : ℕ) → r < rowsIn (t .banks) → loadMark t r s ≡ true
-      → (mark t r s ≡ true) × (markKind (loadMark t r s) (said r) ≡ 1)
-  load-only r h m = (
-    mark-load t r s m,
-    ap₂ (λ (ld st : Bool). markKind ld (wordIf st (value t s))) m (not-eq-not {b = false} .0 (rules .one-mark r s h m)),
-  )
+  -- the kind that the marks at address a say
+  abbrev found : ℕ → ℕ
+  found a = markNumber (at-address (t .loads) a) (at-address (t .stores) a)
 
-  store-only : (r : ℕ) → r < rowsIn (t .banks) → storeMark t r s ≡ true
-      → (mark t r s ≡ true) × (markKind (loadMark t r s) (said r) ≡ 2)
-  store-only r h m = (
-    mark-store t r s m,
-    ap₂ (λ (ld st : Bool). markKind ld (wordIf st (value t s)))
-        (not-eq-not {b = false} .0 (λ l. rules .one-mark r s h l m))
-        m,
-  )
+  found-row : (a r : ℕ) → r < rowsIn (t .banks) → mark t r s ≡ true → a ≡ address t r
+      → found a ≡ markKind (loadMark t r s) (said r)
+  found-row a r l m e =
+      ap₂ markNumber (at-row (t .loads) (λ q. mark-load t q s) a r l m e) (at-row (t .stores) (λ q. mark-store t q s) a r l m e)
+      ∙ go (loadMark t r s) (storeMark t r s) m
+    where
+      go : (ld st : Bool) → (ld || st) ≡ true → markNumber ld st ≡ markKind ld (wordIf st (value t s))
+      go true true h = refl
+      go true false h = refl
+      go false true h = refl
+      go false false h = absurd (true≢false (sym h))
+
+  found-none : (a : ℕ) → ((r : ℕ) → r < rowsIn (t .banks) → mark t r s ≡ true → address t r ≡ a → ⊥) → found a ≡ 0
+  found-none a none =
+      ap₂ markNumber (at-none (t .loads) (λ q. mark-load t q s) a none) (at-none (t .stores) (λ q. mark-store t q s) a none)
+
+  access-law : (k a : ℕ) → (k ≡ 0 → ⊥) → (k ≡ 4 → ⊥)
+      → eqb (found a) k ≡ (eqb k (kindOf (fateAt t s)) && eqb a (placeOf (fateAt t s)))
+  access-law k a some idle = go (fated t s)
+    where
+      like : Fate → Bool
+      like f = eqb k (kindOf f) && eqb a (placeOf f)
+
+      absent : found a ≡ 0 → eqb (found a) k ≡ false
+      absent e = ap (λ (j : ℕ). eqb j k) e ∙ ne-eqb 0 k (λ z. some (sym z))
+
+      go : Fated t s → eqb (found a) k ≡ like (fateAt t s)
+      go (waits e) =
+          absent (found-none a (λ r l m _. true≢false (sym (rules .executed r s l m) ∙ e)))
+          ∙ sym (ap like (fate-waiting t rules s e) ∙ ap (λ (b : Bool). b && eqb a 0) (ne-eqb k 4 idle))
+      go (bare e none) =
+          absent (found-none a (λ r l m _. true≢false (sym m ∙ none r l)))
+          ∙ sym (ap like (fate-other t rules s e none) ∙ ap (λ (b : Bool). b && eqb a 0) (ne-eqb k 0 some))
+      go (marks r l m) = here (eqb a (address t r)) refl ∙ sym (ap like (fate-marked t rules r s l m))
+        where
+          here : (b : Bool) → eqb a (address t r) ≡ b
+              → eqb (found a) k ≡ (eqb k (markKind (loadMark t r s) (said r)) && eqb a (address t r))
+          here true e =
+              ap (λ (j : ℕ). eqb j k) (found-row a r l m (eqb-true a (address t r) e))
+              ∙ turned (markKind (loadMark t r s) (said r)) k
+              ∙ sym (ap (λ (b : Bool). eqb k (markKind (loadMark t r s) (said r)) && b) e
+              ∙ and-true (eqb k (markKind (loadMark t r s) (said r))))
+          here false e =
+              absent
+              (found-none a
+              (λ q h n i.
+              eqb-false a (address t r) e
+              (sym i ∙ ap (address t) (rules .one-row q r s h l n m))))
+              ∙ sym (ap (λ (b : Bool). eqb k (markKind (loadMark t r s) (said r)) && b) e
+              ∙ and-false (eqb k (markKind (loadMark t r s) (said r))))
 
   stage-law : (i : Instruction) (f : Entered.Fate) → tested (referenceBy i f) ≡ agree (referenceBy i f) (fateAt t s)
   stage-law i Waiting = of-waiting (fated t s)
@@ -248,9 +273,9 @@ module _ (t : Table) (rules : Rules t) (s : ℕ) where
     where
       go : (k : Kind) → tested (accessBy k v a) ≡ agree (accessBy k v a) (fateAt t s)
       go Computing = of-other (fated t s)
-      go Loading = access-law 1 (t .loads) refl refl load-only (λ r. kind-load (loadMark t r s) (storeMark t r s) (value t s)) a
-      go Storing =
-          access-law 2 (t .stores) refl refl store-only (λ r. kind-store (loadMark t r s) (storeMark t r s) (value t s)) a
+      go Loading = access-law 1 a (λ z. omega arith) (λ z. omega arith)
+      go Storing = access-law 2 a (λ z. omega arith) (λ z. omega arith)
+      go Merging = access-law 3 (wordOf a) (λ z. omega arith) (λ z. omega arith)
 
 -- the test of the window is the agreement of the contract
 pub agreeing-law : (m : Machine) → Rules (m .table) → (k : ℕ)
@@ -264,30 +289,38 @@ agreeing-law m rules k =
 -- a well-formed instruction is like another exactly where its four numbers are that one's
 same-numbers : (code d s imm : ℕ) (i : Instruction) → wellFormed code d s imm ≡ true
     → (eqb code (codeOf i) && eqb d (dOf i) && eqb s (sOf i) && eqb imm (immOf i)) ≡ same (decoded code d s imm) i
-same-numbers code d s imm i h = go (eqb code 1) (eqb code 2) (eqb code 3) refl refl refl
+same-numbers code d s imm i h = go (eqb code 1) (eqb code 2) (eqb code 3) (eqb code 4) (eqb code 5) refl refl refl refl refl
   where
     by : ℕ → Bool
     by c = eqb c (codeOf i) && eqb d (dOf i) && eqb s (sOf i) && eqb imm (immOf i)
 
-    codes : (leb 1 code ≡ true) × (leb code 4 ≡ true)
+    codes : (leb 1 code ≡ true) × (leb code 6 ≡ true)
     codes =
-        and-eq-true-iff (leb 1 code) (leb code 4) .0
-        (and-eq-true-iff (leb 1 code && leb code 4) (leb d 7 && leb s 7) .0
-        (and-eq-true-iff ((leb 1 code && leb code 4) && (leb d 7 && leb s 7)) (not (eqb code 2) || leb imm 7) .0 h .0) .0)
+        and-eq-true-iff (leb 1 code) (leb code 6) .0
+        (and-eq-true-iff (leb 1 code && leb code 6) (leb d 7 && leb s 7) .0
+        (and-eq-true-iff ((leb 1 code && leb code 6) && (leb d 7 && leb s 7)) (not (eqb code 2) || leb imm 7) .0 h .0) .0)
 
-    go : (t u v : Bool) → eqb code 1 ≡ t → eqb code 2 ≡ u → eqb code 3 ≡ v
-        → by code ≡ same (cond t (Add d s imm) (cond u (Sum d s imm) (cond v (Load d s imm) (Store d s imm)))) i
-    go true u v e f g = ap by (eqb-true code 1 e)
-    go false true v e f g = ap by (eqb-true code 2 f)
-    go false false true e f g = ap by (eqb-true code 3 g)
-    go false false false e f g =
+    go : (t u v x y : Bool) → eqb code 1 ≡ t → eqb code 2 ≡ u → eqb code 3 ≡ v → eqb code 4 ≡ x → eqb code 5 ≡ y
+        → by code
+        ≡ same
+        (cond t (Add d s imm)
+        (cond u (Sum d s imm) (cond v (Load d s imm) (cond x (Store d s imm) (cond y (Byte d s imm) (Half d s imm))))))
+        i
+    go true u v x y e f g h k = ap by (eqb-true code 1 e)
+    go false true v x y e f g h k = ap by (eqb-true code 2 f)
+    go false false true x y e f g h k = ap by (eqb-true code 3 g)
+    go false false false true y e f g h k = ap by (eqb-true code 4 h)
+    go false false false false true e f g h k = ap by (eqb-true code 5 k)
+    go false false false false false e f g h k =
         let not-one = eqb-false code 1 e in
         let not-two = eqb-false code 2 f in
         let not-three = eqb-false code 3 g in
+        let not-four = eqb-false code 4 h in
+        let not-five = eqb-false code 5 k in
         let low = leb-true 1 code (codes .0) in
-        let high = leb-true code 4 (codes .1) in
-        let four : code ≡ 4 = omega arith in
-        ap by four
+        let high = leb-true code 6 (codes .1) in
+        let last : code ≡ 6 = omega arith in
+        ap by last
 
 module _ (program : List ℕ) (count : ℕ) (fits : programFits program ≡ true) (counted : length program ≡ 4 * count) where
   -- An index below the count is that of a whole instruction, which is well formed; past it is none.

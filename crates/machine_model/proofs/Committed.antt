@@ -1,4 +1,4 @@
--- Commit, past the validation. Its conditions 11, 12 and 13 are read off the oldest entry, which stands at the oldest's stage
+-- Commit, past the validation. Its conditions 11 to 14 are read off the oldest entry, which stands at the oldest's stage
 -- (oldest-entry). Where none holds, the oldest entry leaves the window as its reference does, by the engine's law. What it
 -- writes is told by its entry, which agrees with the table, and by the table's own word (mark-told). Assumes nothing.
 use mathlib.Core.Bool.{Bool, true, false, cond, not}
@@ -20,21 +20,21 @@ use Rattle.table.proofs.Fates.{length-refs}
 use Rattle.engine.specs.computed.Steps.{remade, within}
 use Rattle.engine.proofs.Narrowing.{retire-rules, retire-view}
 use Rattle.lookup.specs.declared.Mark.{Mark}
-use Rattle.lookup.specs.computed.Search.{markedFate}
+use Rattle.lookup.specs.computed.Search.{markBy, markedFate}
 use Rattle.engine.specs.Conditions.{when, refusal, hasExecuted, faults}
 use Rattle.engine.specs.Contract.{refused, committed, judged}
 use Rattle.engine.specs.Execution.{written}
 use Rattle.engine.proofs.Meeting.{judged-refused}
-use Rattle.engine.proofs.Fated.{stored-word}
+use Rattle.engine.proofs.Fated.{stored-word, told-written}
 use Rattle.machine_model.specs.declared.Entry.{Entry}
 use Rattle.machine_model.specs.declared.Machine.{Machine}
 use Rattle.machine_model.specs.Program.{codeOf}
-use Rattle.machine_model.specs.Window.{blankEntry, entryAt, reference}
-use Rattle.machine_model.specs.Calls.{commit, waits, valueBy, addressBy, registersAfter, target, committedSays, committing}
+use Rattle.machine_model.specs.Window.{blankEntry, entryAt, addressBy, misaligned, reference}
+use Rattle.machine_model.specs.Calls.{commit, waits, valueBy, registersAfter, target, committedSays, committing}
 use Rattle.machine_model.specs.Calls.{respond}
 use Rattle.machine_model.specs.Contract.{plain, agree, Meets}
 use Rattle.machine_model.specs.computed.Parts.{entriesOf, markWith}
-use Rattle.machine_model.proofs.Comparing.{agree-both, executed-by, waits-executed, mark-faults, fate-told}
+use Rattle.machine_model.proofs.Comparing.{agree-both, executed-by, waits-executed, mark-faults, mark-agreed}
 use Rattle.machine_model.proofs.Sounding.{length-entries, entry-at}
 use Rattle.machine_model.proofs.Answering.{Passed, passed-lent, refused-meets, accepted-meets}
 use Rattle.machine_model.proofs.PlainOfView.{plain-by, entries-drop, sound-agreed, reached, agreed-drop}
@@ -51,9 +51,9 @@ retiredBy m o loads stores registers =
       next = m .next;
     }
 
--- the three conditions of k that are live, of which the oldest waits or not and faults or not
-abbrev three : ℕ → Bool → Bool → ℕ
-three k idle fault = refusal (when (eqb k 0) 11 ∷ when idle 12 ∷ when fault 13 ∷ [])
+-- the conditions of k that are live, of which the oldest waits or not, faults or not and is misaligned or not
+abbrev four : ℕ → Bool → Bool → Bool → ℕ
+four k idle fault odd = refusal (when (eqb k 0) 11 ∷ when idle 12 ∷ when fault 13 ∷ when odd 14 ∷ [])
 
 module _ (program : List ℕ) (m : Machine) (w : List ℕ) (passed : Passed m program (length w)) where
   -- the oldest entry
@@ -63,7 +63,7 @@ module _ (program : List ℕ) (m : Machine) (w : List ℕ) (passed : Passed m pr
   abbrev number : ℕ
   number =
       let e = entryAt (plain m .entries) 0 in
-      three (length (plain m .entries)) (waits (e .fate)) (faults (m .table .words) (reference e))
+      four (length (plain m .entries)) (waits (e .fate)) (faults (m .table .words) (reference e)) (misaligned e)
 
   commit-responds : respond program commit (plain m) w ≡ judged number (plain m) w [] (committing (plain m) w)
   unfolding respond
@@ -73,6 +73,7 @@ module _ (program : List ℕ) (m : Machine) (w : List ℕ) (passed : Passed m pr
       (passed-lent m program w passed
       (when (eqb (length (plain m .entries)) 0) 11 ∷ when (waits (e .fate)) 12
       ∷ when (faults (m .table .words) (reference e)) 13
+      ∷ when (misaligned e) 14
       ∷ []))
 
   turned-down : (k : ℕ) → number ≡ k → (k ≡ 0 → ⊥) → Meets program m commit w (refused k) m w []
@@ -92,9 +93,13 @@ module _ (program : List ℕ) (m : Machine) (w : List ℕ) (passed : Passed m pr
     oldest-entry : entryAt (plain m .entries) 0 ≡ own
     oldest-entry = entry-at m 0 some ∙ ap (λ (s : ℕ). getD (m .window) s blankEntry) zeroth
 
-    number-is : number ≡ cond (waits (own .fate)) 12 (cond (faults (m .table .words) (reference own)) 13 0)
+    number-is : number
+        ≡ cond (waits (own .fate)) 12 (cond (faults (m .table .words) (reference own)) 13 (cond (misaligned own) 14 0))
     number-is =
-        ap₂ (λ (b : Bool) (e : Entry). cond b 11 (cond (waits (e .fate)) 12 (cond (faults (m .table .words) (reference e)) 13 0)))
+        ap₂
+        (λ (b : Bool) (e : Entry).
+        cond b 11
+        (cond (waits (e .fate)) 12 (cond (faults (m .table .words) (reference e)) 13 (cond (misaligned e) 14 0))))
         (ap (λ (k : ℕ). eqb k 0) (length-entries m) ∙ ne-eqb (m .table .live) 0 (λ e. omega arith))
         oldest-entry
 
@@ -116,12 +121,11 @@ module _ (program : List ℕ) (m : Machine) (w : List ℕ) (passed : Passed m pr
         ∙ not-false (hasExecuted (reference own)) (sym (waits-executed (own .instruction) (own .fate)) ∙ done)
 
     module _ (done : waits (own .fate) ≡ false) where
-      -- what its entry and the table's word tell of its mark is its reference's fate
-      mark-told : markedFate (markWith (reference own) (value (m .table) (m .table .oldest)))
-          ≡ fateOf (at (view (m .table) .refs) 0)
+      -- what its entry and the table's word tell of its mark is what its reference's fate says
+      mark-told : markWith (reference own) (value (m .table) (m .table .oldest)) ≡ markBy (fateOf (at (view (m .table) .refs) 0))
       mark-told =
           let t = m .table in
-          fate-told (own .instruction) (own .fate) (fateOf (at (view t .refs) 0)) (value t (t .oldest)) agreed (executed-too done)
+          mark-agreed (own .instruction) (own .fate) (fateOf (at (view t .refs) 0)) (value t (t .oldest)) agreed (executed-too done)
           (λ a v l e. ap (value t) (sym zeroth) ∙ stored-word t 0 a v l some e)
 
       module _ (mark : Mark) (hm : mark ≡ markWith (reference own) (value (m .table) (m .table .oldest))) where
@@ -133,9 +137,14 @@ module _ (program : List ℕ) (m : Machine) (w : List ℕ) (passed : Passed m pr
         pub fault-refused : faults (m .table .words) (markedFate mark) ≡ true → Meets program m commit w (refused 13) m w []
         fault-refused e = turned-down 13 (number-is ∙ rw (done, sym faults-same ∙ e)) (λ z. omega arith)
 
+        -- refusal 14: it is an H at an odd byte number
+        pub odd-refused : faults (m .table .words) (markedFate mark) ≡ false → misaligned own ≡ true
+            → Meets program m commit w (refused 14) m w []
+        odd-refused fine e = turned-down 14 (number-is ∙ rw (done, sym faults-same ∙ fine, e)) (λ z. omega arith)
+
         -- The machine and the memory that the oldest's commit leaves, with each part named: where the window starts, the
         -- stages that stay, the two mark words, the registers.
-        pub commit-meets : faults (m .table .words) (markedFate mark) ≡ false
+        pub commit-meets : faults (m .table .words) (markedFate mark) ≡ false → misaligned own ≡ false
             → let t = m .table in
             (o rest code place v : ℕ) (loads stores registers memory : List ℕ)
             → o ≡ stageOf t 1 → rest ≡ firsts o (t .stages) (t .live - 1) → loads ≡ within (rowsIn (t .banks)) (t .loads) rest
@@ -143,7 +152,7 @@ module _ (program : List ℕ) (m : Machine) (w : List ℕ) (passed : Passed m pr
             → place ≡ target (own .instruction) (addressBy (own .fate)) → v ≡ valueBy (own .fate)
             → registers ≡ registersAfter (m .registers) (own .instruction) v → memory ≡ written w (markedFate mark)
             → Meets program m commit w (committed (own .index) code place v) (retiredBy m o loads stores registers) memory []
-        commit-meets fine o rest code place v loads stores registers memory ho hs hl hr hc hp hv hg hw =
+        commit-meets fine even o rest code place v loads stores registers memory ho hs hl hr hc hp hv hg hw =
             let t = m .table in
             let rules = passed .sound .rules in
             let refs = view t .refs in
@@ -169,7 +178,7 @@ module _ (program : List ℕ) (m : Machine) (w : List ℕ) (passed : Passed m pr
               next = m .next;
             })
             entries (sym oldest-entry) in
-            let none : number ≡ 0 = number-is ∙ rw (done, sym faults-same ∙ fine) in
+            let none : number ≡ 0 = number-is ∙ rw (done, sym faults-same ∙ fine, even) in
             rw (hw, hg, hv, hp, hc, hr, hl, hs, ho)
             (accepted-meets program m commit w u (written w (markedFate mark)) []
             (committedSays own) (committing (plain m) w) (passed .sound)
@@ -177,7 +186,7 @@ module _ (program : List ℕ) (m : Machine) (w : List ℕ) (passed : Passed m pr
             tt
             (ap committedSays (sym oldest-entry))
             state
-            (ap (written w) (ap markedFate hm ∙ mark-told))
+            (ap (λ (x : Mark). written w (markedFate x)) (hm ∙ mark-told) ∙ told-written w (fateOf (at refs 0)))
             refl
             (reached u (committing (plain m) w .state) (retire-rules t rules some) state
             (agreed-drop (plain m .entries) refs (sound-agreed m (passed .sound)))))

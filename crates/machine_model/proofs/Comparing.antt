@@ -1,27 +1,29 @@
--- Fates by their kind and place, the two numbers by which window and table are compared (specs/Contract.antt). An entry is a
--- load, a store or neither to the buffer, so its kind and place with the table's word make its fate again (fate-told).
+-- Fates by their kind and place, the two numbers by which window and table are compared (specs/Contract.antt). An entry
+-- that agrees with a fate tells the same mark, with the table's word as a store's (mark-agreed).
 -- Assumes nothing.
 use mathlib.Core.Bool.{Bool, true, false, cond, not, _&&_, _||_, true≢false, and-eq-true-iff}
 use mathlib.Core.Path.{_≡_, refl, sym, ap, ap₂, _∙_}
 use Prim.Native.Nat.{ℕ}
 use native.Mathlib.Omega.{arith}
-use lib.Dec.{eqb, leb}
+use lib.Dec.{eqb, leb, ltb}
 use borrow.Author.Tests.{eqb-true, eq-eqb}
 use Rattle.table.specs.Reference
-use Rattle.table.specs.Reference.{Side, lacks, holds, waiting, other, accessed, loaded, stored}
+use Rattle.table.specs.Reference.{Side, lacks, holds, waiting, other, accessed}
 use Rattle.lookup.specs.declared.Mark.the-variants as mark
-use Rattle.lookup.specs.computed.Search.{markedFate}
+use Rattle.lookup.specs.declared.Mark.{Mark}
+use Rattle.lookup.specs.computed.Search.{markBy, markedFate}
 use Rattle.engine.specs.Conditions.{hasExecuted, faults}
 use Rattle.machine_model.specs.declared.Instruction.{Instruction}
+use Rattle.machine_model.specs.declared.Instruction.the-variants.{Add, Sum, Load, Store, Byte, Half}
 use Rattle.machine_model.specs.declared.Kind.{Kind}
-use Rattle.machine_model.specs.declared.Kind.the-variants.{Computing, Loading, Storing}
+use Rattle.machine_model.specs.declared.Kind.the-variants.{Computing, Loading, Storing, Merging}
 use Rattle.machine_model.specs.declared.Fate.{Fate}
 use Rattle.machine_model.specs.declared.Fate.the-variants.{Waiting, Executed}
-use Rattle.machine_model.specs.Program.{kind}
+use Rattle.machine_model.specs.Program.{codeOf, kind}
 use Rattle.machine_model.specs.Window.{accessBy, referenceBy}
 use Rattle.machine_model.specs.Calls.{waits}
 use Rattle.machine_model.specs.Contract.{markKind, kindOf, placeOf, agree}
-use Rattle.machine_model.specs.computed.Parts.{markWith}
+use Rattle.machine_model.specs.computed.Parts.{kindBy, placeBy, markWith}
 
 -- an access neither waits nor is without memory
 pub marked-kind : (l : Bool) (s : Side)
@@ -55,10 +57,28 @@ executed-by (accessed a l s) = sym (ap not (marked-kind l s .0))
 
 -- ---- what an entry is to the buffer
 
+-- its kind and place by its code
+pub kind-code : (i : Instruction) (v a : ℕ) → kindOf (referenceBy i (Executed v a)) ≡ kindBy (codeOf i)
+kind-code (Add d s imm) v a = refl
+kind-code (Sum d s r) v a = refl
+kind-code (Load d s imm) v a = refl
+kind-code (Store d s imm) v a = refl
+kind-code (Byte d s imm) v a = refl
+kind-code (Half d s imm) v a = refl
+
+pub place-code : (i : Instruction) (v a : ℕ) → placeOf (referenceBy i (Executed v a)) ≡ placeBy (codeOf i) a
+place-code (Add d s imm) v a = refl
+place-code (Sum d s r) v a = refl
+place-code (Load d s imm) v a = refl
+place-code (Store d s imm) v a = refl
+place-code (Byte d s imm) v a = refl
+place-code (Half d s imm) v a = refl
+
 access-executed : (k : Kind) (v a : ℕ) → hasExecuted (accessBy k v a) ≡ true
 access-executed Computing v a = refl
 access-executed Loading v a = refl
 access-executed Storing v a = refl
+access-executed Merging v a = refl
 
 -- an entry waits where what it is to the buffer has not executed
 pub waits-executed : (i : Instruction) (f : Fate) → waits f ≡ not (hasExecuted (referenceBy i f))
@@ -68,14 +88,16 @@ waits-executed i (Executed v a) = ap not (sym (access-executed (kind i) v a))
 -- it faults by its kind and place
 pub faults-kind : (words : ℕ) (i : Instruction) (f : Fate)
     → faults words (referenceBy i f)
-    ≡ ((eqb (kindOf (referenceBy i f)) 1 || eqb (kindOf (referenceBy i f)) 2) && leb words (placeOf (referenceBy i f)))
+    ≡ ((ltb 0 (kindOf (referenceBy i f)) && ltb (kindOf (referenceBy i f)) 4) && leb words (placeOf (referenceBy i f)))
 faults-kind words i Waiting = refl
 faults-kind words i (Executed v a) = go (kind i)
   where
-    go : (k : Kind) → let f = accessBy k v a in faults words f ≡ ((eqb (kindOf f) 1 || eqb (kindOf f) 2) && leb words (placeOf f))
+    go : (k : Kind)
+        → let f = accessBy k v a in faults words f ≡ ((ltb 0 (kindOf f) && ltb (kindOf f) 4) && leb words (placeOf f))
     go Computing = refl
     go Loading = refl
     go Storing = refl
+    go Merging = refl
 
 -- and so does the mark that it tells
 pub mark-faults : (words : ℕ) (i : Instruction) (f : Fate) (v : ℕ)
@@ -87,47 +109,37 @@ mark-faults words i (Executed x a) v = go (kind i)
     go Computing = refl
     go Loading = refl
     go Storing = refl
+    go Merging = refl
 
--- it is of one of three kinds, or waits
-few : (i : Instruction) (f : Fate)
-    → (kindOf (referenceBy i f) ≡ 3 → ⊥) × (kindOf (referenceBy i f) ≡ 5 → ⊥)
-few i Waiting = (λ z. omega arith, λ z. omega arith)
-few i (Executed v a) = go (kind i)
+-- where it accesses memory it has a side
+some-side : (i : Instruction) (f : Fate) → kindOf (referenceBy i f) ≡ 5 → ⊥
+some-side i Waiting = λ z. omega arith
+some-side i (Executed v a) = go (kind i)
   where
-    go : (k : Kind) → (kindOf (accessBy k v a) ≡ 3 → ⊥) × (kindOf (accessBy k v a) ≡ 5 → ⊥)
-    go Computing = (λ z. omega arith, λ z. omega arith)
-    go Loading = (λ z. omega arith, λ z. omega arith)
-    go Storing = (λ z. omega arith, λ z. omega arith)
+    go : (k : Kind) → kindOf (accessBy k v a) ≡ 5 → ⊥
+    go Computing = λ z. omega arith
+    go Loading = λ z. omega arith
+    go Storing = λ z. omega arith
+    go Merging = λ z. omega arith
 
--- the fate of this kind and place, where v is the word of a store
-abbrev fateOfKind : ℕ → ℕ → ℕ → Reference.Fate
-fateOfKind k a v = cond (eqb k 1) (loaded a) (cond (eqb k 2) (stored a v) other)
+-- the mark of this kind and place, where v is the word of a store
+abbrev markOfKind : ℕ → ℕ → ℕ → Mark
+markOfKind k a v = cond (eqb k 1) (mark.Load a) (cond (eqb k 2 || eqb k 3) (mark.Store a v) mark.Absent)
 
-mark-by : (f : Reference.Fate) (v : ℕ) → markedFate (markWith f v) ≡ fateOfKind (kindOf f) (placeOf f) v
-mark-by f v = go (eqb (kindOf f) 1) (eqb (kindOf f) 2)
-  where
-    go : (b c : Bool) → markedFate (cond b (mark.Load (placeOf f)) (cond c (mark.Store (placeOf f) v) mark.Absent))
-        ≡ cond b (loaded (placeOf f)) (cond c (stored (placeOf f) v) other)
-    go true c = refl
-    go false true = refl
-    go false false = refl
+mark-by : (g : Reference.Fate) (v : ℕ) → hasExecuted g ≡ true → (kindOf g ≡ 5 → ⊥)
+    → ((a w : ℕ) (l : Bool) → g ≡ accessed a l (holds w) → v ≡ w) → markOfKind (kindOf g) (placeOf g) v ≡ markBy g
+mark-by waiting v h n e = absurd (true≢false (sym h))
+mark-by other v h n e = refl
+mark-by (accessed a true lacks) v h n e = refl
+mark-by (accessed a false (holds w)) v h n e = ap (mark.Store a) (e a w false refl)
+mark-by (accessed a true (holds w)) v h n e = ap (mark.Store a) (e a w true refl)
+mark-by (accessed a false lacks) v h n e = absurd (n refl)
 
-fate-by : (g : Reference.Fate) (v : ℕ) → hasExecuted g ≡ true → (kindOf g ≡ 3 → ⊥) → (kindOf g ≡ 5 → ⊥)
-    → ((a w : ℕ) (l : Bool) → g ≡ accessed a l (holds w) → v ≡ w) → fateOfKind (kindOf g) (placeOf g) v ≡ g
-fate-by waiting v h m n e = absurd (true≢false (sym h))
-fate-by other v h m n e = refl
-fate-by (accessed a true lacks) v h m n e = refl
-fate-by (accessed a false (holds w)) v h m n e = ap (stored a) (e a w false refl)
-fate-by (accessed a true (holds w)) v h m n e = absurd (m refl)
-fate-by (accessed a false lacks) v h m n e = absurd (n refl)
-
--- the mark that an executed entry tells, with the table's word, is the fate that it agrees with
-pub fate-told : (i : Instruction) (f : Fate) (g : Reference.Fate) (v : ℕ) → agree (referenceBy i f) g ≡ true
+-- the mark that an executed entry tells, with the table's word, is that of the fate that it agrees with
+pub mark-agreed : (i : Instruction) (f : Fate) (g : Reference.Fate) (v : ℕ) → agree (referenceBy i f) g ≡ true
     → hasExecuted g ≡ true → ((a w : ℕ) (l : Bool) → g ≡ accessed a l (holds w) → v ≡ w)
-    → markedFate (markWith (referenceBy i f) v) ≡ g
-fate-told i f g v agreed done word =
+    → markWith (referenceBy i f) v ≡ markBy g
+mark-agreed i f g v agreed done word =
     let both = agree-both (referenceBy i f) g agreed in
-    let kinds = few i f in
-    mark-by (referenceBy i f) v
-    ∙ ap₂ (λ (k a : ℕ). fateOfKind k a v) (both .0) (both .1)
-    ∙ fate-by g v done (λ z. kinds .0 (both .0 ∙ z)) (λ z. kinds .1 (both .0 ∙ z)) word
+    ap₂ (λ (k a : ℕ). markOfKind k a v) (both .0) (both .1)
+    ∙ mark-by g v done (λ z. some-side i f (both .0 ∙ z)) word

@@ -27,15 +27,15 @@ use Rattle.engine.proofs.Lengths.{Lengths}
 use Rattle.lookup.specs.Forwarding.{forwarded}
 use Rattle.lookup.specs.Outcome.{survivors, executes}
 use Rattle.engine.specs.declared.Action.{Action}
-use Rattle.engine.specs.declared.Action.the-variants.{Compute, LoadAt, StoreAt}
+use Rattle.engine.specs.declared.Action.the-variants.{Compute, LoadAt, StoreAt, PartAt}
 use Rattle.engine.specs.declared.Effect.{Effect}
 use Rattle.engine.specs.Conditions.{when, refusal, hasExecuted}
 use Rattle.engine.specs.Contract.{refused, executed, judged}
 use Rattle.engine.specs.Execution.{fateBy, answerOf}
-use Rattle.engine.specs.computed.Effect.{effectAt, applyEffect}
+use Rattle.engine.specs.computed.Effect.{effectAt, answered, applyEffect}
 use Rattle.engine.proofs.Meeting.{judged-refused}
 use Rattle.engine.proofs.Fated.{executed-at}
-use Rattle.engine.proofs.Executed.{effect-left, effect-bounds, effect-value, effect-view, effect-rules}
+use Rattle.engine.proofs.Executed.{effect-left, effect-bounds, effect-value, part-value, effect-view, effect-rules}
 use Rattle.machine_model.specs.declared.Instruction.{Instruction}
 use Rattle.machine_model.specs.declared.Fate.{Fate}
 use Rattle.machine_model.specs.declared.Fate.the-variants.{Waiting, Executed}
@@ -197,17 +197,17 @@ module _ (m : Machine) (program w : List ℕ) (p : ℕ) (passed : Passed m progr
         value = answerOf memorySeen act
 
         abbrev fate : Fate
-        fate = fateAfter act value
+        fate = fateAfter memorySeen act
 
         abbrev left : ℕ
-        left = survivors (view (m .table)) p (fateBy act)
+        left = survivors (view (m .table)) p (fateBy memorySeen act)
 
-        fate-is : referenceBy (own .instruction) fate ≡ fateBy act
+        fate-is : referenceBy (own .instruction) fate ≡ fateBy memorySeen act
         fate-is =
             reference-ready (own .instruction) (registersSeen (sOf (own .instruction)))
-            (registersSeen (second (own .instruction))) act value ready
+            (registersSeen (second (own .instruction))) act memorySeen ready
 
-        fate-at : referenceBy (entryAt (now .entries) p .instruction) fate ≡ fateBy act
+        fate-at : referenceBy (entryAt (now .entries) p .instruction) fate ≡ fateBy memorySeen act
         fate-at = ap (λ (x : Entry). referenceBy (x .instruction) fate) here ∙ fate-is
 
         value-at : loadValue (entryAt (now .entries) p .instruction) fate ≡ value
@@ -266,7 +266,7 @@ module _ (m : Machine) (program w : List ℕ) (p : ℕ) (passed : Passed m progr
           rules : Rules after
           rules = effect-rules (m .table) (passed .sound .rules) p live w lengths idle-too act stays
 
-          same : view after ≡ executes (view (m .table)) p (fateBy act)
+          same : view after ≡ executes (view (m .table)) p (fateBy memorySeen act)
           same = effect-view (m .table) (passed .sound .rules) p live w lengths idle-too act stays
 
           live-is : effect .left ≡ left
@@ -342,7 +342,7 @@ module _ (m : Machine) (program w : List ℕ) (p : ℕ) (passed : Passed m progr
               ∙ ap₂ (built (executing now w p fate left .state .buffer)) new-entries new-next
 
           new-said :
-              executed (cond (effect .load) (effect .value) 0)
+              executed (answered (effect .load) (effect .store) (effect .value))
               (squashSays (cond (ltb (effect .left) (m .table .live)) (squashed.From (effect .left)) squashed.Nothing))
               ≡ executing now w p fate left .answer
           new-said =
@@ -365,7 +365,7 @@ module _ (m : Machine) (program w : List ℕ) (p : ℕ) (passed : Passed m progr
                   (ap₂ agree (ap reference entry-here ∙ fate-is)
                   (ap (λ (P : State). fateOf (at (P .refs) p)) same
                   ∙ ap fateOf (getD-set-same refs p _ blank (omega (arith, bounds .0, length-left))))
-                  ∙ agree-same (fateBy act))
+                  ∙ agree-same (fateBy memorySeen act))
               go q h false e =
                   let differ = eqb-false q p e in
                   ap₂ agree (ap reference (entry-there q (omega (arith, bounds .1)) differ))
@@ -375,7 +375,7 @@ module _ (m : Machine) (program w : List ℕ) (p : ℕ) (passed : Passed m progr
 
           accepted :
               Meets program m (execute p) w
-              (executed (cond (effect .load) (effect .value) 0)
+              (executed (answered (effect .load) (effect .store) (effect .value))
               (squashSays (cond (ltb (effect .left) (m .table .live)) (squashed.From (effect .left)) squashed.Nothing)))
               next
               w
@@ -393,11 +393,12 @@ module _ (m : Machine) (program w : List ℕ) (p : ℕ) (passed : Passed m progr
             where
               go : (x : Action) → (effectAt (m .table) p w x .left ≡ 0 → ⊥)
                   → Executed (effectAt (m .table) p w x .value) (effectAt (m .table) p w x .address)
-                  ≡ fateAfter x (answerOf memorySeen x)
+                  ≡ fateAfter memorySeen x
               go (Compute v) s = refl
               go (LoadAt a) s =
                   ap (λ (v : ℕ). Executed v a) (effect-value (m .table) (passed .sound .rules) p live w (LoadAt a) s)
               go (StoreAt a v) s = refl
+              go (PartAt part b v) s = ap (λ (x : ℕ). Executed x b) (part-value (m .table) (passed .sound .rules) p live w part b v s)
 
       -- the machine with this table, the entry at stage s with this fate, and this index to go on with
       abbrev ended : Table → ℕ → Fate → ℕ → Machine
@@ -413,7 +414,7 @@ module _ (m : Machine) (program w : List ℕ) (p : ℕ) (passed : Passed m progr
       -- the entry executes
       pub execute-meets : length (m .window) ≡ 16 → Lengths (m .table) → (act : Action) → asked ≡ some act
           → (s : ℕ) → s ≡ stageOf (m .table) p → (q : Effect) → q ≡ effectAt (m .table) p w act → (q .left ≡ 0 → ⊥)
-          → (after : Table) → after ≡ applyEffect (m .table) q s → (v : ℕ) → v ≡ cond (q .load) (q .value) 0
+          → (after : Table) → after ≡ applyEffect (m .table) q s → (v : ℕ) → v ≡ answered (q .load) (q .store) (q .value)
           → (gone : Squashed) → gone ≡ cond (ltb (q .left) (m .table .live)) (squashed.From (q .left)) squashed.Nothing
           → (n : ℕ) → n ≡ cond (ltb (q .left) (m .table .live)) (entryOf m (q .left) .index) (m .next)
           → Meets program m (execute p) w (executed v (squashSays gone))

@@ -39,8 +39,8 @@ use Rattle.machine_model.specs.declared.Entry.{Entry}
 use Rattle.machine_model.specs.declared.Machine.{Machine}
 use Rattle.engine.specs.declared.Effect.{Effect}
 use Rattle.machine_model.specs.declared.Squashed.the-variants as squashed
-use Rattle.machine_model.specs.Window.{blankEntry, registerSeen, reference}
-use Rattle.machine_model.specs.Calls.{Plain, issue, execute, commit, matchesProgram, waits, valueBy, addressBy, writing}
+use Rattle.machine_model.specs.Window.{blankEntry, addressBy, misaligned, registerSeen, reference}
+use Rattle.machine_model.specs.Calls.{Plain, issue, execute, commit, matchesProgram, waits, valueBy, writing}
 use Rattle.machine_model.specs.Calls.{registersAfter, target, begun, ready}
 use Rattle.machine_model.specs.Contract.{squashSays, entryOf, plain, agree, Meets}
 use Rattle.machine_model.specs.computed.Parts.{actionOf, second, markWith}
@@ -49,11 +49,12 @@ use Rattle.machine_model.proofs.Sized.{Sized}
 use Rattle.machine_model.proofs.Answering.{Passed, validate-passes}
 use Rattle.machine_model.proofs.Moved.{issuedOver, issue-meets}
 use Rattle.machine_model.proofs.Formed.{like-small}
-use Rattle.engine.specs.computed.Effect.{effectOf, effectAt, applyEffect}
+use Rattle.lookup.specs.Forwarding.{forwarded}
+use Rattle.engine.specs.computed.Effect.{effectOf, effectAt, answered, applyEffect}
 use Rattle.engine.proofs.Executed.{effect-left, found-bounds, effect-made}
 use Rattle.machine_model.proofs.Comparing.{agree-waiting}
 use Rattle.machine_model.proofs.Executions.{waits-waiting, asked, execute-meets}
-use Rattle.machine_model.proofs.Committed.{retiredBy, fault-refused, commit-meets}
+use Rattle.machine_model.proofs.Committed.{retiredBy, fault-refused, odd-refused, commit-meets}
 use Rattle.machine_model.proofs.ChecksKept.{validate-lent, issue-passes, execute-passes}
 use Rattle.machine_model.proofs.OldestReady.{begun-live, begun-empty, oldest-leaves, ready-waiting, ready-executed}
 
@@ -290,7 +291,7 @@ module _ {program : List ℕ} {m : Machine} {w : List ℕ} {b : Machine}
         (agree-waiting f
         (ap (λ (g : Reference.Fate). agree g f) (sym (waits-waiting (x .instruction) (x .fate) idle-here))
         ∙ passed-here .sound .agrees 0 (along .some)))
-        (fateBy act)
+        (fateBy (forwarded (view t) w 0) act)
         (sym (effect-left t rules 0 (along .some) w act) ∙ ap (λ (k : Effect). k .left) (sym effect-is) ∙ e)
 
     pub taken-bounds : (0 < q .left) × (q .left ≤ t .live) × (q .row < slots)
@@ -299,7 +300,7 @@ module _ {program : List ℕ} {m : Machine} {w : List ℕ} {b : Machine}
     module _ {done : ℕ} {cutLoads cutStores addresses loads stores values : List ℕ} {f : Entry} {next : ℕ}
         (hd : done ≡ bitOr (t .executed) (2 ^ o)) (hl : cutLoads ≡ cutMarks (t .banks) o n (t .live) (q .left) (t .loads))
         (hs : cutStores ≡ cutMarks (t .banks) o n (t .live) (q .left) (t .stores))
-        (ka : addresses ≡ cond (q .load || q .store) (set (t .addresses) (q .row) (q .address)) (t .addresses))
+        (ka : addresses ≡ cond (q .load || q .store) (set (t .addresses) (q .row) (q .word)) (t .addresses))
         (kl : loads ≡ marking cutLoads (q .load) (q .row) o)
         (ks : stores ≡ marking cutStores (q .store) (q .row) o)
         (kv : values ≡ cond (q .store) (set (t .values) o (q .value)) (t .values))
@@ -322,7 +323,7 @@ module _ {program : List ℕ} {m : Machine} {w : List ℕ} {b : Machine}
 
       taken-meets :
           Meets program b (execute 0) w
-          (executed (cond (q .load) (q .value) 0)
+          (executed (answered (q .load) (q .store) (q .value))
           (squashSays (cond (ltb (q .left) (t .live)) (squashed.From (q .left)) squashed.Nothing)))
           taken
           w
@@ -342,7 +343,7 @@ module _ {program : List ℕ} {m : Machine} {w : List ℕ} {b : Machine}
             lengths = record {
               numbers = l .numbers;
               addresses =
-                  rw ka (length-either (q .load || q .store) (t .addresses) (q .row) (q .address) slots (l .addresses));
+                  rw ka (length-either (q .load || q .store) (t .addresses) (q .row) (q .word) slots (l .addresses));
               loads = rw kl (marks cutLoads (q .load) (rw hl (cuts (t .loads) (l .loads))));
               stores = rw ks (marks cutStores (q .store) (rw hs (cuts (t .stores) (l .stores))));
               values =
@@ -404,7 +405,14 @@ module _ {program : List ℕ} {m : Machine} {w : List ℕ} {u : Machine} (prepar
     pub turn-faults : faults (u .table .words) (markedFate mark) ≡ true → Meets program u commit w (refused 13) u w []
     turn-faults f = fault-refused program u w passed-now (prepared .along .some) (prepared .executed) mark mark-is f
 
-    module _ (clean : faults (u .table .words) (markedFate mark) ≡ false) where
+    -- an H at an odd byte number: so too
+    pub turn-odd : faults (u .table .words) (markedFate mark) ≡ false → misaligned last ≡ true
+        → Meets program u commit w (refused 14) u w []
+    turn-odd f e =
+        odd-refused program u w passed-now (prepared .along .some) (prepared .executed) mark mark-is f
+        (ap (λ (s : ℕ). misaligned (getD (u .window) s blankEntry)) (prepared .along .oldest) ∙ e)
+
+    module _ (clean : faults (u .table .words) (markedFate mark) ≡ false) (even : misaligned last ≡ false) where
       -- the oldest's address lies in the memory
       pub turn-clean : faults (length w) (markedFate mark) ≡ false
       turn-clean = ap (λ (k : ℕ). faults k (markedFate mark)) (passed-now .words) ∙ clean
@@ -427,7 +435,7 @@ module _ {program : List ℕ} {m : Machine} {w : List ℕ} {u : Machine} (prepar
             ap (λ (s : ℕ). getD (u .window) s blankEntry) (sym (a .oldest)) in
             let head : first ≡ stageOf t 1 = hf ∙ circle a (λ (j k : ℕ). stage j k 1) in
             rw (ap (λ (x : Entry). x .index) same)
-            (commit-meets program u w passed-now (a .some) (prepared .executed) mark mark-is clean
+            (commit-meets program u w passed-now (a .some) (prepared .executed) mark mark-is clean (ap misaligned (sym same) ∙ even)
             first
             stay
             code

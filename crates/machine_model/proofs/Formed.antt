@@ -11,7 +11,7 @@ use borrow.Author.Tests.{eqb-true, leb-true, ltb-true}
 use Rattle.marks.specs.Counting.{every}
 use Rattle.marks.proofs.Counts.{every-at}
 use Rattle.machine_model.specs.declared.Instruction.{Instruction}
-use Rattle.machine_model.specs.declared.Instruction.the-variants.{Add, Sum, Load, Store}
+use Rattle.machine_model.specs.declared.Instruction.the-variants.{Add, Sum, Load, Store, Byte, Half}
 use Rattle.machine_model.specs.declared.Entry.{Entry}
 use Rattle.machine_model.specs.Program.{decoded, instructionAt, codeOf, wellFormed, wellFormedAt, programFits, dOf, sOf}
 use Rattle.machine_model.specs.Program.{immOf, same}
@@ -25,15 +25,27 @@ record Told (i : Instruction) (code d s imm : ℕ) : Type 0 where
   is-s : sOf i ≡ s
   is-imm : immOf i ≡ imm
 
+-- an instruction that is no sum
+plain : (i : Instruction) (code : ℕ) → (codeOf i ≡ 2 → ⊥) → Told i code (dOf i) (sOf i) (immOf i)
+plain i code other = record { is-sum = λ h. absurd (other h); is-d = refl; is-s = refl; is-imm = refl }
+
 told : (code d s imm : ℕ) → Told (decoded code d s imm) code d s imm
-told code d s imm = go (eqb code 1) (eqb code 2) (eqb code 3) refl
+told code d s imm = go (eqb code 1) (eqb code 2) (eqb code 3) (eqb code 4) (eqb code 5) refl
   where
-    go : (t u v : Bool) → eqb code 2 ≡ u
-        → Told (cond t (Add d s imm) (cond u (Sum d s imm) (cond v (Load d s imm) (Store d s imm)))) code d s imm
-    go true u v e = record { is-sum = λ h. absurd (omega arith); is-d = refl; is-s = refl; is-imm = refl }
-    go false true v e = record { is-sum = λ h. e; is-d = refl; is-s = refl; is-imm = refl }
-    go false false true e = record { is-sum = λ h. absurd (omega arith); is-d = refl; is-s = refl; is-imm = refl }
-    go false false false e = record { is-sum = λ h. absurd (omega arith); is-d = refl; is-s = refl; is-imm = refl }
+    go : (t u v x y : Bool) → eqb code 2 ≡ u
+        → Told
+        (cond t (Add d s imm)
+        (cond u (Sum d s imm) (cond v (Load d s imm) (cond x (Store d s imm) (cond y (Byte d s imm) (Half d s imm))))))
+        code
+        d
+        s
+        imm
+    go true u v x y e = plain (Add d s imm) code (λ h. omega arith)
+    go false true v x y e = record { is-sum = λ h. e; is-d = refl; is-s = refl; is-imm = refl }
+    go false false true x y e = plain (Load d s imm) code (λ h. omega arith)
+    go false false false true y e = plain (Store d s imm) code (λ h. omega arith)
+    go false false false false true e = plain (Byte d s imm) code (λ h. omega arith)
+    go false false false false false e = plain (Half d s imm) code (λ h. omega arith)
 
 -- what a well-formed instruction's numbers are at most
 record Small (code d s imm : ℕ) : Type 0 where
@@ -44,8 +56,8 @@ record Small (code d s imm : ℕ) : Type 0 where
 formed : (code d s imm : ℕ) → wellFormed code d s imm ≡ true → Small code d s imm
 formed code d s imm h =
     let outer =
-    and-eq-true-iff ((leb 1 code && leb code 4) && (leb d 7 && leb s 7)) (not (eqb code 2) || leb imm 7) .0 h in
-    let inner = and-eq-true-iff (leb 1 code && leb code 4) (leb d 7 && leb s 7) .0 (outer .0) in
+    and-eq-true-iff ((leb 1 code && leb code 6) && (leb d 7 && leb s 7)) (not (eqb code 2) || leb imm 7) .0 h in
+    let inner = and-eq-true-iff (leb 1 code && leb code 6) (leb d 7 && leb s 7) .0 (outer .0) in
     let registers = and-eq-true-iff (leb d 7) (leb s 7) .0 (inner .1) in
     record {
       low-d = omega (arith, leb-true d 7 (registers .0));
@@ -74,20 +86,23 @@ alike-small i j code d s imm t small h = go j (third .1) (second-pair .1) (first
     first : (eqb (codeOf i) (codeOf j) ≡ true) × (eqb (dOf i) (dOf j) ≡ true)
     first = and-eq-true-iff (eqb (codeOf i) (codeOf j)) (eqb (dOf i) (dOf j)) .0 (second-pair .0)
 
+    s-low : (r : ℕ) → eqb (sOf i) r ≡ true → r < 8
+    s-low r e = omega (arith, eqb-true (sOf i) r e, t .is-s, small .low-s)
+
+    d-low : (r : ℕ) → eqb (dOf i) r ≡ true → r < 8
+    d-low r e = omega (arith, eqb-true (dOf i) r e, t .is-d, small .low-d)
+
     go : (k : Instruction) → eqb (immOf i) (immOf k) ≡ true → eqb (sOf i) (sOf k) ≡ true → eqb (dOf i) (dOf k) ≡ true
         → codeOf i ≡ codeOf k → (sOf k < 8) × (second k < 8)
-    go (Add e r n) a b f g =
-        let l : r < 8 = omega (arith, eqb-true (sOf i) r b, t .is-s, small .low-s) in (l, l)
+    go (Add e r n) a b f g = (s-low r b, s-low r b)
     go (Sum e r n) a b f g = (
-      omega (arith, eqb-true (sOf i) r b, t .is-s, small .low-s),
+      s-low r b,
       omega (arith, eqb-true (immOf i) n a, t .is-imm, small .low-imm (t .is-sum g)),
     )
-    go (Load e r n) a b f g =
-        let l : r < 8 = omega (arith, eqb-true (sOf i) r b, t .is-s, small .low-s) in (l, l)
-    go (Store e r n) a b f g = (
-      omega (arith, eqb-true (sOf i) r b, t .is-s, small .low-s),
-      omega (arith, eqb-true (dOf i) e f, t .is-d, small .low-d),
-    )
+    go (Load e r n) a b f g = (s-low r b, s-low r b)
+    go (Store e r n) a b f g = (s-low r b, d-low e f)
+    go (Byte e r n) a b f g = (s-low r b, d-low e f)
+    go (Half e r n) a b f g = (s-low r b, d-low e f)
 
 pub like-small : (program : List ℕ) (count : ℕ) (e : Entry) → programFits program ≡ true → length program ≡ 4 * count
     → matchesProgram program count e ≡ true → (sOf (e .instruction) < 8) × (second (e .instruction) < 8)

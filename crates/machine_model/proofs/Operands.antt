@@ -1,7 +1,7 @@
 -- Operands: what a register holds for an entry, and what its instruction asks with them.
 -- The nearest older writer of a register decides what it holds, and is what the search by position finds (register-found): by
 -- induction on the positions, since one entry more at the young end is one more turn of the search (register-next). An
--- instruction's outcome is the fate after what it asks, with a load's word (outcome-wanted): by the instruction and its
+-- instruction's outcome is the fate after what it asks (outcome-wanted): by the instruction and its
 -- operands. What it then is to the buffer, and the value answered, go by the instruction too.
 -- Assumes nothing.
 use mathlib.Core.Bool.{Bool, true, false, cond}
@@ -18,12 +18,12 @@ use Rattle.table.specs.View.{tabulate}
 use Rattle.lookup.specs.computed.Search.{find}
 use Rattle.engine.specs.Execution.{fateBy, answerOf}
 use Rattle.machine_model.specs.declared.Instruction.{Instruction}
-use Rattle.machine_model.specs.declared.Instruction.the-variants.{Add, Sum, Load, Store}
+use Rattle.machine_model.specs.declared.Instruction.the-variants.{Add, Sum, Load, Store, Byte, Half}
 use Rattle.machine_model.specs.declared.Fate.{Fate}
 use Rattle.machine_model.specs.declared.Fate.the-variants.{Executed}
 use Rattle.machine_model.specs.declared.Entry.{Entry}
 use Rattle.machine_model.specs.Program.{sOf, destination}
-use Rattle.engine.specs.declared.Action.the-variants.{Compute, LoadAt, StoreAt}
+use Rattle.engine.specs.declared.Action.the-variants.{Compute, LoadAt, StoreAt, PartAt}
 use Rattle.engine.specs.declared.Action.{Action}
 use Rattle.machine_model.specs.Window.{
   blankEntry,
@@ -33,16 +33,18 @@ use Rattle.machine_model.specs.Window.{
   registerSeen,
   referenceBy,
   with₂,
+  partStored,
   evaluate,
 }
 use Rattle.machine_model.specs.Calls.{loadValue}
 use Rattle.machine_model.specs.computed.Parts.{registerNumber, destinationAt, writer, entriesOf, actionOf, second}
 
--- the entry's fate after it, where a load took v
-abbrev pub fateAfter : Action → ℕ → Fate
-fateAfter (Compute x) v = Executed x 0
-fateAfter (LoadAt a) v = Executed v a
-fateAfter (StoreAt a x) v = Executed x a
+-- the entry's fate after it, where the memory is seen as μ
+abbrev pub fateAfter : (ℕ → ℕ) → Action → Fate
+fateAfter μ (Compute x) = Executed x 0
+fateAfter μ (LoadAt a) = Executed (μ a) a
+fateAfter μ (StoreAt a x) = Executed x a
+fateAfter μ (PartAt part b x) = partStored part μ b x
 
 pub register-snoc : (es : List Entry) (e : Entry) (k : ℕ) (w : Option ℕ)
     → registerSeen (es ++ (e ∷ [])) k w ≡ cond (writesTo (e .instruction) k) (valueOf (e .fate)) (registerSeen es k w)
@@ -135,19 +137,21 @@ both (some a) (some b) f g h e = ap some (e a b)
 
 pub outcome-wanted : (i : Instruction) (ρ : ℕ → Option ℕ) (μ : ℕ → ℕ)
     → evaluate i ρ μ
-    ≡ Option·map (λ (x : Action). fateAfter x (answerOf μ x)) (with₂ (ρ (sOf i)) (ρ (second i)) (actionOf i))
+    ≡ Option·map (fateAfter μ) (with₂ (ρ (sOf i)) (ρ (second i)) (actionOf i))
 outcome-wanted (Add d s imm) ρ μ = twice (ρ s) _ _ _ imm (λ a. refl)
 outcome-wanted (Sum d s r) ρ μ = both (ρ s) (ρ r) _ _ _ (λ a b. refl)
 outcome-wanted (Load d s imm) ρ μ = twice (ρ s) _ _ _ imm (λ a. refl)
 outcome-wanted (Store d s imm) ρ μ = both (ρ s) (ρ d) _ _ _ (λ a b. refl)
+outcome-wanted (Byte d s imm) ρ μ = both (ρ s) (ρ d) _ _ _ (λ a b. refl)
+outcome-wanted (Half d s imm) ρ μ = both (ρ s) (ρ d) _ _ _ (λ a b. refl)
 
 pub outcome-unready : (i : Instruction) (ρ : ℕ → Option ℕ) (μ : ℕ → ℕ)
     → with₂ (ρ (sOf i)) (ρ (second i)) (actionOf i) ≡ none → evaluate i ρ μ ≡ none
-outcome-unready i ρ μ e = outcome-wanted i ρ μ ∙ ap (Option·map (λ (x : Action). fateAfter x (answerOf μ x))) e
+outcome-unready i ρ μ e = outcome-wanted i ρ μ ∙ ap (Option·map (fateAfter μ)) e
 
 pub outcome-ready : (i : Instruction) (ρ : ℕ → Option ℕ) (μ : ℕ → ℕ) (act : Action)
-    → with₂ (ρ (sOf i)) (ρ (second i)) (actionOf i) ≡ some act → evaluate i ρ μ ≡ some (fateAfter act (answerOf μ act))
-outcome-ready i ρ μ act e = outcome-wanted i ρ μ ∙ ap (Option·map (λ (x : Action). fateAfter x (answerOf μ x))) e
+    → with₂ (ρ (sOf i)) (ρ (second i)) (actionOf i) ≡ some act → evaluate i ρ μ ≡ some (fateAfter μ act)
+outcome-ready i ρ μ act e = outcome-wanted i ρ μ ∙ ap (Option·map (fateAfter μ)) e
 
 -- known operands are two numbers
 ready-numbers : (x y : Option ℕ) (f : ℕ → ℕ → Action) (act : Action) → with₂ x y f ≡ some act
@@ -156,29 +160,33 @@ ready-numbers none y f act e = absurd (let z : _≡_ {A = ℕ} 0 1 = cc in omega
 ready-numbers (some a) none f act e = absurd (let z : _≡_ {A = ℕ} 0 1 = cc in omega arith)
 ready-numbers (some a) (some b) f act e = (a, b, cc)
 
-reference-after : (i : Instruction) (x y v : ℕ)
-    → referenceBy i (fateAfter (actionOf i x y) v) ≡ fateBy (actionOf i x y)
-reference-after (Add d s imm) x y v = refl
-reference-after (Sum d s r) x y v = refl
-reference-after (Load d s imm) x y v = refl
-reference-after (Store d s imm) x y v = refl
+reference-after : (i : Instruction) (x y : ℕ) (μ : ℕ → ℕ)
+    → referenceBy i (fateAfter μ (actionOf i x y)) ≡ fateBy μ (actionOf i x y)
+reference-after (Add d s imm) x y μ = refl
+reference-after (Sum d s r) x y μ = refl
+reference-after (Load d s imm) x y μ = refl
+reference-after (Store d s imm) x y μ = refl
+reference-after (Byte d s imm) x y μ = refl
+reference-after (Half d s imm) x y μ = refl
 
-pub reference-ready : (i : Instruction) (x y : Option ℕ) (act : Action) (v : ℕ)
-    → with₂ x y (actionOf i) ≡ some act → referenceBy i (fateAfter act v) ≡ fateBy act
-reference-ready i x y act v e =
+pub reference-ready : (i : Instruction) (x y : Option ℕ) (act : Action) (μ : ℕ → ℕ)
+    → with₂ x y (actionOf i) ≡ some act → referenceBy i (fateAfter μ act) ≡ fateBy μ act
+reference-ready i x y act μ e =
     let n = ready-numbers x y (actionOf i) act e in
-    rw (n .2) at (reference-after i (n .0) (n .1) v)
+    rw (n .2) at (reference-after i (n .0) (n .1) μ)
 
 value-after : (i : Instruction) (x y : ℕ) (μ : ℕ → ℕ)
-    → loadValue i (fateAfter (actionOf i x y) (answerOf μ (actionOf i x y))) ≡ answerOf μ (actionOf i x y)
+    → loadValue i (fateAfter μ (actionOf i x y)) ≡ answerOf μ (actionOf i x y)
 value-after (Add d s imm) x y μ = refl
 value-after (Sum d s r) x y μ = refl
 value-after (Load d s imm) x y μ = refl
 value-after (Store d s imm) x y μ = refl
+value-after (Byte d s imm) x y μ = refl
+value-after (Half d s imm) x y μ = refl
 
 -- the value that an execute answers is the word that the action reads
 pub value-ready : (i : Instruction) (x y : Option ℕ) (act : Action) (μ : ℕ → ℕ)
-    → with₂ x y (actionOf i) ≡ some act → loadValue i (fateAfter act (answerOf μ act)) ≡ answerOf μ act
+    → with₂ x y (actionOf i) ≡ some act → loadValue i (fateAfter μ act) ≡ answerOf μ act
 value-ready i x y act μ e =
     let n = ready-numbers x y (actionOf i) act e in
     rw (n .2) at (value-after i (n .0) (n .1) μ)

@@ -12,7 +12,7 @@ use native.Mathlib.Omega.{arith}
 use lib.ListN.{length, getD, take}
 use lib.Seq.{take-suc}
 use Rattle.machine_model.specs.declared.Instruction.{Instruction}
-use Rattle.machine_model.specs.declared.Instruction.the-variants.{Add, Sum, Load, Store}
+use Rattle.machine_model.specs.declared.Instruction.the-variants.{Add, Sum, Load, Store, Byte, Half}
 use Rattle.machine_model.specs.declared.Fate.{Fate}
 use Rattle.machine_model.specs.declared.Fate.the-variants.{Waiting, Executed}
 use Rattle.machine_model.specs.declared.Entry.{Entry}
@@ -64,12 +64,14 @@ register-committed es (suc p) k w h others =
 
 -- ---- refusal 9: "an operand's writer has not executed"
 
--- the registers that an instruction needs: s; P's imm too; S's d too
+-- the registers that an instruction needs: s; P's imm too; the d of S, B and H too
 abbrev pub Needs : Instruction → ℕ → Type 0
 Needs (Add d s imm) k = k ≡ s
 Needs (Sum d s r) k = (k ≡ s) ⊎ (k ≡ r)
 Needs (Load d s imm) k = k ≡ s
 Needs (Store d s imm) k = (k ≡ s) ⊎ (k ≡ d)
+Needs (Byte d s imm) k = (k ≡ s) ⊎ (k ≡ d)
+Needs (Half d s imm) k = (k ≡ s) ⊎ (k ≡ d)
 
 -- register k has a writer older than position p, and the nearest one waits
 pub record WriterWaits (es : List Entry) (p k : ℕ) : Type 0 where
@@ -145,19 +147,29 @@ known-number v e = absurd (let z : _≡_ {A = ℕ} 0 1 = cc in omega arith)
 
 -- an instruction comes to nothing yet exactly where a register that it needs is not known
 module _ (ρ : ℕ → Option ℕ) (μ : ℕ → ℕ) where
+  first-or : (s d : ℕ) (f : ℕ → ℕ → Fate) → unknown (with₂ (ρ s) (ρ d) f) ≡ true
+      → (k : ℕ) × ((k ≡ s) ⊎ (k ≡ d)) × (ρ k ≡ none)
+  first-or s d f e = ⊎-elim (λ h. (s, inl refl, h)) (λ h. (d, inr refl, h)) (one-unknown (ρ s) (ρ d) f e)
+
   needed : (i : Instruction) → unknown (evaluate i ρ μ) ≡ true → (k : ℕ) × Needs i k × (ρ k ≡ none)
   needed (Add d s imm) e = ⊎-elim (λ h. (s, refl, h)) (known-number imm) (one-unknown (ρ s) (some imm) _ e)
-  needed (Sum d s r) e = ⊎-elim (λ h. (s, inl refl, h)) (λ h. (r, inr refl, h)) (one-unknown (ρ s) (ρ r) _ e)
+  needed (Sum d s r) e = first-or s r _ e
   needed (Load d s imm) e = ⊎-elim (λ h. (s, refl, h)) (known-number imm) (one-unknown (ρ s) (some imm) _ e)
-  needed (Store d s imm) e = ⊎-elim (λ h. (s, inl refl, h)) (λ h. (d, inr refl, h)) (one-unknown (ρ s) (ρ d) _ e)
+  needed (Store d s imm) e = first-or s d _ e
+  needed (Byte d s imm) e = first-or s d _ e
+  needed (Half d s imm) e = first-or s d _ e
+
+  either-unknown : (s d k : ℕ) (f : ℕ → ℕ → Fate) → (k ≡ s) ⊎ (k ≡ d) → ρ k ≡ none → unknown (with₂ (ρ s) (ρ d) f) ≡ true
+  either-unknown s d k f n e =
+      ⊎-elim (λ h. first-unknown (ρ s) (ρ d) f (ap ρ (sym h) ∙ e)) (λ h. second-unknown (ρ s) (ρ d) f (ap ρ (sym h) ∙ e)) n
 
   lacking : (i : Instruction) (k : ℕ) → Needs i k → ρ k ≡ none → unknown (evaluate i ρ μ) ≡ true
   lacking (Add d s imm) k n e = first-unknown (ρ s) (some imm) _ (ap ρ (sym n) ∙ e)
-  lacking (Sum d s r) k n e =
-      ⊎-elim (λ h. first-unknown (ρ s) (ρ r) _ (ap ρ (sym h) ∙ e)) (λ h. second-unknown (ρ s) (ρ r) _ (ap ρ (sym h) ∙ e)) n
+  lacking (Sum d s r) k n e = either-unknown s r k _ n e
   lacking (Load d s imm) k n e = first-unknown (ρ s) (some imm) _ (ap ρ (sym n) ∙ e)
-  lacking (Store d s imm) k n e =
-      ⊎-elim (λ h. first-unknown (ρ s) (ρ d) _ (ap ρ (sym h) ∙ e)) (λ h. second-unknown (ρ s) (ρ d) _ (ap ρ (sym h) ∙ e)) n
+  lacking (Store d s imm) k n e = either-unknown s d k _ n e
+  lacking (Byte d s imm) k n e = either-unknown s d k _ n e
+  lacking (Half d s imm) k n e = either-unknown s d k _ n e
 
 -- 9 holds exactly if, for a register that the instruction needs, the nearest older live entry that writes it exists and waits
 module _ (X : Plain) (memory : List ℕ) (p : ℕ) (inside : p ≤ length (X .entries)) where

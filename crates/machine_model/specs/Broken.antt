@@ -1,5 +1,5 @@
 -- Machines that break the rules, beside neighbours that keep them: "the table breaks its own rules, or window and table disagree
--- on which stages are live and executed, at which address and with which mark". proofs/Breaking.antt shows of each which it is,
+-- on which stages are live and executed, at which address and with which mark". A B or an H has both marks. proofs/Breaking.antt shows of each which it is,
 -- and that every call on a broken one is refused with 2.
 -- Assumes nothing.
 use mathlib.Core.Path.{_≡_}
@@ -9,7 +9,7 @@ use lib.ListN.{take, replicate}
 use Rattle.table.specs.Limits.{stagesMost, slots}
 use Rattle.engine.specs.Contract.{refused}
 use Rattle.machine_model.specs.declared.Instruction.{Instruction}
-use Rattle.machine_model.specs.declared.Instruction.the-variants.{Add, Load, Store}
+use Rattle.machine_model.specs.declared.Instruction.the-variants.{Add, Load, Store, Byte, Half}
 use Rattle.machine_model.specs.declared.Fate.{Fate}
 use Rattle.machine_model.specs.declared.Fate.the-variants.{Waiting, Executed}
 use Rattle.machine_model.specs.declared.Entry.{Entry}
@@ -109,6 +109,10 @@ turned window = machine 1 2 4 8 3 2 9 (3 ∷ []) (1 ∷ []) (8 ∷ []) window
 abbrev pub bare : ℕ → ℕ → ℕ → ℕ → ℕ → Machine
 bare B R n W oldest = machine B R n W oldest 0 0 [] [] [] []
 
+-- this entry in place of the store, and stage 0 with a load mark, a store mark or both in the row of address 3
+abbrev pub marked : ℕ → ℕ → Entry → Machine
+marked loads stores e = machine 1 2 4 8 0 4 7 (3 ∷ []) (loads ∷ []) (stores ∷ []) (e ∷ theLoad ∷ theSum ∷ theIdle ∷ [])
+
 unfoldable pub cases : List Case
 cases =
     sound (windowed entries)
@@ -125,9 +129,9 @@ cases =
     ∷ broken (counted 4 1)
     ∷ sound (unread [])
     ∷ broken (unread (2 ∷ []))
-    -- two marks of a stage in one row, and in two
-    ∷ broken (rowed 1 (3 ∷ []) (3 ∷ []) (1 ∷ []))
+    -- marks of a stage in two rows, of one kind and of both
     ∷ broken (rowed 1 (3 ∷ 4 ∷ []) (2 ∷ 2 ∷ []) (1 ∷ []))
+    ∷ broken (machine 1 2 4 8 0 4 7 (3 ∷ 4 ∷ []) (2 ∷ 1 ∷ []) (1 ∷ []) (entry (Byte 1 0 12) 0 (Executed 5 12) ∷ theLoad ∷ theSum ∷ theIdle ∷ []))
     -- two rows of one address; a free row may have it too
     ∷ broken (rowed 1 (3 ∷ 3 ∷ []) (2 ∷ 0 ∷ []) (0 ∷ 1 ∷ []))
     ∷ sound (rowed 1 (3 ∷ 3 ∷ []) (2 ∷ 0 ∷ []) (1 ∷ 0 ∷ []))
@@ -150,6 +154,15 @@ cases =
     ∷ broken (windowed (theStore ∷ entry (Store 2 0 3) 1 (Executed 5 3) ∷ theSum ∷ theIdle ∷ []))
     ∷ broken (windowed (theStore ∷ theLoad ∷ entry (Load 3 0 3) 2 (Executed 1 3) ∷ theIdle ∷ []))
     ∷ broken (windowed (theStore ∷ entry (Add 2 0 3) 1 (Executed 5 3) ∷ theSum ∷ theIdle ∷ []))
+    -- both marks of a stage: a B or an H of any byte of the word, no L and no S; of a B or an H both are needed
+    ∷ sound (marked 3 1 (entry (Byte 1 0 12) 0 (Executed 5 12))) ∷ sound (marked 3 1 (entry (Byte 1 0 15) 0 (Executed 5 15)))
+    ∷ sound (marked 3 1 (entry (Half 1 0 12) 0 (Executed 5 12))) ∷ sound (marked 3 1 (entry (Half 1 0 15) 0 (Executed 5 15)))
+    ∷ broken (marked 3 1 (entry (Byte 1 0 11) 0 (Executed 5 11))) ∷ broken (marked 3 1 (entry (Byte 1 0 16) 0 (Executed 5 16)))
+    ∷ broken (marked 3 1 (entry (Byte 1 0 3) 0 (Executed 5 3)))
+    ∷ broken (marked 3 1 theStore) ∷ broken (marked 3 1 (entry (Load 1 0 3) 0 (Executed 5 3)))
+    ∷ broken (marked 3 0 (entry (Byte 1 0 12) 0 (Executed 5 12))) ∷ broken (marked 2 1 (entry (Byte 1 0 12) 0 (Executed 5 12)))
+    ∷ broken (marked 3 0 (entry (Half 1 0 12) 0 (Executed 5 12))) ∷ broken (marked 2 1 (entry (Half 1 0 12) 0 (Executed 5 12)))
+    ∷ sound (marked 3 0 (entry (Load 1 0 3) 0 (Executed 5 3)))
     -- 2 compares no words, and asks nothing of instructions, indices and entries that are not live
     ∷ sound (windowed (entry (Store 1 0 3) 0 (Executed 6 3) ∷ entry (Load 2 0 3) 9 (Executed 7 3) ∷ theSum ∷ theIdle ∷ []))
     ∷ sound (windowed (entry (Store 7 7 7) 0 (Executed 5 3) ∷ theLoad ∷ theSum ∷ theIdle ∷ theSum ∷ []))

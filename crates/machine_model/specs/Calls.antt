@@ -21,13 +21,13 @@ use Rattle.engine.specs.Execution.{written}
 use Rattle.engine.specs.Opening.{opening}
 use Rattle.machine_model.specs.declared.Instruction.{Instruction}
 use Rattle.machine_model.specs.declared.Kind.{Kind}
-use Rattle.machine_model.specs.declared.Kind.the-variants.{Computing, Loading, Storing}
+use Rattle.machine_model.specs.declared.Kind.the-variants.{Computing, Loading, Storing, Merging}
 use Rattle.machine_model.specs.declared.Fate.{Fate}
 use Rattle.machine_model.specs.declared.Fate.the-variants.{Waiting, Executed}
 use Rattle.machine_model.specs.declared.Entry.{Entry}
 use Rattle.machine_model.specs.Program.{instructionAt, codeOf, same, kind, destination}
 use Rattle.machine_model.specs.Program.{programFits}
-use Rattle.machine_model.specs.Window.{entryAt, entryWith, registerSeen, referenceBy, reference, evaluate}
+use Rattle.machine_model.specs.Window.{entryAt, entryWith, addressBy, misaligned, registerSeen, referenceBy, reference, evaluate}
 
 -- The buffer's state, the window's entries in program order, the committed registers, the number of instructions opened and
 -- the index of the next to issue.
@@ -120,6 +120,7 @@ commitChecks program X memory =
     wrongLength (X .buffer .words) memory ∷ programCheck program X ∷ when (eqb (length (X .entries)) 0) 11
     ∷ when (waits (entryAt (X .entries) 0 .fate)) 12
     ∷ when (faults (X .buffer .words) (reference (entryAt (X .entries) 0))) 13
+    ∷ when (misaligned (entryAt (X .entries) 0)) 14
     ∷ []
 
 abbrev pub finishChecks : List ℕ → Plain → List ℕ → List Check
@@ -174,6 +175,7 @@ abbrev pub answerBy : Kind → ℕ → ℕ
 answerBy Computing v = 0
 answerBy Loading v = v
 answerBy Storing v = 0
+answerBy Merging v = 0
 
 abbrev pub loadValue : Instruction → Fate → ℕ
 loadValue i f = answerBy (kind i) (valueBy f)
@@ -228,11 +230,6 @@ squashes program X memory p = unlessRefused program (squash p) X memory (squashi
 
 -- ---- commit
 
--- the address of an executed entry
-abbrev pub addressBy : Fate → ℕ
-addressBy Waiting = 0
-addressBy (Executed v a) = a
-
 -- the registers where the one written, if any, becomes v
 abbrev pub writing : List ℕ → Option ℕ → ℕ → List ℕ
 writing registers none v = registers
@@ -242,7 +239,7 @@ writing registers (some d) v = set registers d v
 abbrev pub registersAfter : List ℕ → Instruction → ℕ → List ℕ
 registersAfter registers i v = writing registers (destination i) v
 
--- the third number of a commit: the register, for S the address
+-- the third number of a commit: the register, for S, B and H the address
 abbrev pub orAddress : Option ℕ → ℕ → ℕ
 orAddress none a = a
 orAddress (some d) a = d
@@ -250,7 +247,7 @@ orAddress (some d) a = d
 abbrev pub target : Instruction → ℕ → ℕ
 target i a = orAddress (destination i) a
 
--- what a commit of this entry answers: index, code, register (for S the address) and value
+-- what a commit of this entry answers: index, code, register (for S, B and H the address) and value
 abbrev pub committedSays : Entry → Answer
 committedSays e =
     committed (e .index) (codeOf (e .instruction)) (target (e .instruction) (addressBy (e .fate))) (valueBy (e .fate))

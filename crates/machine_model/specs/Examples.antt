@@ -14,7 +14,7 @@ use Rattle.table.specs.Moves.{withFate}
 use Rattle.engine.specs.Conditions.{refusal}
 use Rattle.engine.specs.Contract.{refused, done, named, executed, committed, finished}
 use Rattle.machine_model.specs.declared.Instruction.{Instruction}
-use Rattle.machine_model.specs.declared.Instruction.the-variants.{Add, Sum, Load, Store}
+use Rattle.machine_model.specs.declared.Instruction.the-variants.{Add, Sum, Load, Store, Byte, Half}
 use Rattle.machine_model.specs.declared.Fate.the-variants.{Waiting, Executed}
 use Rattle.machine_model.specs.declared.Entry.{Entry}
 use Rattle.machine_model.specs.Window.{reference}
@@ -109,10 +109,16 @@ L d s imm = 3 ∷ d ∷ s ∷ imm ∷ []
 abbrev pub S : ℕ → ℕ → ℕ → List ℕ
 S d s imm = 4 ∷ d ∷ s ∷ imm ∷ []
 
+abbrev pub B : ℕ → ℕ → ℕ → List ℕ
+B d s imm = 5 ∷ d ∷ s ∷ imm ∷ []
+
+abbrev pub H : ℕ → ℕ → ℕ → List ℕ
+H d s imm = 6 ∷ d ∷ s ∷ imm ∷ []
+
 abbrev pub row : ℕ → ℕ → ℕ → ℕ → List ℕ → List ℕ → Answer → List Step → Example
-row B R n W program memory answer steps =
+row banks R n W program memory answer steps =
     record {
-      banks = B;
+      banks = banks;
       rows = R;
       stages = n;
       words = W;
@@ -124,15 +130,15 @@ row B R n W program memory answer steps =
 
 -- an opening alone; one with these sizes and no program; one of the smallest sizes with this program
 abbrev pub opens : ℕ → ℕ → ℕ → ℕ → List ℕ → List ℕ → Answer → Example
-opens B R n W program memory answer = row B R n W program memory answer []
+opens banks R n W program memory answer = row banks R n W program memory answer []
 
 abbrev pub sized : ℕ → ℕ → ℕ → ℕ → Answer → Example
-sized B R n W answer = opens B R n W [] (replicate W 0) answer
+sized banks R n W answer = opens banks R n W [] (replicate W 0) answer
 
 abbrev pub reads : List ℕ → Answer → Example
 reads program answer = opens 1 1 1 1 program (0 ∷ []) answer
 
--- unless said, B is 1, R and n are 4, W is 8, and these are the words
+-- unless said, there is one bank, R and n are 4, W is 8, and these are the words
 abbrev pub eight : List ℕ
 eight = 10 ∷ 11 ∷ 12 ∷ 13 ∷ 14 ∷ 15 ∷ 16 ∷ 17 ∷ []
 
@@ -179,10 +185,12 @@ openings =
     ∷ reads (replicate 1025 1) (refused 1) ∷ reads (replicate 1026 1) (refused 1) ∷ reads (replicate 1028 1) (refused 1)
     -- memory length is not W
     ∷ opens 1 4 4 8 script (replicate 7 0) (refused 3) ∷ opens 1 4 4 8 script (replicate 9 0) (refused 3)
-    -- codes 1 to 4; registers to 7, P's imm too; any other imm
+    -- codes 1 to 6; registers to 7, P's imm too; any other imm
     ∷ reads (A 7 7 4294967295) done ∷ reads (P 7 7 7) done ∷ reads (L 7 7 4294967295) done ∷ reads (S 7 7 4294967295) done
-    ∷ reads (0 ∷ 0 ∷ 0 ∷ 0 ∷ []) (refused 4) ∷ reads (5 ∷ 0 ∷ 0 ∷ 0 ∷ []) (refused 4)
+    ∷ reads (B 7 7 4294967295) done ∷ reads (H 7 7 4294967295) done
+    ∷ reads (0 ∷ 0 ∷ 0 ∷ 0 ∷ []) (refused 4) ∷ reads (7 ∷ 0 ∷ 0 ∷ 0 ∷ []) (refused 4)
     ∷ reads (A 8 0 0) (refused 4) ∷ reads (P 8 0 0) (refused 4) ∷ reads (L 8 0 0) (refused 4) ∷ reads (S 8 0 0) (refused 4)
+    ∷ reads (B 8 0 0) (refused 4) ∷ reads (H 8 0 0) (refused 4) ∷ reads (B 0 8 0) (refused 4) ∷ reads (H 0 8 0) (refused 4)
     ∷ reads (A 0 8 0) (refused 4) ∷ reads (P 0 8 0) (refused 4) ∷ reads (L 0 8 0) (refused 4) ∷ reads (S 0 8 0) (refused 4)
     ∷ reads (P 0 0 8) (refused 4)
     -- the last instruction counts too; a length that is no multiple of 4
@@ -214,7 +222,7 @@ refusals =
     ∷ usual script (asks issue (named 0) ∷ lend (A 1 0 5 ++ S 1 0 3) eight ∷ refuse 4 4 [])
     ∷ usual script (asks issue (named 0) ∷ lend (script ++ A 0 0 0) eight ∷ refuse 4 4 [])
     ∷ usual script (asks issue (named 0) ∷ lend (script ++ (1 ∷ [])) eight ∷ refuse 4 4 [])
-    ∷ usual script (asks issue (named 0) ∷ lend (A 1 0 5 ++ S 1 0 3 ++ (5 ∷ 2 ∷ 0 ∷ 3 ∷ [])) eight ∷ refuse 4 4 [])
+    ∷ usual script (asks issue (named 0) ∷ lend (A 1 0 5 ++ S 1 0 3 ++ (7 ∷ 2 ∷ 0 ∷ 3 ∷ [])) eight ∷ refuse 4 4 [])
     ∷ usual script (asks issue (named 0) ∷ lend (A 1 0 5 ++ S 1 0 3 ++ L 8 0 3) eight ∷ refuse 4 4 [])
     ∷ usual script (asks issue (named 0) ∷ lend (A 1 0 5 ++ S 1 0 3 ++ P 2 0 8) eight ∷ refuse 4 4 [])
     -- 4: it is another where an entry is live. Where none is it may differ: the entry issued is the new one.
@@ -251,7 +259,7 @@ refusals =
     ∷ usual (A 1 0 5 ++ L 2 1 0) (two (asks (execute 1) (refused 9) ∷ []))
     ∷ usual (A 1 0 5 ++ S 0 1 0) (two (asks (execute 1) (refused 9) ∷ []))
     ∷ usual (A 1 0 5 ++ S 1 0 0) (two (asks (execute 1) (refused 9) ∷ []))
-    -- imm is a register of P only, d of S only; S is nobody's writer, and so is a younger entry
+    -- imm is a register of P only, d of S only among these; S is nobody's writer, and so is a younger entry
     ∷ usual (A 1 0 5 ++ A 2 0 1) (two (asks (execute 1) (executed 0 none) ∷ []))
     ∷ usual (A 1 0 5 ++ L 1 0 1) (two (asks (execute 1) (executed 11 none) ∷ []))
     ∷ usual (A 1 0 5 ++ S 2 0 1) (two (asks (execute 1) (executed 0 none) ∷ []))
@@ -289,6 +297,11 @@ unlike p i index =
     usual (A 1 2 3 ++ P 1 2 3 ++ L 1 2 3 ++ S 1 2 3)
     (four (spoil p (record { instruction = i; index = index; fate = Waiting }) ∷ refuse 4 4 []))
 
+-- the same of B and H
+abbrev pub unlikePart : ℕ → Instruction → ℕ → Example
+unlikePart p i index =
+    usual (B 1 2 3 ++ H 1 2 3) (two (spoil p (record { instruction = i; index = index; fate = Waiting }) ∷ refuse 4 4 []))
+
 unfoldable pub unlikes : List Example
 unlikes =
     -- another imm of each code, another d, s and code
@@ -298,6 +311,9 @@ unlikes =
     ∷ unlike 0 (Sum 1 2 3) 0 ∷ unlike 1 (Load 1 2 3) 1 ∷ unlike 2 (Store 1 2 3) 2 ∷ unlike 3 (Add 1 2 3) 3
     -- the index of another instruction, the opened count, and one past it
     ∷ unlike 0 (Add 1 2 3) 1 ∷ unlike 3 (Store 1 2 3) 4 ∷ unlike 3 (Store 0 0 0) 4 ∷ unlike 3 (Store 0 0 0) 5
+    ∷ unlikePart 0 (Byte 1 2 4) 0 ∷ unlikePart 1 (Half 1 2 4) 1 ∷ unlikePart 0 (Byte 2 2 3) 0 ∷ unlikePart 1 (Half 2 2 3) 1
+    ∷ unlikePart 0 (Byte 1 1 3) 0 ∷ unlikePart 1 (Half 1 1 3) 1 ∷ unlikePart 0 (Half 1 2 3) 0 ∷ unlikePart 1 (Byte 1 2 3) 1
+    ∷ unlikePart 0 (Store 1 2 3) 0
     -- an equal instruction at another index is like it
     ∷ usual (A 1 2 3 ++ A 1 2 3)
     (asks issue (named 0) ∷ spoil 0 (record { instruction = Add 1 2 3; index = 1; fate = Waiting }) ∷ asks issue (named 1) ∷ [])
@@ -382,6 +398,85 @@ runs =
     ∷ []))
     ∷ []
 
+-- ---- B and H
+
+-- an instruction alone: it executes, and its commit answers this
+abbrev pub lone : List ℕ → Answer → Example
+lone program answer =
+    usual program (asks issue (named 0) ∷ asks (execute 0) (executed 0 none) ∷ asks commit answer ∷ [])
+
+-- of two instructions the younger executes first, with this value; then the older squashes so
+abbrev pub early : List ℕ → ℕ → Answer → Example
+early program v answer = usual program (two (asks (execute 1) (executed v none) ∷ asks (execute 0) answer ∷ []))
+
+unfoldable pub parts : List Example
+parts =
+    -- "the low byte of register d", "its low 16 bits": lower byte numbers are the lower bits. The byte number and the whole
+    -- word are recorded, and the word is written.
+    usual
+    (A 1 0 4042322160 ++ B 1 0 0 ++ B 1 0 1 ++ B 1 0 2 ++ B 1 0 3 ++ A 1 0 67305985 ++ B 1 0 0 ++ B 1 0 3 ++ H 1 0 4 ++ H 1 0 6)
+    (drains 10 (replicate 40 7) (finished 10)
+    (0 ∷ 1 ∷ 1 ∷ 4042322160 ∷ 1 ∷ 5 ∷ 0 ∷ 240 ∷ 2 ∷ 5 ∷ 1 ∷ 61680 ∷ 3 ∷ 5 ∷ 2 ∷ 15790320 ∷ 4 ∷ 5 ∷ 3 ∷ 4042322160
+    ∷ 5 ∷ 1 ∷ 1 ∷ 67305985 ∷ 6 ∷ 5 ∷ 0 ∷ 4042321921 ∷ 7 ∷ 5 ∷ 3 ∷ 32567297 ∷ 8 ∷ 6 ∷ 4 ∷ 513 ∷ 9 ∷ 6 ∷ 6 ∷ 33620481 ∷ [])
+    ∷ looks (0 ∷ 67305985 ∷ 0 ∷ 0 ∷ 0 ∷ 0 ∷ 0 ∷ 0 ∷ []) (32567297 ∷ 33620481 ∷ 12 ∷ 13 ∷ 14 ∷ 15 ∷ 16 ∷ 17 ∷ []) ∷ [])
+    -- the byte number is modulo 2 ^ 32
+    ∷ usual (A 1 0 4294967295 ++ B 1 1 6)
+    (drains 2 (replicate 8 7) (finished 2) (0 ∷ 1 ∷ 1 ∷ 4294967295 ∷ 1 ∷ 5 ∷ 5 ∷ 65291 ∷ []) ∷ [])
+    -- It reads the word as a load does, here an older store's that is not in memory yet, and a younger load takes the whole
+    -- word. Its executed answer's value is 0.
+    ∷ usual (A 1 0 511 ++ S 0 0 2 ++ B 1 0 9 ++ L 2 0 2)
+    (four (asks (execute 0) (executed 0 none) ∷ asks (execute 1) (executed 0 none) ∷ asks (execute 2) (executed 0 none)
+    ∷ asks (execute 3) (executed 65280 none) ∷ looks (replicate 8 0) eight
+    ∷ asks commit (committed 0 1 1 511) ∷ asks commit (committed 1 4 2 0) ∷ asks commit (committed 2 5 9 65280)
+    ∷ asks commit (committed 3 3 2 65280)
+    ∷ looks (0 ∷ 511 ∷ 65280 ∷ 0 ∷ 0 ∷ 0 ∷ 0 ∷ 0 ∷ []) (10 ∷ 11 ∷ 65280 ∷ 13 ∷ 14 ∷ 15 ∷ 16 ∷ 17 ∷ []) ∷ []))
+    -- two side by side in one word, the younger after the older
+    ∷ usual (A 1 0 511 ++ H 1 0 8 ++ H 1 0 10)
+    (three (asks (execute 0) (executed 0 none) ∷ asks (execute 1) (executed 0 none) ∷ asks (execute 2) (executed 0 none)
+    ∷ asks commit (committed 0 1 1 511) ∷ asks commit (committed 1 6 8 511) ∷ asks commit (committed 2 6 10 33489407) ∷ []))
+    -- One that went before an older store of its word is squashed, and so is a load that went before one of these.
+    ∷ early (S 0 0 2 ++ B 0 0 9) 0 (executed 0 (some 1)) ∷ early (S 0 0 2 ++ H 0 0 10) 0 (executed 0 (some 1))
+    ∷ early (B 0 0 8 ++ B 0 0 9) 0 (executed 0 (some 1)) ∷ early (B 0 0 8 ++ H 0 0 8) 0 (executed 0 (some 1))
+    ∷ early (H 0 0 8 ++ B 0 0 11) 0 (executed 0 (some 1)) ∷ early (H 0 0 8 ++ H 0 0 10) 0 (executed 0 (some 1))
+    ∷ early (B 0 0 9 ++ L 1 0 2) 12 (executed 0 (some 1)) ∷ early (H 0 0 10 ++ L 1 0 2) 12 (executed 0 (some 1))
+    -- not by the next word's, nor by a load; a store that is met first ends the walk
+    ∷ early (S 0 0 1 ++ B 0 0 8) 0 (executed 0 none) ∷ early (B 0 0 7 ++ B 0 0 8) 0 (executed 0 none)
+    ∷ early (L 1 0 2 ++ B 0 0 8) 0 (executed 12 none) ∷ early (B 0 0 8 ++ S 0 0 2) 0 (executed 0 none)
+    ∷ usual (B 0 0 9 ++ S 0 0 2 ++ L 1 0 2)
+    (three (asks (execute 1) (executed 0 none) ∷ asks (execute 2) (executed 0 none) ∷ asks (execute 0) (executed 0 none) ∷ []))
+    -- 9: the writer of s and of d waits; they are nobody's writer
+    ∷ usual (A 1 0 5 ++ B 0 1 0) (two (asks (execute 1) (refused 9) ∷ [])) ∷ usual (A 1 0 5 ++ B 1 0 0) (two (asks (execute 1) (refused 9) ∷ []))
+    ∷ usual (A 1 0 5 ++ H 0 1 0) (two (asks (execute 1) (refused 9) ∷ [])) ∷ usual (A 1 0 5 ++ H 1 0 0) (two (asks (execute 1) (refused 9) ∷ []))
+    ∷ usual (B 1 0 3 ++ A 2 1 0) (two (asks (execute 1) (executed 0 none) ∷ []))
+    ∷ usual (H 1 0 3 ++ A 2 1 0) (two (asks (execute 1) (executed 0 none) ∷ []))
+    -- rows go by the word: 10 at another word, none in the same one, and an eviction
+    ∷ tight (B 0 0 20 ++ B 0 0 24) (two (asks (execute 0) (executed 0 none) ∷ asks (execute 1) (refused 10) ∷ []))
+    ∷ tight (B 0 0 20 ++ H 0 0 22) (two (asks (execute 0) (executed 0 none) ∷ asks (execute 1) (executed 0 none) ∷ []))
+    ∷ tight (B 0 0 21 ++ L 1 0 5) (two (asks (execute 0) (executed 0 none) ∷ asks (execute 1) (executed 15 none) ∷ []))
+    ∷ tight (H 0 0 20 ++ L 1 0 6) (two (asks (execute 1) (executed 16 none) ∷ asks (execute 0) (executed 0 (some 1)) ∷ []))
+    ∷ tight (L 1 0 6 ++ B 0 0 20) (two (asks (execute 1) (executed 0 none) ∷ asks (execute 0) (executed 16 (some 1)) ∷ []))
+    -- "A fault is a word number of W or more": byte 31 is of the last of eight words, byte 32 is past it
+    ∷ lone (B 1 0 31) (committed 0 5 31 17) ∷ lone (H 1 0 30) (committed 0 6 30 17)
+    ∷ lone (B 1 0 32) (refused 13) ∷ lone (H 1 0 32) (refused 13)
+    -- 14: an H at an odd byte number; 13 comes first; an odd B is fine
+    ∷ lone (H 1 0 1) (refused 14) ∷ lone (H 1 0 3) (refused 14) ∷ lone (H 1 0 31) (refused 14) ∷ lone (H 1 0 33) (refused 13)
+    ∷ lone (B 1 0 1) (committed 0 5 1 10)
+    -- "executes as at the byte below": a younger load takes the word so made; finish stops there and leaves it executed
+    ∷ usual (A 1 0 511 ++ H 1 0 5 ++ L 2 0 1)
+    (three (asks (execute 0) (executed 0 none) ∷ asks (execute 1) (executed 0 none) ∷ asks (execute 2) (executed 511 none)
+    ∷ drains 9 (replicate 9 7) (finished 1) (0 ∷ 1 ∷ 1 ∷ 511 ∷ 7 ∷ 7 ∷ 7 ∷ 7 ∷ 7 ∷ [])
+    ∷ asks commit (refused 14) ∷ looks (0 ∷ 511 ∷ 0 ∷ 0 ∷ 0 ∷ 0 ∷ 0 ∷ 0 ∷ []) eight ∷ []))
+    ∷ usual (A 1 0 511 ++ H 1 0 7 ++ L 2 0 1)
+    (drains 9 (replicate 9 7) (finished 1) (0 ∷ 1 ∷ 1 ∷ 511 ∷ 7 ∷ 7 ∷ 7 ∷ 7 ∷ 7 ∷ [])
+    ∷ asks (execute 0) (refused 8) ∷ asks commit (refused 14) ∷ asks issue (named 1)
+    ∷ asks (execute 1) (executed 33488907 none) ∷ drains 9 (replicate 5 7) (finished 0) (replicate 5 7) ∷ [])
+    -- 3 with 14, 4 with 14
+    ∷ usual (H 1 0 1)
+    (asks issue (named 0) ∷ asks (execute 0) (executed 0 none) ∷ lend (H 1 0 1) (replicate 9 0) ∷ asks commit (refused 3) ∷ [])
+    ∷ row 1 1 1 8 (H 1 0 1) eight done
+    (asks issue (named 0) ∷ asks (execute 0) (executed 0 none) ∷ lend (B 1 0 1) eight ∷ refuse 4 4 [])
+    ∷ []
+
 -- the whole table
 abbrev pub examples : List Example
-examples = openings ++ refusals ++ unlikes ++ runs
+examples = openings ++ refusals ++ unlikes ++ runs ++ parts

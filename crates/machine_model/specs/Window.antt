@@ -1,21 +1,24 @@
 -- The window of the machine over plain lists: operands, what an instruction comes to, and what a commit of it changes.
 -- Assumes nothing.
-use mathlib.Core.Bool.{Bool, false, cond}
+use mathlib.Core.Bool.{Bool, false, cond, _&&_}
 use mathlib.Core.List.{List, [], _∷_}
 use mathlib.Core.Option.{Option, none, some}
-use Prim.Native.Nat.{ℕ, suc}
+use Prim.Native.Nat.{ℕ, suc, _%_}
 use lib.Dec.{eqb}
 use lib.ListN.{getD}
 use Rattle.table.specs.Reference
-use Rattle.table.specs.Reference.{waiting, other, loaded, stored}
+use Rattle.table.specs.Reference.{waiting, other, loaded, stored, merged}
+use Rattle.engine.specs.declared.Part.{Part}
+use Rattle.engine.specs.declared.Part.the-variants as part
+use Rattle.engine.specs.Part.{wordOf, whole}
 use Rattle.machine_model.specs.declared.Instruction.{Instruction}
-use Rattle.machine_model.specs.declared.Instruction.the-variants.{Add, Sum, Load, Store}
+use Rattle.machine_model.specs.declared.Instruction.the-variants.{Add, Sum, Load, Store, Byte, Half}
 use Rattle.machine_model.specs.declared.Kind.{Kind}
-use Rattle.machine_model.specs.declared.Kind.the-variants.{Computing, Loading, Storing}
+use Rattle.machine_model.specs.declared.Kind.the-variants.{Computing, Loading, Storing, Merging}
 use Rattle.machine_model.specs.declared.Fate.{Fate}
 use Rattle.machine_model.specs.declared.Fate.the-variants.{Waiting, Executed}
 use Rattle.machine_model.specs.declared.Entry.{Entry}
-use Rattle.machine_model.specs.Program.{kind, destination, sum}
+use Rattle.machine_model.specs.Program.{codeOf, kind, destination, sum}
 
 -- an entry that stands where none is
 abbrev pub blankEntry : Entry
@@ -46,6 +49,15 @@ abbrev pub valueOf : Fate → Option ℕ
 valueOf Waiting = none
 valueOf (Executed v a) = some v
 
+-- the address of an executed entry
+abbrev pub addressBy : Fate → ℕ
+addressBy Waiting = 0
+addressBy (Executed v a) = a
+
+-- it has executed as an H at an odd byte number
+abbrev pub misaligned : Entry → Bool
+misaligned e = eqb (codeOf (e .instruction)) 6 && eqb (addressBy (e .fate) % 2) 1
+
 -- what register k holds after these entries, where it held w before them: the nearest writer decides
 unfoldable pub registerSeen : List Entry → ℕ → Option ℕ → Option ℕ
 registerSeen [] k w = w
@@ -56,6 +68,7 @@ abbrev pub accessBy : Kind → ℕ → ℕ → Reference.Fate
 accessBy Computing v a = other
 accessBy Loading v a = loaded a
 accessBy Storing v a = stored a v
+accessBy Merging v a = merged (wordOf a) v
 
 abbrev pub referenceBy : Instruction → Fate → Reference.Fate
 referenceBy i Waiting = waiting
@@ -70,10 +83,16 @@ with₂ none y f = none
 with₂ (some x) none f = none
 with₂ (some x) (some y) f = some (f x y)
 
+-- a store of y's part at byte b: the whole word is its value
+abbrev pub partStored : Part → (ℕ → ℕ) → ℕ → ℕ → Fate
+partStored part μ b y = Executed (whole part b (μ (wordOf b)) y) b
+
 -- What an instruction comes to where registers hold ρ and the memory is seen as μ, if its operands are known: its value and
--- its address (0 where it has none).
+-- its address (0 where it has none, of B and H the byte number).
 abbrev pub evaluate : Instruction → (ℕ → Option ℕ) → (ℕ → ℕ) → Option Fate
 evaluate (Add d s imm) ρ μ = with₂ (ρ s) (some imm) (λ x y. Executed (sum x y) 0)
 evaluate (Sum d s r) ρ μ = with₂ (ρ s) (ρ r) (λ x y. Executed (sum x y) 0)
 evaluate (Load d s imm) ρ μ = with₂ (ρ s) (some imm) (λ x y. Executed (μ (sum x y)) (sum x y))
 evaluate (Store d s imm) ρ μ = with₂ (ρ s) (ρ d) (λ x y. Executed y (sum x imm))
+evaluate (Byte d s imm) ρ μ = with₂ (ρ s) (ρ d) (λ x y. partStored part.Byte μ (sum x imm) y)
+evaluate (Half d s imm) ρ μ = with₂ (ρ s) (ρ d) (λ x y. partStored part.Half μ (sum x imm) y)

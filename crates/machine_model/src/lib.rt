@@ -10,22 +10,26 @@ pub const REGISTERS: usize = 8;
 
 pub const PROGRAM: usize = 1024;
 
-// An instruction: codes 1 (A), 2 (P), 3 (L) and 4 (S), each with d, s and imm.
+// An instruction: codes 1 (A), 2 (P), 3 (L), 4 (S), 5 (B) and 6 (H), each with d, s and imm.
 pub enum Instruction {
     Add(u32, u32, u32),
     Sum(u32, u32, u32),
     Load(u32, u32, u32),
     Store(u32, u32, u32),
+    Byte(u32, u32, u32),
+    Half(u32, u32, u32),
 }
 
-// What an instruction does: a register becomes a number, a register becomes a word of memory, a word becomes a register.
+// What an instruction does: a register becomes a number, a register becomes a word of memory, a word becomes a register, a
+// word's part becomes a register's.
 pub enum Kind {
     Computing,
     Loading,
     Storing,
+    Merging,
 }
 
-// What became of an entry (its status): waiting, or executed with its value and address.
+// What became of an entry (its status): waiting, or executed with its value and address (of B and H the byte number).
 pub enum Fate {
     Waiting,
     Executed(u32, u32),
@@ -71,7 +75,7 @@ pub enum ExecuteAnswer {
     Executed(u32, Squashed),
 }
 
-// The answer of `commit`: index, code, register (for S the address) and value.
+// The answer of `commit`: index, code, register (for S, B and H the address) and value.
 pub enum CommitAnswer {
     Refused(u32),
     Committed(u32, u32, u32, u32),

@@ -66,7 +66,7 @@ pub fn oldest_mark(e: Entry, word: u32) -> Mark
     if kind == 1 {
         return Mark::Load(a);
     }
-    if kind == 2 {
+    if (kind == 2) | (kind == 3) {
         return Mark::Store(a, word);
     }
     Mark::Absent

@@ -16,36 +16,62 @@ ghost use Prim.Native.Nat.{ℕ, _≤_, _<_};
 ghost use lib.ListN.{length, getD};
 ghost use Rattle.machine_model.specs.Window.{valueOf, registerSeen, with₂};
 ghost use Rattle.machine_model.specs.Program.{sOf};
-ghost use Rattle.machine_model.specs.computed.Parts.{destinationAt, writer, asNumber, actionOf, second, marksAt, agreesBy};
-ghost use Rattle.machine_model.specs.computed.Parts.{agreeingBy, fittingBy, entriesOf, wantedBy, validateBy};
+ghost use Rattle.machine_model.specs.computed.Parts.{destinationAt, writer, asNumber, actionOf, second, marksAt, markNumber};
+ghost use Rattle.machine_model.specs.computed.Parts.{agreesBy, agreeingBy, fittingBy, entriesOf, wantedBy, validateBy};
 ghost use Rattle.table.specs.Limits.{banksMost, slots, stagesMost};
 ghost use Rattle.table.specs.Bank.{bank};
-ghost use Rattle.marks.specs.Stages.{has};
 
-// Whether stage `s` bears a mark of one kind in a row with address `a`. Every row of the address's bank is read: an early exit
-// would be a branch to guess.
-fn bears_mark<'a>(
+// The stages with a load mark and with a store mark in rows of one address.
+struct Marks {
+    loads: u32,
+    stores: u32,
+}
+
+// Those of address `a`. Every row of its bank is read: an early exit would be a branch to guess.
+fn marks_at<'a>(
     banks: usize,
     addresses: &'a [u32; SLOTS],
-    marks: &'a [u32; SLOTS],
+    loads: &'a [u32; SLOTS],
+    stores: &'a [u32; SLOTS],
     a: u32,
-    s: usize,
-) -> bool
-    requires { ⌜ (0 < banks) × (banks ≤ banksMost) × (s < stagesMost) ⌝ }
-    requires { ⌜ (length (now addresses) ≡ slots) × (length (now marks) ≡ slots) ⌝ }
-    ensures { λ r. ⌜ r ≡ has (marksAt (now (addresses .entry)) (now (marks .entry)) (bank banks a) a) s ⌝ }
+) -> Marks
+    requires { ⌜ (0 < banks) × (banks ≤ banksMost) ⌝ }
+    requires { ⌜ (length (now addresses) ≡ slots) × (length (now loads) ≡ slots) × (length (now stores) ≡ slots) ⌝ }
+    ensures { λ r. ⌜ (r .loads ≡ marksAt (now (addresses .entry)) (now (loads .entry)) (bank banks a) a)
+        × (r .stores ≡ marksAt (now (addresses .entry)) (now (stores .entry)) (bank banks a) a) ⌝ }
 {
     let first = table::bank_of(banks, a) * ROWS;
-    let mut all: u32 = 0;
+    let mut load: u32 = 0;
+    let mut store: u32 = 0;
     let mut i = 0;
     while i < ROWS {
         let r = first + i;
         if addresses[r] == a {
-            all = all | marks[r];
+            load = load | loads[r];
+            store = store | stores[r];
         }
         i += 1;
     }
-    marks::contains(all, s)
+    Marks {
+        loads: load,
+        stores: store,
+    }
+}
+
+// The kind of an access with these marks; 0 with neither.
+fn mark_number(load: bool, store: bool) -> u32
+    ensures { λ r. ⌜ r ≡ markNumber load store ⌝ }
+{
+    if load {
+        if store {
+            return 3;
+        }
+        return 1;
+    }
+    if store {
+        return 2;
+    }
+    0
 }
 
 // Whether an entry of this kind and address agrees with what the table's marks say of its stage `s`.
@@ -71,10 +97,8 @@ fn stage_agrees<'a>(
     if kind == 0 {
         return marks::contains(executed, s) & !marks::contains(marked, s);
     }
-    if kind == 1 {
-        return bears_mark(banks, addresses, loads, place, s);
-    }
-    bears_mark(banks, addresses, stores, place, s)
+    let at = marks_at(banks, addresses, loads, stores, place);
+    mark_number(marks::contains(at.loads, s), marks::contains(at.stores, s)) == kind
 }
 
 // What one pass over the live entries says: whether window and table agree on them (executed or not, at which address and

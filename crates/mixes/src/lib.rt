@@ -1,5 +1,6 @@
 // What the benchmark's mixes of calls share: the draws, the checksum with one more number, and a table spoiled. The mixes are
 // in mixes_buffer and mixes_machine.
+use table::BANKS;
 use table::ROWS;
 use table::SLOTS;
 use table::STAGES;
@@ -23,6 +24,13 @@ pub fn bits(seed: u64) -> usize
     ensures { λ r. ⌜ r ≡ seed / 65536 % 32768 ⌝ }
 {
     (seed / 65536 % 32768) as usize
+}
+
+// A register's word: 32 high bits of a state.
+pub fn word_drawn(seed: u64) -> u32
+    ensures { λ r. ⌜ r ≡ seed / 134217728 % 4294967296 ⌝ }
+{
+    (seed / 134217728 % 4294967296) as u32
 }
 
 // The checksum with one more number: turned left by one, plus the number.
@@ -97,7 +105,44 @@ pub fn position_drawn(
     p
 }
 
-// A table with one number changed, which mostly breaks a rule. Sizes only grow: rows that a smaller size
+// In a row of the table the marks of one kind come or go where there is one of the other, or one mark does.
+fn spoil_marks(t: Table, x: usize) -> Table
+    ensures { λ r. ⌜ (r .next ≡ t .next) × (r .numbers ≡ t .numbers) × (r .values ≡ t .values) ⌝ }
+{
+    let banks = t.banks;
+    let rows = t.rows;
+    let stages = t.stages;
+    let mut n = t;
+    if banks == 0 {
+        return n;
+    }
+    if rows == 0 {
+        return n;
+    }
+    if stages == 0 {
+        return n;
+    }
+    let r = x % banks % BANKS * ROWS + x / 8 % rows % ROWS;
+    let bit: u32 = 1 << stage_drawn(t.oldest, stages, x / 64);
+    let loads = n.loads[r];
+    let stores = n.stores[r];
+    if x < 8192 {
+        n.loads[r] = loads ^ stores;
+        return n;
+    }
+    if x < 16384 {
+        n.loads[r] = loads ^ bit;
+        return n;
+    }
+    if x < 24576 {
+        n.stores[r] = stores ^ loads;
+        return n;
+    }
+    n.stores[r] = stores ^ bit;
+    n
+}
+
+// A table with one number or the marks of one row changed, which mostly breaks a rule. Sizes only grow: rows that a smaller size
 // would leave outside are none of the table's in C.
 pub fn spoil(t: Table, what: usize, x: usize) -> Table
     ensures { λ r. ⌜ (r .next ≡ t .next) × (r .numbers ≡ t .numbers) × (r .values ≡ t .values) ⌝ }
@@ -134,6 +179,9 @@ pub fn spoil(t: Table, what: usize, x: usize) -> Table
     if what == 6 {
         n.executed = t.executed ^ bit;
         return n;
+    }
+    if what == 10 {
+        return spoil_marks(n, x);
     }
     if (banks <= r / ROWS) | (rows <= r % ROWS) {
         return n;

@@ -64,9 +64,22 @@ fn ticket_drawn(
     Ticket { stage, number }
 }
 
+// A byte of a register, or its low half.
+fn part_drawn(drawn: usize) -> buffer::Part {
+    if drawn / 1024 % 2 == 1 {
+        return buffer::Part::Half;
+    }
+    buffer::Part::Byte
+}
+
+// A byte of the word at the address drawn.
+fn byte_drawn(drawn: usize) -> u32 {
+    mixes::address_drawn(drawn) * 4 + (drawn / 256 % 4) as u32
+}
+
 // `calls` turns of a buffer with these sizes. Of 32 turns 12 are an issue, 8 a commit, 5 a load, 5 a store, 1
-// an execution of something else and 1 a squash. In the turn after which `when` are left, the table is
-// spoiled instead.
+// an execution of something else and 1 a squash. The stores are the kinds 25 to 29, those from `whole` on of a
+// part. In the turn after which `when` are left, the table is spoiled instead.
 //
 // The calls stand in the loop, and not in a function of their own: each layer would copy the table once more.
 #[no_mangle]
@@ -80,6 +93,7 @@ pub extern "C" fn mixes_buffer(
     when: u32,
     part: usize,
     by: usize,
+    whole: usize,
     memory: &mut [u32],
 ) -> u64
     ensures { λ r. ⌜ BufferTurns banks rows stages words (now (memory .entry)) when calls (now (memory .exit)) r ⌝ }
@@ -119,10 +133,17 @@ pub extern "C" fn mixes_buffer(
                 let said = loaded.answer;
                 t = loaded.table;
                 executed_tally(said)
-            } else if kind < 30 {
+            } else if kind < whole {
                 let stored = buffer::execute_store(t, ticket, address, word as u32, memory);
                 let said = stored.answer;
                 t = stored.table;
+                executed_tally(said)
+            } else if kind < 30 {
+                let byte = byte_drawn(word);
+                let value = mixes::word_drawn(second);
+                let merged = buffer::execute_part(t, ticket, part_drawn(word), byte, value, memory);
+                let said = merged.answer;
+                t = merged.table;
                 executed_tally(said)
             } else if kind < 31 {
                 let noted = buffer::execute_other(t, ticket, memory);

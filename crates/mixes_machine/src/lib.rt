@@ -61,7 +61,21 @@ fn finished_tally(answer: machine::FinishAnswer) -> Tally
     }
 }
 
-// An entry with one part changed.
+// The instruction of this code, 3 to 6, with register 2 at the address.
+fn access(code: usize, address: u32) -> machine::Instruction {
+    if code == 3 {
+        return machine::Instruction::Load(2, 0, address);
+    }
+    if code == 4 {
+        return machine::Instruction::Store(2, 0, address);
+    }
+    if code == 5 {
+        return machine::Instruction::Byte(2, 0, address);
+    }
+    machine::Instruction::Half(2, 0, address)
+}
+
+// An entry with one part changed: its index, its fate, its instruction, or an executed one's value and address.
 fn spoil_entry(e: machine::Entry, what: usize, x: usize) -> machine::Entry {
     let instruction = e.instruction;
     let index = e.index;
@@ -88,29 +102,46 @@ fn spoil_entry(e: machine::Entry, what: usize, x: usize) -> machine::Entry {
             fate: machine::Fate::Executed(1, address),
         };
     }
-    machine::Entry {
-        instruction: machine::Instruction::Load(2, 0, address),
-        index,
-        fate,
+    if what < 7 {
+        return machine::Entry {
+            instruction: access(what, address),
+            index,
+            fate,
+        };
+    }
+    match fate {
+        machine::Fate::Waiting => e,
+        machine::Fate::Executed(_, a) => machine::Entry {
+            instruction,
+            index,
+            fate: machine::Fate::Executed(1, a ^ (x / 8 % 8) as u32),
+        },
     }
 }
 
 // A machine with its table, an entry or its count changed.
 fn spoil_machine(m: Machine, what: usize, x: usize) -> Machine {
     let mut n = m;
-    if what < 10 {
+    if what < 11 {
         let t = m.table;
         n.table = mixes::spoil(t, what, x);
         return n;
     }
-    if what == 10 {
+    if what == 11 {
         n.count = std::num::wrapping_add_u32(m.count, 1);
         return n;
     }
     let window = m.window;
-    let s = x / 128 % STAGES;
+    if what == 12 {
+        let s = x / 128 % STAGES;
+        let e = window[s];
+        n.window[s] = spoil_entry(e, x % 4, x);
+        return n;
+    }
+    let t = m.table;
+    let s = mixes::stage_drawn(t.oldest, t.stages, x / 128);
     let e = window[s];
-    n.window[s] = spoil_entry(e, x % 4, x);
+    n.window[s] = spoil_entry(e, 3 + x % 8, x);
     n
 }
 

@@ -31,7 +31,7 @@ pub fn arity_of(b: u8) -> usize
     if (b == b'e') | (b == b'q') | (b == b'x') {
         return 2;
     }
-    if (b == b'A') | (b == b'P') | (b == b'L') | (b == b'S') {
+    if 0 < script_reading::code_of(b) {
         return 4;
     }
     if b == b'N' {

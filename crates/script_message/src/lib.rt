@@ -96,7 +96,7 @@ fn put_reason(out: &mut [u8], at: usize, r: Reason) -> usize
             at,
             b"found a second 'N' line, expected another letter",
         ),
-        Reason::Letter(b) => put_other(out, at, b, b", expected A, P, L, S, i, e, q, c or x"),
+        Reason::Letter(b) => put_other(out, at, b, b", expected A, P, L, S, B, H, i, e, q, c or x"),
         Reason::Glued(b, c) => {
             let a = put_other(out, at, c, b" behind the letter, expected ");
             script_phrases::put_form(out, a, b)

@@ -1,7 +1,7 @@
 -- How a script ends, by the machine that it left, whatever that is. With nothing live the entries are empty, and an entry that
 -- is not there does not fault. Otherwise the oldest entry stands at the stage of position 0, if the window has that.
 -- Assumes nothing.
-use mathlib.Core.Bool.{Bool, false, cond, _&&_, _||_}
+use mathlib.Core.Bool.{Bool, false, cond, _&&_}
 use mathlib.Core.List.{List}
 use mathlib.Core.Path.{_≡_, refl, sym, ap, ap₂, _∙_}
 use Prim.Native.Nat.{ℕ, _-_, _≤_, _<_}
@@ -11,18 +11,15 @@ use lib.Dec.{eqb, leb}
 use lib.ListN.{length, getD, List·getD-eq-default}
 use borrow.Author.Tests.{le-leb, lt-leb, le-ltb, ne-eqb}
 use Rattle.marks.specs.Circle.{stage}
-use Rattle.table.specs.Reference
 use Rattle.table.specs.View.{stageOf, tabulate}
-use Rattle.engine.specs.Conditions.{faults}
 use Rattle.machine_model.specs.declared.Entry.{Entry}
 use Rattle.machine_model.specs.declared.Machine.{Machine}
-use Rattle.machine_model.specs.Window.{blankEntry, entryAt, reference}
-use Rattle.machine_model.specs.Contract.{entryOf, plain, kindOf, placeOf}
-use Rattle.machine_model.proofs.Comparing.{faults-kind}
+use Rattle.machine_model.specs.Window.{blankEntry, entryAt}
+use Rattle.machine_model.specs.Contract.{entryOf, plain}
 use Rattle.machine_model.proofs.Sounding.{entry-at}
 use Rattle.machine_model.proofs.Finishes.{over-plain}
 use Rattle.script_model.specs.declared.Ending.the-variants.{Open, Done, Fault}
-use Rattle.script_model.specs.Output.{ending}
+use Rattle.script_model.specs.Output.{faulted, ending}
 
 -- position 0 where the oldest's stage is none of the circle's
 pub stage-past : (o n : ℕ) → n ≤ o → stage o n 0 ≡ o - n
@@ -36,7 +33,7 @@ ending-empty m e =
     (λ (k : ℕ).
     let es : List Entry = tabulate (entryOf m) k in
     cond (eqb (length es) 0 && leb (m .count) (m .next)) Done
-    (cond (faults (m .table .words) (reference (entryAt es 0))) Fault Open))
+    (cond (faulted (m .table .words) (entryAt es 0)) Fault Open))
     e
 
 pub ending-done : (m : Machine) → m .table .live ≡ 0 → m .count ≤ m .next → ending (plain m) ≡ Done
@@ -47,22 +44,21 @@ ending-open m e h = ending-empty m e ∙ ap (λ (t : Bool). cond t Done Open) (l
 
 -- the entry at position 0 decides
 ending-live : (m : Machine) → 0 < m .table .live
-    → ending (plain m) ≡ cond (faults (m .table .words) (reference (entryOf m 0))) Fault Open
+    → ending (plain m) ≡ cond (faulted (m .table .words) (entryOf m 0)) Fault Open
 ending-live m h =
-    ap₂ (λ (t : Bool) (r : Reference.Fate). cond t Done (cond (faults (m .table .words) r) Fault Open))
+    ap₂ (λ (t : Bool) (e : Entry). cond t Done (cond (faulted (m .table .words) e) Fault Open))
     (over-plain m ∙ ap (λ (t : Bool). t && leb (m .count) (m .next)) (ne-eqb (m .table .live) 0 (omega arith)))
-    (ap reference (entry-at m 0 h))
+    (entry-at m 0 h)
 
 -- by the entry there
 pub ending-entry : (m : Machine) (s : ℕ) (e : Entry) (t : Bool) → 0 < m .table .live → s ≡ stageOf (m .table) 0
-    → e ≡ getD (m .window) s blankEntry
-    → t ≡ ((eqb (kindOf (reference e)) 1 || eqb (kindOf (reference e)) 2) && leb (m .table .words) (placeOf (reference e)))
+    → e ≡ getD (m .window) s blankEntry → t ≡ faulted (m .table .words) e
     → ending (plain m) ≡ cond t Fault Open
 ending-entry m s e t h at is says =
     ending-live m h
-    ∙ ap (λ (x : Entry). cond (faults (m .table .words) (reference x)) Fault Open)
+    ∙ ap (λ (x : Entry). cond (faulted (m .table .words) x) Fault Open)
     (sym (is ∙ ap (λ (k : ℕ). getD (m .window) k blankEntry) at))
-    ∙ ap (λ (b : Bool). cond b Fault Open) (faults-kind (m .table .words) (e .instruction) (e .fate) ∙ sym says)
+    ∙ ap (λ (b : Bool). cond b Fault Open) (sym says)
 
 -- and past the window
 pub ending-past : (m : Machine) (s : ℕ) → 0 < m .table .live → s ≡ stageOf (m .table) 0 → length (m .window) ≤ s

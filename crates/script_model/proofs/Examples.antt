@@ -1,8 +1,11 @@
 -- 01's sample script, byte for byte, computed: what is printed is what 01 shows. The load of 3 executes before the
--- older store to 3, which squashes it; it is issued and executed once more. Assumes nothing.
+-- older store to 3, which squashes it; it is issued and executed once more. Behind it the lines of B and H, and scripts with
+-- them; the words are small, since large ones take long to compute.
+-- Assumes nothing.
 use mathlib.Core.Path.{_≡_, refl}
 use mathlib.Core.List.{List, [], _∷_}
 use Prim.Native.Nat.{ℕ}
+use Prim.Native.String.{String}
 use Rattle.text.specs.Decimal.{digits}
 use Rattle.text.specs.Fields.{bytes}
 use Rattle.text.specs.Lines.{linesFrom}
@@ -14,10 +17,12 @@ use Rattle.lookup.specs.Violation.{keptYounger}
 use Rattle.lookup.specs.Rows.{touched}
 use Rattle.machine_model.specs.Program.{programFits}
 use Rattle.machine_model.specs.Window.{registerSeen}
-use Rattle.machine_model.specs.Calls.{respond}
+use Rattle.machine_model.specs.Calls.{respond, finishes}
 use Rattle.theorem.specs.Play.{play}
-use Rattle.script_model.specs.Language.{steps, body}
-use Rattle.script_model.specs.Output.{commitLines, wordLines, printed}
+use Rattle.script_model.specs.declared.Item.the-variants.{Operation}
+use Rattle.script_model.specs.Language.{codeFrom, parsedLine, steps, body}
+use Rattle.script_model.specs.Output.{commitLine, commitLines, wordLines, printed}
+use Rattle.script_model.specs.Message.{ascii}
 
 -- `N,1,2,4,8`, `A,1,0,5`, `S,1,0,3`, `L,2,0,3`, `i`, `i`, `i`, `e,2`, `e,0`, `e,1`, `c`, `c`, `i`, `e,0`, `c`
 abbrev sample : List ℕ
@@ -50,6 +55,41 @@ expected =
     ∷ []
 
 pub sample-printed : printed sample ≡ expected
-unfolding printed linesFrom body steps bytes digits commitLines wordLines sizesFit
+unfolding printed linesFrom codeFrom body steps bytes digits commitLines wordLines sizesFit
     play respond every programFits seen keptYounger touched count last home bank registerSeen
 sample-printed = refl
+
+byte-read : parsedLine (ascii "B,1,0,3") ≡ Operation 5 1 0 3
+unfolding ascii bytes codeFrom
+byte-read = refl
+
+half-read : parsedLine (ascii "H,7,6,4294967295") ≡ Operation 6 7 6 4294967295
+unfolding ascii bytes codeFrom
+half-read = refl
+
+byte-printed : commitLine 1 5 9 256 ≡ ascii "1,B,9,256\n"
+unfolding ascii digits
+byte-printed = refl
+
+half-printed : commitLine 2 6 4 771 ≡ ascii "2,H,4,771\n"
+unfolding ascii digits
+half-printed = refl
+
+infix 30 _prints_
+abbrev _prints_ : String → String → Type 0
+text prints out = printed (ascii text) ≡ ascii out
+
+-- The byte at 5 is put into the word that the half at 4 left, and the load takes the whole word. The younger byte executes first,
+-- and the older one squashes it, since it has read the word. An H at an odd byte number executes and does not commit; while it
+-- waits nothing faults. Byte 3 lies in the one word, byte 4 behind it.
+parts-printed :
+    ("N,1,1,4,2\nA,1,0,258\nH,1,0,4\nB,1,0,5\nL,2,0,1\nx,9\n"
+    prints "0,A,1,258\n1,H,4,258\n2,B,5,514\n3,L,2,514\nm,1,514\nend,done,4\n")
+    × ("N,1,2,4,8\nA,1,0,1\nB,1,0,0\nB,1,0,1\ni\ni\ni\ne,0\ne,2\ne,1\nc\nc\nc\nx,1\n"
+    prints "0,A,1,1\n1,B,0,1\n2,B,1,257\nm,0,257\nend,done,3\n")
+    × ("N,1,1,2,2\nA,1,0,7\nH,1,0,5\nL,2,0,1\ni\ni\ne,0\nc\ni\ne,0\ne,1\nc\nc\nx,3\n" prints "0,A,1,7\nend,fault,1\n")
+    × ("N,1,1,2,2\nH,1,0,5\ni\nc\n" prints "end,open,0\n")
+    × ("N,1,1,2,1\nB,0,0,3\nB,0,0,4\nx,2\n" prints "0,B,3,0\nend,fault,1\n")
+unfolding ascii printed linesFrom codeFrom body steps bytes digits commitLines wordLines sizesFit
+    play respond every programFits seen keptYounger touched count last home bank registerSeen finishes
+parts-printed = (refl, refl, refl, refl, refl)

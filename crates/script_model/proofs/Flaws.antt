@@ -27,7 +27,7 @@ use Rattle.script_model.specs.declared.Took.the-variants.{Grows, Wrong}
 use Rattle.script_model.specs.declared.Reason.{Reason}
 use Rattle.script_model.specs.declared.Reason.the-variants as why
 use Rattle.script_model.specs.declared.Flaw.{Flaw}
-use Rattle.script_model.specs.Language.{lettered, parsedLine}
+use Rattle.script_model.specs.Language.{letterCode, lettered, parsedLine}
 use Rattle.script_model.specs.Language.{stepOf, Steps, stepping, steps}
 use Rattle.script_model.specs.Language.{numbersOf, joining, Body, body, unread, headed, scriptBy, script}
 use Rattle.theorem.specs.Play.{Played, play}
@@ -143,8 +143,7 @@ arity-some false false false false n e = (λ h. omega arith, omega arith)
 
 impossible : (b n : ℕ) → arity b ≡ n → (n ≡ 3 → ⊥) × (n ≤ 5)
 impossible b n =
-    arity-some (eqb b 105 || eqb b 99) (eqb b 101 || eqb b 113 || eqb b 120) (eqb b 65 || eqb b 80 || eqb b 76 || eqb b 83)
-    (eqb b 78) n
+    arity-some (eqb b 105 || eqb b 99) (eqb b 101 || eqb b 113 || eqb b 120) (ltb 0 (letterCode b)) (eqb b 78) n
 
 differ : {i : Item} {A : Type 0} → (isMalformed i ≡ false) → i ≡ Malformed → A
 differ h e = never (sym h ∙ ap isMalformed e)
@@ -159,18 +158,13 @@ one-heard false false false false true w k a h = omega arith
 one-heard false false false false false true k a h = omega arith
 one-heard false false false false false false k a h = omega arith
 
-three-heard : (t u a p l s w : Bool) (d r imm : ℕ) → arityBy t u (a || p || l || s) w ≡ 4
-    → cond a (Operation 1 d r imm)
-    (cond p (Operation 2 d r imm) (cond l (Operation 3 d r imm) (cond s (Operation 4 d r imm) Malformed)))
-    ≡ Malformed → ⊥
-three-heard true u a p l s w d r imm n h = omega arith
-three-heard false true a p l s w d r imm n h = omega arith
-three-heard false false true p l s w d r imm n h = differ refl h
-three-heard false false false true l s w d r imm n h = differ refl h
-three-heard false false false false true s w d r imm n h = differ refl h
-three-heard false false false false false true w d r imm n h = differ refl h
-three-heard false false false false false false true d r imm n h = omega arith
-three-heard false false false false false false false d r imm n h = omega arith
+three-heard : (t u v w : Bool) (code d s imm : ℕ) → arityBy t u v w ≡ 4
+    → cond v (Operation code d s imm) Malformed ≡ Malformed → ⊥
+three-heard true u v w code d s imm n h = omega arith
+three-heard false true v w code d s imm n h = omega arith
+three-heard false false true w code d s imm n h = differ refl h
+three-heard false false false true code d s imm n h = omega arith
+three-heard false false false false code d s imm n h = omega arith
 
 four-heard : (t u v w : Bool) (banks rows stages words : ℕ) → arityBy t u v w ≡ 5
     → cond w (Sizes banks rows stages words) Malformed ≡ Malformed → ⊥
@@ -184,15 +178,14 @@ four-heard false false false false banks rows stages words n h = omega arith
 heard : (b : ℕ) (ns : List ℕ) → 1 ≤ length ns → arity b ≡ suc (length ns) → lettered b (some ns) ≡ Malformed → ⊥
 heard b [] h n e = omega arith
 heard b (k ∷ []) h n e =
-    one-heard (eqb b 105 || eqb b 99) (eqb b 101) (eqb b 113) (eqb b 120) (eqb b 65 || eqb b 80 || eqb b 76 || eqb b 83)
-    (eqb b 78) k n e
+    one-heard (eqb b 105 || eqb b 99) (eqb b 101) (eqb b 113) (eqb b 120) (ltb 0 (letterCode b)) (eqb b 78) k n e
 heard b (k ∷ l ∷ []) h n e = impossible b 3 n .0 refl
 heard b (d ∷ s ∷ imm ∷ []) h n e =
-    three-heard (eqb b 105 || eqb b 99) (eqb b 101 || eqb b 113 || eqb b 120) (eqb b 65) (eqb b 80) (eqb b 76) (eqb b 83)
-    (eqb b 78) d s imm n e
+    three-heard (eqb b 105 || eqb b 99) (eqb b 101 || eqb b 113 || eqb b 120) (ltb 0 (letterCode b)) (eqb b 78)
+    (letterCode b) d s imm n e
 heard b (banks ∷ rows ∷ stages ∷ words ∷ []) h n e =
-    four-heard (eqb b 105 || eqb b 99) (eqb b 101 || eqb b 113 || eqb b 120) (eqb b 65 || eqb b 80 || eqb b 76 || eqb b 83)
-    (eqb b 78) banks rows stages words n e
+    four-heard (eqb b 105 || eqb b 99) (eqb b 101 || eqb b 113 || eqb b 120) (ltb 0 (letterCode b)) (eqb b 78)
+    banks rows stages words n e
 heard b (k ∷ l ∷ m ∷ o ∷ p ∷ ns) h n e = omega (arith, impossible b _ n .1)
 
 -- ---- the reason of a malformed line

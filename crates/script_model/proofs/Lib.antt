@@ -1,4 +1,5 @@
--- Reading. Items: what a line says, by its numbers in an array and by its bytes in a slice. Heads: what the first line asks for.
+-- Reading. Letters: a letter's code. Items: what a line says, by its numbers in an array and by its bytes in a slice. Heads: what
+-- the first line asks for.
 -- Founds: the four numbers of a line. Programs: the program's lines, as the loop reads them. Fitting: the program read is well
 -- formed. Zeros: a list made zeros.
 -- Printing. Writing: texts written one after another. Endings: how a script ends, by the machine that it left. Closings: the
@@ -11,7 +12,8 @@
 -- Bad lines. Flaws: there is a reason exactly where a script prints its bad line, and for that line. Looking: how the reason is
 -- found. Messages: how it is written. MessageExamples: a script for each reason, and its message.
 -- The theorems. Pieces: the pieces together are what the script prints. Truth: the commits printed are the sequential run's.
--- Examples: 01's sample, computed.
+-- Examples: 01's sample and scripts with B and H, computed.
+pub mod Letters
 pub mod Items
 pub mod Heads
 pub mod Founds

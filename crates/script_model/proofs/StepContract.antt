@@ -38,7 +38,8 @@ use Rattle.script_model.specs.declared.Ask.{Ask}
 use Rattle.script_model.specs.declared.Ask.the-variants as ask
 use Rattle.script_model.specs.declared.Order.{Order}
 use Rattle.script_model.specs.declared.Player.{Player}
-use Rattle.script_model.specs.Language.{withOne, withThree, lettered, parsedLine, stepOf, Steps, flawed, before, stepping}
+use Rattle.script_model.specs.Language.{letterCode, withOne, withThree, lettered, parsedLine}
+use Rattle.script_model.specs.Language.{stepOf, Steps, flawed, before, stepping}
 use Rattle.script_model.specs.Language.{steps}
 use Rattle.script_model.specs.Output.{commitLines, badLine, transcript}
 use Rattle.script_model.specs.Playing.{oneMore, askIn, orderBy, orderAt, player, QuietStep, toldBy, countedBy}
@@ -230,10 +231,7 @@ few-one b k n h =
     (either (Few n) (eqb b 113) (omega arith) (either (Few n) (eqb b 120) (omega (arith, h)) (omega arith)))
 
 few-three : (b d s imm n : ℕ) → Few n (withThree b d s imm)
-few-three b d s imm n =
-    either (Few n) (eqb b 65) (omega arith)
-    (either (Few n) (eqb b 80) (omega arith)
-    (either (Few n) (eqb b 76) (omega arith) (either (Few n) (eqb b 83) (omega arith) (omega arith))))
+few-three b d s imm n = either (Few n) (ltb 0 (letterCode b)) (omega arith) (omega arith)
 
 few-lettered : (b n : ℕ) (o : Option (List ℕ)) → ((ns : List ℕ) → o ≡ some ns → Within largest ns) → Few n (lettered b o)
 few-lettered b n none h = omega arith

@@ -11,7 +11,8 @@ use lib.Seq.{sets, length-sets}
 use Rattle.text.specs.Decimal.{decimal}
 use Rattle.text.proofs.Digits.{decimal-length}
 use Rattle.text.proofs.Stores.{sets-append}
-use Rattle.script_model.specs.Output.{letter, numberField, commitLine}
+use Rattle.script_model.specs.Language.{letter}
+use Rattle.script_model.specs.Output.{numberField, commitLine}
 use Rattle.script_model.specs.Playing.{Writes}
 
 pub writes-then : {out mid into xs ys : List ℕ} {at m e : ℕ} → Writes out at xs mid m → Writes mid m ys into e

@@ -26,18 +26,18 @@ use Rattle.script_model.specs.declared.Took.the-variants.{Ends, Grows, W
 use Rattle.script_model.specs.declared.Reason.{Reason}
 use Rattle.script_model.specs.declared.Reason.the-variants as why
 use Rattle.script_model.specs.declared.Flaw.{Flaw}
-use Rattle.script_model.specs.Language.{parsedLine}
+use Rattle.script_model.specs.Language.{letterCode, parsedLine}
 use Rattle.script_model.specs.Output.{most}
 
 -- ---- a line that is none of the forms
 
 -- how many fields a line with this letter has, the letter among them: `i` and `c` alone, `e,k` `q,k` `x,k`, `letter,d,s,imm`
--- with A, P, L or S, and `N,banks,rows,stages,words`; 0 where there is no such letter
+-- with an instruction's letter, and `N,banks,rows,stages,words`; 0 where there is no such letter
 abbrev pub arity : ℕ → ℕ
 arity b =
     cond (eqb b 105 || eqb b 99) 1
     (cond (eqb b 101 || eqb b 113 || eqb b 120) 2
-    (cond (eqb b 65 || eqb b 80 || eqb b 76 || eqb b 83) 4 (cond (eqb b 78) 5 0)))
+    (cond (ltb 0 (letterCode b)) 4 (cond (eqb b 78) 5 0)))
 
 -- how many commas there are
 unfoldable pub commas : List ℕ → ℕ

@@ -5,7 +5,7 @@ use mathlib.Core.List.{List, [], _∷_, _++_}
 use mathlib.Core.Option.{Option, none, some}
 use Prim.Native.Nat.{ℕ, suc, _*_}
 use lib.Dec.{eqb, ltb}
-use lib.ListN.{length, replicate}
+use lib.ListN.{length, getD, replicate}
 use Rattle.text.specs.Fields.{fields}
 use Rattle.text.specs.Lines.{Lines}
 use Rattle.text.specs.computed.Reader.{largest}
@@ -15,6 +15,24 @@ use Rattle.machine_model.specs.Calls.{Call, issue, execute, squash, commit, fin
 use Rattle.script_model.specs.declared.Item.{Item}
 use Rattle.script_model.specs.declared.Item.the-variants.{Malformed, Sizes, Operation, Issue, Execute, Squash, Commit}
 use Rattle.script_model.specs.declared.Item.the-variants.{Finish}
+
+-- ---- the letters of instructions
+
+-- the letters by their codes: A, P, L, S, B and H are 1 to 6, and 0 is no code
+abbrev pub letters : List ℕ
+letters = 0 ∷ 65 ∷ 80 ∷ 76 ∷ 83 ∷ 66 ∷ 72 ∷ []
+
+-- the letter of a code
+abbrev pub letter : ℕ → ℕ
+letter code = getD letters code 0
+
+-- the code of a byte among the letters of the codes from n on; 0 where it is none of them
+unfoldable pub codeFrom : ℕ → List ℕ → ℕ → ℕ
+codeFrom n [] b = 0
+codeFrom n (l ∷ ls) b = cond (eqb b l) n (codeFrom (suc n) ls b)
+
+abbrev pub letterCode : ℕ → ℕ
+letterCode b = codeFrom 0 letters b
 
 -- ---- one line
 
@@ -26,12 +44,9 @@ alone b = cond (eqb b 105) Issue (cond (eqb b 99) Commit Malformed)
 abbrev pub withOne : ℕ → ℕ → Item
 withOne b k = cond (eqb b 101) (Execute k) (cond (eqb b 113) (Squash k) (cond (eqb b 120) (Finish k) Malformed))
 
--- `letter,d,s,imm`: A, P, L and S are the codes 1 to 4
+-- `letter,d,s,imm`
 abbrev pub withThree : ℕ → ℕ → ℕ → ℕ → Item
-withThree b d s imm =
-    cond (eqb b 65) (Operation 1 d s imm)
-    (cond (eqb b 80) (Operation 2 d s imm)
-    (cond (eqb b 76) (Operation 3 d s imm) (cond (eqb b 83) (Operation 4 d s imm) Malformed)))
+withThree b d s imm = cond (ltb 0 (letterCode b)) (Operation (letterCode b) d s imm) Malformed
 
 -- `N,banks,rows,stages,words`
 abbrev pub withFour : ℕ → ℕ → ℕ → ℕ → ℕ → Item

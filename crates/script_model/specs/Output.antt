@@ -1,6 +1,6 @@
 -- What a script prints: text in, bytes out.
 -- Assumes nothing.
-use mathlib.Core.Bool.{cond}
+use mathlib.Core.Bool.{Bool, cond, _||_}
 use mathlib.Core.List.{List, [], _∷_, _++_}
 use mathlib.Core.Option.{Option, none, some}
 use Prim.Native.Nat.{ℕ, suc}
@@ -9,22 +9,19 @@ use lib.ListN.{length, replicate}
 use Rattle.text.specs.Decimal.{decimal}
 use Rattle.text.specs.Lines.{linesOf}
 use Rattle.engine.specs.Conditions.{faults}
-use Rattle.machine_model.specs.Window.{entryAt, reference}
+use Rattle.machine_model.specs.declared.Entry.{Entry}
+use Rattle.machine_model.specs.Window.{entryAt, reference, misaligned}
 use Rattle.machine_model.specs.Calls.{Plain, programDone, opened}
 use Rattle.theorem.specs.Play.{Played, play, start}
 use Rattle.script_model.specs.declared.Ending.{Ending}
 use Rattle.script_model.specs.declared.Ending.the-variants.{Open, Done, Fault}
-use Rattle.script_model.specs.Language.{Steps, Script, script}
-
--- the letter of a code: A, P, L, S
-abbrev pub letter : ℕ → ℕ
-letter code = cond (eqb code 1) 65 (cond (eqb code 2) 80 (cond (eqb code 3) 76 83))
+use Rattle.script_model.specs.Language.{letter, Steps, Script, script}
 
 -- a number and the byte after it: a comma (44) or the line feed (10)
 abbrev pub numberField : ℕ → ℕ → List ℕ
 numberField n b = decimal n ++ (b ∷ [])
 
--- index, letter, register (for S the address) and value
+-- index, letter, register (for S the address, for B and H the byte number) and value (for B and H the whole word stored)
 abbrev pub commitLine : ℕ → ℕ → ℕ → ℕ → List ℕ
 commitLine i code r v = numberField i 44 ++ (letter code ∷ 44 ∷ []) ++ numberField r 44 ++ numberField v 10
 
@@ -45,9 +42,13 @@ unfoldable pub wordLines : ℕ → List ℕ → List ℕ
 wordLines a [] = []
 wordLines a (v ∷ vs) = cond (eqb v 0) [] (wordLine a v) ++ wordLines (suc a) vs
 
--- `done` when all is committed, `fault` when the oldest has executed at an address of W or more, else `open`
+-- it has executed at an address of W or more, or as an H at an odd byte number
+abbrev pub faulted : ℕ → Entry → Bool
+faulted words e = faults words (reference e) || misaligned e
+
+-- `done` when all is committed, `fault` when the oldest has executed where the run faults, else `open`
 abbrev pub ending : Plain → Ending
-ending X = cond (programDone X) Done (cond (faults (X .buffer .words) (reference (entryAt (X .entries) 0))) Fault Open)
+ending X = cond (programDone X) Done (cond (faulted (X .buffer .words) (entryAt (X .entries) 0)) Fault Open)
 
 abbrev pub fate : Ending → List ℕ
 fate Open = 111 ∷ 112 ∷ 101 ∷ 110 ∷ []

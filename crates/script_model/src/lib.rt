@@ -7,6 +7,9 @@ pub const MOST: usize = 65536;
 
 pub const LINE: usize = 80;
 
+// The letters of instructions by their codes; 0 is no code.
+pub const LETTERS: [u8; 7] = [0, b'A', b'P', b'L', b'S', b'B', b'H'];
+
 // What a line says; `Operation` has an instruction's code, d, s and imm.
 pub enum Item {
     Malformed,

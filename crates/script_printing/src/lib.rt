@@ -1,9 +1,11 @@
 // Printing: the lines of commits, of memory words, of a bad line and of the end, written into a lent buffer.
 use script_model::Ending;
+use script_model::LETTERS;
 ghost use mathlib.Core.Path.{_≡_};
 ghost use Prim.Native.Nat.{_+_, _≤_};
 ghost use lib.ListN.{length};
-ghost use Rattle.script_model.specs.Output.{numberField, letter, commitLine, wordLine, endLine, badLine};
+ghost use Rattle.script_model.specs.Language.{letter};
+ghost use Rattle.script_model.specs.Output.{numberField, commitLine, wordLine, endLine, badLine};
 ghost use Rattle.script_model.specs.Playing.{longest, Writes};
 
 // A number and the byte after it.
@@ -20,16 +22,10 @@ fn put_number(out: &mut [u8], at: usize, n: u64, after: u8) -> usize
 fn letter_of(code: u32) -> u8
     ensures { λ r. ⌜ r ≡ letter code ⌝ }
 {
-    if code == 1 {
-        return b'A';
+    if code < 7 {
+        return LETTERS[code as usize];
     }
-    if code == 2 {
-        return b'P';
-    }
-    if code == 3 {
-        return b'L';
-    }
-    b'S'
+    0
 }
 
 // A commit's line.

@@ -2,6 +2,7 @@
 use machine_model::PROGRAM;
 use script_model::Found;
 use script_model::Item;
+use script_model::LETTERS;
 use script_model::Loaded;
 use script_model::MOST;
 use text::Line;
@@ -15,13 +16,13 @@ ghost use Rattle.text.specs.declared.Line.the-variants.{Whole};
 ghost use Rattle.text.specs.computed.Reader.{parsedFields};
 ghost use Rattle.script_model.specs.declared.Found.the-variants.{Nothing};
 ghost use Rattle.script_model.specs.declared.Item.the-variants.{Malformed};
-ghost use Rattle.script_model.specs.Language.{alone, withOne, withThree, withFour, lettered, parsedLine};
+ghost use Rattle.script_model.specs.Language.{letterCode, alone, withOne, withThree, withFour, lettered, parsedLine};
 ghost use Rattle.script_model.specs.Playing.{wordsOf};
 ghost use Rattle.script_model.specs.computed.Parts.{headerOf, foundIn, foundBy, foundAt, Loads};
 
 // The item of the first test that holds; malformed where none does.
-fn choose(p: bool, a: Item, q: bool, b: Item, r: bool, c: Item, s: bool, d: Item) -> Item
-    ensures { λ i. ⌜ i ≡ cond p a (cond q b (cond r c (cond s d Malformed))) ⌝ }
+fn choose(p: bool, a: Item, q: bool, b: Item, r: bool, c: Item) -> Item
+    ensures { λ i. ⌜ i ≡ cond p a (cond q b (cond r c Malformed)) ⌝ }
 {
     if p {
         return a;
@@ -32,10 +33,21 @@ fn choose(p: bool, a: Item, q: bool, b: Item, r: bool, c: Item, s: bool, d: Item
     if r {
         return c;
     }
-    if s {
-        return d;
-    }
     Item::Malformed
+}
+
+// The code of an instruction's letter; 0 where it is none.
+pub fn code_of(b: u8) -> u32
+    ensures { λ r. ⌜ r ≡ letterCode b ⌝ }
+{
+    let mut code: u32 = 0;
+    while code < 7 {
+        if b == LETTERS[code as usize] {
+            return code;
+        }
+        code += 1;
+    }
+    0
 }
 
 // A letter alone.
@@ -43,16 +55,7 @@ fn say_alone(b: u8) -> Item
     ensures { λ r. ⌜ r ≡ alone b ⌝ }
 {
     let none = Item::Malformed;
-    choose(
-        b == b'i',
-        Item::Issue,
-        b == b'c',
-        Item::Commit,
-        false,
-        none,
-        false,
-        none,
-    )
+    choose(b == b'i', Item::Issue, b == b'c', Item::Commit, false, none)
 }
 
 // A letter and one number.
@@ -66,8 +69,6 @@ fn say_one(b: u8, k: u32) -> Item
         Item::Squash(k),
         b == b'x',
         Item::Finish(k),
-        false,
-        Item::Malformed,
     )
 }
 
@@ -75,15 +76,15 @@ fn say_one(b: u8, k: u32) -> Item
 fn say_three(b: u8, d: u32, s: u32, imm: u32) -> Item
     ensures { λ r. ⌜ r ≡ withThree b d s imm ⌝ }
 {
+    let none = Item::Malformed;
+    let code = code_of(b);
     choose(
-        b == b'A',
-        Item::Operation(1, d, s, imm),
-        b == b'P',
-        Item::Operation(2, d, s, imm),
-        b == b'L',
-        Item::Operation(3, d, s, imm),
-        b == b'S',
-        Item::Operation(4, d, s, imm),
+        0 < code,
+        Item::Operation(code, d, s, imm),
+        false,
+        none,
+        false,
+        none,
     )
 }
 
@@ -95,8 +96,6 @@ fn say_four(b: u8, banks: u32, rows: u32, stages: u32, words: u32) -> Item
     choose(
         b == b'N',
         Item::Sizes(banks, rows, stages, words),
-        false,
-        none,
         false,
         none,
         false,
@@ -124,8 +123,6 @@ fn say_fields(b: u8, n: Numbers) -> Item
         three,
         good & (k == 4),
         four,
-        false,
-        Item::Malformed,
     )
 }
 

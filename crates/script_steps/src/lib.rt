@@ -1,4 +1,5 @@
 // What the player's loop is made of: what a line asks for, how a script ends, and small steps on lent slices and numbers.
+use machine_model::Entry;
 use machine_model::FinishAnswer;
 use machine_model::Machine;
 use script_model::Ask;
@@ -9,14 +10,12 @@ use script_model::Phase;
 use table::STAGES;
 use text::Line;
 ghost use mathlib.Core.Path.{_≡_};
-ghost use mathlib.Core.Bool.{_&&_, _||_};
 ghost use Prim.Native.Nat.{_+_, _≤_, _<_};
-ghost use lib.Dec.{eqb, leb};
 ghost use lib.ListN.{length, take};
 ghost use Rattle.marks.specs.Circle.{stage};
 ghost use Rattle.machine_model.specs.Contract.{plain, finishSays};
 ghost use Rattle.theorem.specs.Play.{commitsIn};
-ghost use Rattle.script_model.specs.Output.{ending};
+ghost use Rattle.script_model.specs.Output.{faulted, ending};
 ghost use Rattle.script_model.specs.Playing.{oneMore, askIn, orderAt, wordLineAt, Writes, longest};
 
 // One more; the largest number stays.
@@ -29,11 +28,14 @@ pub fn one_more(n: u64) -> u64
     n
 }
 
-// Whether an executed entry of this kind (1 a load, 2 a store) and place lies outside the memory.
-fn outside(kind: u32, place: u32, words: usize) -> bool
-    ensures { λ r. ⌜ r ≡ (eqb kind 1 || eqb kind 2) && leb words place ⌝ }
+// Whether an entry has executed at an address outside the memory (kinds 1 to 3 access it), or as an H at an odd byte number.
+fn has_faulted(e: Entry, words: usize) -> bool
+    ensures { λ r. ⌜ r ≡ faulted words e ⌝ }
 {
-    ((kind == 1) | (kind == 2)) & (words <= place as usize)
+    let kind = machine_isa::entry_kind(e);
+    let place = machine_isa::entry_place(e);
+    let odd = machine_isa::is_misaligned(e);
+    (((0 < kind) & (kind < 4)) & (words <= place as usize)) | odd
 }
 
 // The stage of position 0.
@@ -66,12 +68,7 @@ pub fn ending_of(m: Machine) -> Ending
         return Ending::Open;
     }
     let window = m.window;
-    let e = window[first];
-    if outside(
-        machine_isa::entry_kind(e),
-        machine_isa::entry_place(e),
-        words,
-    ) {
+    if has_faulted(window[first], words) {
         return Ending::Fault;
     }
     Ending::Open

@@ -1,6 +1,6 @@
 -- The test `lawful` of specs/Check.antt is true exactly where the rules of specs/Rules.antt hold.
 -- A row's marks are one word, and a row is free where that word is 0: it then has no mark, and otherwise some mark.
--- The test of a row that is not free is six facts about its words (Row). From the test to the rules: of two rows with a
+-- The test of a row that is not free is five facts about its words (Row). From the test to the rules: of two rows with a
 -- mark at one stage, the later's marks would meet those taken before it; of two rows with one address, both lie in its
 -- bank, and the later would find the earlier there. From the rules to the test: each word goes by its members.
 -- Assumes nothing.
@@ -24,7 +24,7 @@ use Rattle.marks.proofs.Counts.{every-at, every-from}
 use Rattle.table.specs.declared.Table.{Table}
 use Rattle.table.specs.Limits.{rowsMost, rowsIn, sizesFit}
 use Rattle.table.specs.Bank.{bank}
-use Rattle.table.specs.View.{address, storeMark, mark}
+use Rattle.table.specs.View.{address, mark}
 use Rattle.table.specs.Rules.{Live, Rules}
 use Rattle.table.specs.computed.Check.{marksOf, marksBelow, otherAddress, rowFits, usable, lawfulBy, lawful}
 
@@ -35,12 +35,11 @@ four true true false d h = absurd (false≢true h)
 four true false c d h = absurd (false≢true h)
 four false b c d h = absurd (false≢true h)
 
-six : (a b c d e f : Bool) → (a && b && c && d && e && f) ≡ true
-    → (a ≡ true) × (b ≡ true) × (c ≡ true) × (d ≡ true) × (e ≡ true) × (f ≡ true)
-six a b c d e f h =
-    let w = four (a && b && c) d e f h in
-    let v = four true a b c (w .0) in
-    (v .1, v .2, v .3, w .1, w .2, w .3)
+five : (a b c d e : Bool) → (a && b && c && d && e) ≡ true → (a ≡ true) × (b ≡ true) × (c ≡ true) × (d ≡ true) × (e ≡ true)
+five a b c d e h =
+    let w = four (a && b) c d e h in
+    let v = four true true a b (w .0) in
+    (v .2, v .3, w .1, w .2, w .3)
 
 -- a choice whose first part fails is its second part
 or-second : (a b : Bool) → a ≡ false → (a || b) ≡ true → b ≡ true
@@ -95,7 +94,6 @@ alone t r = otherAddress (t .addresses) (t .loads) (t .stores) (r / rowsMost) (a
 
 -- what the test says of a row that is not free
 record Row (t : Table) (r : ℕ) : Type 0 where
-  one-kind : bitAnd (getD (t .loads) r 0) (getD (t .stores) r 0) ≡ 0
   usable : bitAnd (marks t r) (usableOf t) ≡ marks t r
   fresh : bitAnd (marks t r) (marksBelow (t .loads) (t .stores) r) ≡ 0
   in-bank : r / rowsMost ≡ bank (t .banks) (address t r)
@@ -108,22 +106,20 @@ module _ (t : Table) where
   unfolding rowFits
   fits-row r h used =
       let w =
-      six (eqb (bitAnd (getD (t .loads) r 0) (getD (t .stores) r 0)) 0)
-      (eqb (bitAnd (marks t r) (usableOf t)) (marks t r))
+      five (eqb (bitAnd (marks t r) (usableOf t)) (marks t r))
       (eqb (bitAnd (marks t r) (marksBelow (t .loads) (t .stores) r)) 0)
       (eqb (r / rowsMost) (bank (t .banks) (address t r)))
       (ltb (r % rowsMost) (t .rows))
       (every (alone t r) (r % rowsMost))
       (or-second (eqb (marks t r) 0) _ (ne-eqb (marks t r) 0 used) h) in
       record {
-        one-kind = eqb-true _ _ (w .0);
-        usable = eqb-true _ _ (w .1);
-        fresh = eqb-true _ _ (w .2);
-        in-bank = eqb-true _ _ (w .3);
-        in-rows = ltb-true _ _ (w .4);
+        usable = eqb-true _ _ (w .0);
+        fresh = eqb-true _ _ (w .1);
+        in-bank = eqb-true _ _ (w .2);
+        in-rows = ltb-true _ _ (w .3);
         others = λ i l m e.
             eqb-false _ _
-            (not-true _ (or-second _ _ (ne-eqb _ 0 m) (every-at (alone t r) (r % rowsMost) (w .5) i l))) e;
+            (not-true _ (or-second _ _ (ne-eqb _ 0 m) (every-at (alone t r) (r % rowsMost) (w .4) i l))) e;
       }
 
   row-fits : (r : ℕ) → ((marks t r ≡ 0 → ⊥) → Row t r) → Fits t r
@@ -134,8 +130,7 @@ module _ (t : Table) where
       let w = h (eqb-false (marks t r) 0 e) in
       ap₂ _&&_
       (ap₂ _&&_
-      (ap₂ _&&_
-      (ap₂ _&&_ (ap₂ _&&_ (eq-eqb _ _ (w .one-kind)) (eq-eqb _ _ (w .usable))) (eq-eqb _ _ (w .fresh)))
+      (ap₂ _&&_ (ap₂ _&&_ (eq-eqb _ _ (w .usable)) (eq-eqb _ _ (w .fresh)))
       (eq-eqb _ _ (w .in-bank)))
       (lt-ltb _ _ (w .in-rows)))
       (every-from (alone t r) (r % rowsMost)
@@ -216,9 +211,6 @@ lawful-rules t h =
       start = w .2;
       live = λ r s l m. usable-live t (w .1) (w .2) s (on-usable r s l m) .0;
       executed = λ r s l m. usable-live t (w .1) (w .2) s (on-usable r s l m) .1;
-      one-mark = λ r s l m n.
-          apart (getD (t .loads) r 0) (getD (t .stores) r 0)
-          (rows r s l (ap (λ (a : Bool). a || storeMark t r s) m) .one-kind) s m n;
       one-row = λ r q s k l m n.
           let a : r < q → ⊥ = λ o. fresh-mark t rows r q s l o m n in
           let b : q < r → ⊥ = λ o. fresh-mark t rows q r s k o n m in
@@ -246,7 +238,6 @@ rules-lawful t w =
     row : (r : ℕ) → r < rowsIn (t .banks) → (s : ℕ) × (has (marks t r) s ≡ true) → Row t r
     row r l (s, m) =
         record {
-          one-kind = apart-from (getD (t .loads) r 0) (getD (t .stores) r 0) (λ k. w .one-mark r k l);
           usable =
               inside-from (marks t r) (usableOf t)
               (λ k a.

@@ -24,6 +24,10 @@ loaded a = accessed a true lacks
 abbrev pub stored : ℕ → ℕ → Fate
 stored a v = accessed a false (holds v)
 
+-- a load of an address and a store there of the word made of what was loaded
+abbrev pub merged : ℕ → ℕ → Fate
+merged a v = accessed a true (holds v)
+
 -- A live reference: its issue number (sequence tag) and its fate.
 pub data Ref : Type 0 where
   ref : ℕ → Fate → Ref

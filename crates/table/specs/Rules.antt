@@ -8,7 +8,7 @@ use Rattle.marks.specs.Circle.{position}
 use Rattle.table.specs.declared.Table.{Table}
 use Rattle.table.specs.Limits.{rowsMost, rowsIn, sizesFit}
 use Rattle.table.specs.Bank.{bank}
-use Rattle.table.specs.View.{address, loadMark, storeMark, mark}
+use Rattle.table.specs.View.{address, mark}
 
 -- stage s holds a live reference
 pub record Live (t : Table) (s : ℕ) : Type 0 where
@@ -24,9 +24,8 @@ pub record Rules (t : Table) : Type 0 where
   -- Marks lie on live, executed stages only.
   pub live : (r s : ℕ) → r < rowsIn (t .banks) → mark t r s ≡ true → Live t s
   pub executed : (r s : ℕ) → r < rowsIn (t .banks) → mark t r s ≡ true → has (t .executed) s ≡ true
-  -- Each live stage bears one mark, in one row, if it executed to memory, otherwise none. (That it executed to memory is
-  -- what its marks say.)
-  pub one-mark : (r s : ℕ) → r < rowsIn (t .banks) → loadMark t r s ≡ true → storeMark t r s ≡ true → ⊥
+  -- Each live stage bears its marks (a load's, a store's or both) in one row, if it executed to memory, otherwise none. (That
+  -- it executed to memory is what its marks say.)
   pub one-row : (r q s : ℕ) → r < rowsIn (t .banks) → q < rowsIn (t .banks) → mark t r s ≡ true → mark t q s ≡ true → r ≡ q
   -- No address has two rows (a row without marks is free),
   pub one-address : (r q s u : ℕ) → r < rowsIn (t .banks) → q < rowsIn (t .banks) → mark t r s ≡ true → mark t q u ≡ true

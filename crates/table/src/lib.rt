@@ -178,15 +178,12 @@ pub fn row_fits<'a>(
     requires { ⌜ (length (now addresses) ≡ slots) × (length (now loads) ≡ slots) × (length (now stores) ≡ slots) ⌝ }
     ensures { λ t. ⌜ t ≡ rowFits banks rows allowed (now (addresses .entry)) (now (loads .entry)) (now (stores .entry)) r ⌝ }
 {
-    let load = loads[r];
-    let store = stores[r];
-    let marks = load | store;
+    let marks = loads[r] | stores[r];
     if marks == 0 {
         return true;
     }
     let address = addresses[r];
-    let own = ((load & store) == 0)
-        & ((marks & allowed) == marks)
+    let own = ((marks & allowed) == marks)
         & ((marks & before) == 0)
         & (r / ROWS == bank_of(banks, address))
         & (r % ROWS < rows);

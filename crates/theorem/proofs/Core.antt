@@ -4,7 +4,7 @@
 -- keep the invariant for nothing; issue appends; a commit moves the oldest into registers and memory.
 -- Assumes nothing.
 use mathlib.Core.Path.{_≡_}
-use mathlib.Core.Bool.{Bool, true, false, cond}
+use mathlib.Core.Bool.{Bool, true, false, cond, _||_}
 use mathlib.Core.List.{List, [], _∷_, _++_}
 use mathlib.Core.Option.{Option, some}
 use Prim.Native.Nat.{ℕ, suc, _-_, _*_, _/_, _≤_, _<_}
@@ -26,12 +26,14 @@ use Rattle.machine_model.specs.Window.{
   successor,
   writesTo,
   valueOf,
+  addressBy,
+  misaligned,
   registerSeen,
   referenceBy,
   reference,
   evaluate,
 }
-use Rattle.machine_model.specs.Calls.{waits, valueBy, addressBy, registersAfter, target, refetch}
+use Rattle.machine_model.specs.Calls.{waits, valueBy, registersAfter, target, refetch}
 use Rattle.theorem.specs.Sequential.{runAfter}
 
 -- entries oldest first, committed registers, memory, the next index, and the record and number of commits so far
@@ -97,6 +99,10 @@ cutTo c k es =
       commits = c .commits;
     }
 
+-- the commit of an executed entry gets 13 or 14, where the memory has this many words
+abbrev pub barred : ℕ → Entry → Bool
+barred words e = faults words (reference e) || misaligned e
+
 -- the oldest entry e committed, the entries es left
 abbrev pub afterCommit : Core → Entry → List Entry → Core
 afterCommit c e es =
@@ -127,7 +133,7 @@ pub data Step (program : List ℕ) (c : Core) : Core → Type 0 where
       → Step program c (cutTo c left (take left (set (c .entries) p (entryWith (entryAt (c .entries) p) f))))
   squashing : (k : ℕ) → Step program c (cutTo c k (take k (c .entries)))
   committing : (e : Entry) (es : List Entry) → c .entries ≡ e ∷ es → waits (e .fate) ≡ false
-      → faults (length (c .memory)) (reference e) ≡ false
+      → barred (length (c .memory)) e ≡ false
       → Step program c (afterCommit c e es)
 
 -- an executed entry is what its instruction comes to over the registers and the memory that it sees

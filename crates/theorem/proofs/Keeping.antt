@@ -4,9 +4,9 @@
 -- younger entries stay right as more is known (good-set). A commit's entry is right over the committed registers and memory,
 -- so its value and address are those of the run's next step (run-goes), and what the next entry sees is then committed
 -- (seen-register, seen-written): for that its destination must be a register, hence the well-formed program. The oldest entry
--- is the run's next instruction, so the run ends before it only where its commit faults (ends-so). Assumes nothing.
+-- is the run's next instruction, so the run ends before it only where its commit gets 13 or 14 (ends-so). Assumes nothing.
 use mathlib.Core.Path.{_≡_, refl, sym, ap, subst, _∙_}
-use mathlib.Core.Bool.{Bool, true, false, cond, not, _&&_, _||_, true≢false}
+use mathlib.Core.Bool.{Bool, true, false, cond, not, _&&_, _||_, true≢false, or-false}
 use mathlib.Core.List.{List, [], _∷_, _++_}
 use mathlib.Core.Option.{Option, some, Option·some-injective}
 use Prim.Native.Nat.{ℕ, zero, suc, _+_, _-_, _*_, _/_, _%_, _≤_, _<_}
@@ -21,19 +21,19 @@ use Rattle.table.specs.Reference
 use Rattle.table.specs.Reference.{Side, lacks, holds, waiting, other, accessed}
 use Rattle.lookup.specs.Forwarding
 use Rattle.engine.specs.Execution.{written}
-use Rattle.engine.specs.Conditions.{faults}
 use Rattle.engine.proofs.Written.{set-test, seen-written}
 use Rattle.machine_model.specs.declared.Instruction.{Instruction}
-use Rattle.machine_model.specs.declared.Instruction.the-variants.{Add, Sum, Load, Store}
+use Rattle.machine_model.specs.declared.Instruction.the-variants.{Add, Sum, Load, Store, Byte, Half}
 use Rattle.machine_model.specs.declared.Fate.{Fate}
 use Rattle.machine_model.specs.declared.Fate.the-variants.{Waiting, Executed}
 use Rattle.machine_model.specs.declared.Entry.{Entry}
-use Rattle.machine_model.specs.Program.{instructionAt, codeOf, wellFormed, wellFormedAt, programFits, dOf}
-use Rattle.machine_model.specs.Window.{entryAt, entryWith, writesTo, valueOf, registerSeen, referenceBy, reference, evaluate}
-use Rattle.machine_model.specs.Calls.{waits, valueBy, addressBy, registersAfter, target}
+use Rattle.machine_model.specs.Program.{decoded, instructionAt, codeOf, wellFormed, wellFormedAt, programFits, dOf}
+use Rattle.machine_model.specs.Window.{entryAt, entryWith, writesTo, valueOf, addressBy, registerSeen, referenceBy}
+use Rattle.machine_model.specs.Window.{reference, evaluate}
+use Rattle.machine_model.specs.Calls.{waits, valueBy, registersAfter, target}
 use Rattle.theorem.specs.Sequential.{Run, does, faultsAt, ends, step, runAfter}
 use Rattle.theorem.proofs.Core.{Core, Step, issuing, executing, squashing, committing, seenBy, registersAt, memoryAt}
-use Rattle.theorem.proofs.Core.{clear, SparesAt, Spares, headIndex, cutTo, afterCommit, Right, Good, Kept, fresh}
+use Rattle.theorem.proofs.Core.{clear, SparesAt, Spares, headIndex, cutTo, barred, afterCommit, Right, Good, Kept, fresh}
 use Rattle.theorem.proofs.Knowing.{Tells, unknown-tells, good-more}
 
 -- ---- where issue goes on
@@ -141,6 +141,11 @@ module _ (program : List ℕ) (next : ℕ) (f : Fate) where
 
 -- ---- commit
 
+-- where not one of two holds, neither does
+pub neither : (a b : Bool) → (a || b) ≡ false → (a ≡ false) × (b ≡ false)
+neither true b e = absurd (true≢false e)
+neither false b e = (refl, e)
+
 -- the run past a commit of instruction i with fate f
 abbrev past : Run → Instruction → Fate → Run
 past r i f =
@@ -155,15 +160,21 @@ past r i f =
 abbrev coming : Run → Instruction → Option Fate
 coming r i = evaluate i (λ (k : ℕ). some (getD (r .registers) k 0)) (λ (a : ℕ). getD (r .memory) a 0)
 
--- the run's step does what a commit with fate f does, and faults where that does
+-- the run's next entry, with fate f
+abbrev nextWith : Run → Instruction → Fate → Entry
+nextWith r i f = record { instruction = i; index = r .index; fate = f }
+
+-- the run's step does what a commit with fate f does, and faults where that commit is turned down
 abbrev Does : Run → Instruction → Fate → Type 0
-Does r i f = (does r i ≡ past r i f) × (faultsAt r i ≡ faults (length (r .memory)) (referenceBy i f))
+Does r i f = (does r i ≡ past r i f) × (faultsAt r i ≡ barred (length (r .memory)) (nextWith r i f))
 
 does-so : (r : Run) (i : Instruction) (f : Fate) → coming r i ≡ some f → Does r i f
 does-so r (Add d s imm) f h = subst (Does r (Add d s imm)) (Option·some-injective _ f h) (refl, refl)
 does-so r (Sum d s k) f h = subst (Does r (Sum d s k)) (Option·some-injective _ f h) (refl, refl)
-does-so r (Load d s imm) f h = subst (Does r (Load d s imm)) (Option·some-injective _ f h) (refl, refl)
-does-so r (Store d s imm) f h = subst (Does r (Store d s imm)) (Option·some-injective _ f h) (refl, refl)
+does-so r (Load d s imm) f h = subst (Does r (Load d s imm)) (Option·some-injective _ f h) (refl, sym (or-false _))
+does-so r (Store d s imm) f h = subst (Does r (Store d s imm)) (Option·some-injective _ f h) (refl, sym (or-false _))
+does-so r (Byte d s imm) f h = subst (Does r (Byte d s imm)) (Option·some-injective _ f h) (refl, sym (or-false _))
+does-so r (Half d s imm) f h = subst (Does r (Half d s imm)) (Option·some-injective _ f h) (refl, refl)
 
 right-known : (i : Instruction) (ρ : ℕ → Option ℕ) (μ : ℕ → ℕ) (f : Fate) → waits f ≡ false → Right i ρ μ f
     → evaluate i ρ μ ≡ some f
@@ -200,14 +211,14 @@ module _ (program memory : List ℕ) (c : Core) (e : Entry) (es : List Entry) (k
     comes : coming (runOf c e) (e .instruction) ≡ some (e .fate)
     comes = right-known (e .instruction) _ _ (e .fate) w (good-oldest .0)
 
-    -- the run ends before an executed oldest entry only where that faults
-    ends-so : ends program (runAfter program memory (c .commits)) ≡ faults (length (c .memory)) (reference e)
+    -- the run ends before an executed oldest entry only where its commit is turned down
+    ends-so : ends program (runAfter program memory (c .commits)) ≡ barred (length (c .memory)) e
     ends-so =
         ap (ends program) run-is
         ∙ rw (lt-leb (length program / 4) (e .index) (good-oldest .2), ← good-oldest .1)
         (does-so (runOf c e) (e .instruction) (e .fate) comes .1)
 
-    run-goes : faults (length (c .memory)) (reference e) ≡ false
+    run-goes : barred (length (c .memory)) e ≡ false
         → runAfter program memory (suc (c .commits)) ≡ past (runOf c e) (e .instruction) (e .fate)
     unfolding runAfter
     run-goes f =
@@ -225,6 +236,8 @@ seen-register l (Add d s imm) (Executed v a) k w h = set-test some l d k v h
 seen-register l (Sum d s r) (Executed v a) k w h = set-test some l d k v h
 seen-register l (Load d s imm) (Executed v a) k w h = set-test some l d k v h
 seen-register l (Store d s imm) (Executed v a) k w h = refl
+seen-register l (Byte d s imm) (Executed v a) k w h = refl
+seen-register l (Half d s imm) (Executed v a) k w h = refl
 
 -- ---- the destinations exist
 
@@ -233,6 +246,8 @@ does-length r (Add d s imm) = length-set (r .registers) d _
 does-length r (Sum d s k) = length-set (r .registers) d _
 does-length r (Load d s imm) = length-set (r .registers) d _
 does-length r (Store d s imm) = refl
+does-length r (Byte d s imm) = refl
+does-length r (Half d s imm) = refl
 
 after-length : (program memory : List ℕ) (n : ℕ) → length (runAfter program memory n .registers) ≡ 8
 unfolding runAfter
@@ -253,27 +268,29 @@ both false b e = absurd (true≢false (sym e))
 formed-d : (code d s imm : ℕ) → wellFormed code d s imm ≡ true → d < 8
 formed-d code d s imm e =
     let registers : (leb d 7 && leb s 7) ≡ true =
-    both (leb 1 code && leb code 4) (leb d 7 && leb s 7)
-    (both ((leb 1 code && leb code 4) && (leb d 7 && leb s 7)) (not (eqb code 2) || leb imm 7) e .0)
+    both (leb 1 code && leb code 6) (leb d 7 && leb s 7)
+    (both ((leb 1 code && leb code 6) && (leb d 7 && leb s 7)) (not (eqb code 2) || leb imm 7) e .0)
     .1 in
     omega (arith, leb-true d 7 (both (leb d 7) (leb s 7) registers .0))
 
-decoded-d : (t u v : Bool) (d s imm : ℕ)
-    → dOf (cond t (Add d s imm) (cond u (Sum d s imm) (cond v (Load d s imm) (Store d s imm)))) ≡ d
-decoded-d true u v d s imm = refl
-decoded-d false true v d s imm = refl
-decoded-d false false true d s imm = refl
-decoded-d false false false d s imm = refl
+-- a choice between instructions with one d has that d
+chosen-d : (t : Bool) (i j : Instruction) (d : ℕ) → dOf i ≡ d → dOf j ≡ d → dOf (cond t i j) ≡ d
+chosen-d true i j d h k = h
+chosen-d false i j d h k = k
+
+decoded-d : (code d s imm : ℕ) → dOf (decoded code d s imm) ≡ d
+decoded-d code d s imm =
+    chosen-d (eqb code 1) _ _ d refl
+    (chosen-d (eqb code 2) _ _ d refl
+    (chosen-d (eqb code 3) _ _ d refl
+    (chosen-d (eqb code 4) _ _ d refl (chosen-d (eqb code 5) (Byte d s imm) (Half d s imm) d refl refl))))
 
 d-fits : (program : List ℕ) (i : ℕ) → programFits program ≡ true → i < length program / 4
     → dOf (instructionAt program i) < 8
 unfolding programFits
 d-fits program i fits h =
     rw
-    (decoded-d (eqb (getD program (i * 4) 0) 1) (eqb (getD program (i * 4) 0) 2) (eqb (getD program (i * 4) 0) 3)
-    (getD program (i * 4 + 1) 0)
-    (getD program (i * 4 + 2) 0)
-    (getD program (i * 4 + 3) 0))
+    (decoded-d (getD program (i * 4) 0) (getD program (i * 4 + 1) 0) (getD program (i * 4 + 2) 0) (getD program (i * 4 + 3) 0))
     (formed-d (getD program (i * 4) 0) (getD program (i * 4 + 1) 0) (getD program (i * 4 + 2) 0)
     (getD program (i * 4 + 3) 0)
     (every-at (wellFormedAt program) (length program / 4)
@@ -311,7 +328,7 @@ module _ (program memory : List ℕ) where
   kept-commit : (c : Core) (e : Entry) (es : List Entry) → programFits program ≡ true → Kept program memory c
       → c .entries ≡ e ∷ es
       → waits (e .fate) ≡ false
-      → faults (length (c .memory)) (reference e) ≡ false
+      → barred (length (c .memory)) e ≡ false
       → Kept program memory (afterCommit c e es)
   kept-commit c e es fits kept at w f =
       let goes = run-goes program memory c e es kept at w f in
@@ -326,7 +343,7 @@ module _ (program memory : List ℕ) where
         fours = simp length-append (omega (arith, kept .fours));
         good = good-more program (c .next) es _ _ _ _
             (λ j v h. sym (seen-register (c .registers) (e .instruction) (e .fate) j w lies) ∙ h)
-            (λ b h. seen-written (c .memory) (reference e) b f)
+            (λ b h. seen-written (c .memory) (reference e) b (neither _ _ f .0))
             (g .4);
       }
 
@@ -362,10 +379,6 @@ none-after program memory fits kept (squashing k) end = refl
 none-after program memory fits {c} kept (committing e es at w f) end =
     absurd (true≢false (sym end ∙ ends-so program memory c e es kept at w ∙ f))
 
-or-false : (a b : Bool) → (a || b) ≡ false → a ≡ false
-or-false true b e = e
-or-false false b e = refl
-
 -- where it has not, an instruction is left to issue into an empty window
 pub issue-left : (program memory : List ℕ) (c : Core) → Kept program memory c
     → ends program (runAfter program memory (c .commits)) ≡ false
@@ -374,7 +387,7 @@ pub issue-left : (program memory : List ℕ) (c : Core) → Kept program memory 
 issue-left program memory c kept goes empty =
     let next : c .next ≡ runAfter program memory (c .commits) .index =
     ap (λ (l : List Entry). headIndex l (c .next)) (sym empty) ∙ kept .index in
-    omega (arith, leb-false (length program / 4) (runAfter program memory (c .commits) .index) (or-false _ _ goes))
+    omega (arith, leb-false (length program / 4) (runAfter program memory (c .commits) .index) (neither _ _ goes .0))
 
 -- the oldest entry's operands are known
 pub oldest-known : (c : Core) (e : Entry) (es : List Entry) → c .entries ≡ e ∷ es
@@ -387,12 +400,14 @@ oldest-known c e es at = go (e .instruction)
     go (Sum d s k) = (_, _, refl)
     go (Load d s imm) = (_, _, refl)
     go (Store d s imm) = (_, _, refl)
+    go (Byte d s imm) = (_, _, refl)
+    go (Half d s imm) = (_, _, refl)
 
--- and an executed one does not fault
+-- and the commit of an executed one is not turned down
 pub commit-clean : (program memory : List ℕ) → programFits program ≡ true → (c : Core) (e : Entry) (es : List Entry)
     → Kept program memory c
     → ends program (runAfter program memory (c .commits)) ≡ false
     → c .entries ≡ e ∷ es
     → waits (e .fate) ≡ false
-    → faults (length (c .memory)) (reference e) ≡ false
+    → barred (length (c .memory)) e ≡ false
 commit-clean program memory fits c e es kept goes at w = sym (ends-so program memory c e es kept at w) ∙ goes

@@ -12,13 +12,16 @@ use borrow.Author.Tests.{eq-eqb}
 use Rattle.table.specs.Reference
 use Rattle.table.specs.Reference.{Side, lacks, holds, waiting, other, accessed}
 use Rattle.lookup.specs.Forwarding
+use Rattle.engine.specs.declared.Part.{Part}
+use Rattle.engine.specs.declared.Part.the-variants as part
+use Rattle.engine.specs.Part.{wordOf, whole}
 use Rattle.machine_model.specs.declared.Instruction.{Instruction}
-use Rattle.machine_model.specs.declared.Instruction.the-variants.{Add, Sum, Load, Store}
+use Rattle.machine_model.specs.declared.Instruction.the-variants.{Add, Sum, Load, Store, Byte, Half}
 use Rattle.machine_model.specs.declared.Fate.{Fate}
 use Rattle.machine_model.specs.declared.Fate.the-variants.{Waiting, Executed}
 use Rattle.machine_model.specs.declared.Entry.{Entry}
 use Rattle.machine_model.specs.Program.{sum}
-use Rattle.machine_model.specs.Window.{writesTo, valueOf, referenceBy, reference, with₂}
+use Rattle.machine_model.specs.Window.{writesTo, valueOf, referenceBy, reference, with₂, partStored}
 use Rattle.theorem.proofs.Core.{clearMet, clearBy, clear, Right, Good}
 
 -- what x tells, y tells too
@@ -44,22 +47,44 @@ more₂ none y x′ y′ g f k l h = absurd (Option·none-ne-some f h)
 more₂ (some u) none x′ y′ g f k l h = absurd (Option·none-ne-some f h)
 more₂ (some u) (some w) x′ y′ g f k l h = rw (k u refl, l w refl) h
 
--- of a load the word read must be the same
-more-load : (x x′ : Option ℕ) (imm v a : ℕ) (μ μ′ : ℕ → ℕ) → Tells x x′ → μ a ≡ μ′ a
-    → with₂ x (some imm) (λ b c. Executed (μ (sum b c)) (sum b c)) ≡ some (Executed v a)
-    → with₂ x′ (some imm) (λ b c. Executed (μ′ (sum b c)) (sum b c)) ≡ some (Executed v a)
-more-load none x′ imm v a μ μ′ k m h = absurd (Option·none-ne-some (Executed v a) h)
-more-load (some u) x′ imm v a μ μ′ k m h =
-    let at : sum u imm ≡ a = cc in
-    rw (k u refl, at) (let w : μ a ≡ v = ap μ (sym at) ∙ cc in cc)
+-- What an instruction comes to that reads a word, a load or a store of a part: its address is made of its operands, the word
+-- read is at `place` of the address, and its value is made of operands and word.
+abbrev reading : (ℕ → ℕ → ℕ) → (ℕ → ℕ) → (ℕ → ℕ → ℕ → ℕ) → (ℕ → ℕ) → ℕ → ℕ → Fate
+reading address place made μ x y = Executed (made x y (μ (place (address x y)))) (address x y)
+
+-- the word read must be the same
+more-read : (x y x′ y′ : Option ℕ) (address : ℕ → ℕ → ℕ) (place : ℕ → ℕ) (made : ℕ → ℕ → ℕ → ℕ) (v a : ℕ) (μ μ′ : ℕ → ℕ)
+    → Tells x x′ → Tells y y′ → μ (place a) ≡ μ′ (place a)
+    → with₂ x y (reading address place made μ) ≡ some (Executed v a)
+    → with₂ x′ y′ (reading address place made μ′) ≡ some (Executed v a)
+more-read none y x′ y′ address place made v a μ μ′ k l m h = absurd (Option·none-ne-some (Executed v a) h)
+more-read (some u) none x′ y′ address place made v a μ μ′ k l m h = absurd (Option·none-ne-some (Executed v a) h)
+more-read (some u) (some w) x′ y′ address place made v a μ μ′ k l m h =
+    let at : address u w ≡ a = cc in
+    let same : μ′ (place (address u w)) ≡ μ (place (address u w)) =
+    ap (λ (b : ℕ). μ′ (place b)) at ∙ sym m ∙ ap (λ (b : ℕ). μ (place b)) (sym at) in
+    rw (k u refl, l w refl) (ap (λ (z : ℕ). some (Executed (made u w z) (address u w))) same ∙ h)
+
+-- the same of a store of a part
+more-part : (part : Part) (x y x′ y′ : Option ℕ) (imm v a : ℕ) (μ μ′ : ℕ → ℕ) → Tells x x′ → Tells y y′
+    → μ (wordOf a) ≡ μ′ (wordOf a)
+    → with₂ x y (λ b c. partStored part μ (sum b imm) c) ≡ some (Executed v a)
+    → with₂ x′ y′ (λ b c. partStored part μ′ (sum b imm) c) ≡ some (Executed v a)
+more-part part x y x′ y′ imm =
+    more-read x y x′ y′ (λ b c. sum b imm) wordOf (λ b c w. whole part (sum b imm) w c)
 
 right-more : (i : Instruction) (f : Fate) (ρ ρ′ : ℕ → Option ℕ) (μ μ′ : ℕ → ℕ) → ((k : ℕ) → Tells (ρ k) (ρ′ k))
     → SameRead (referenceBy i f) μ μ′ → Right i ρ μ f → Right i ρ′ μ′ f
 right-more i Waiting ρ ρ′ μ μ′ k m h = tt
 right-more (Add d s imm) (Executed v a) ρ ρ′ μ μ′ k m h = more₂ (ρ s) (some imm) (ρ′ s) (some imm) _ _ (k s) (λ w e. e) h
 right-more (Sum d s r) (Executed v a) ρ ρ′ μ μ′ k m h = more₂ (ρ s) (ρ r) (ρ′ s) (ρ′ r) _ _ (k s) (k r) h
-right-more (Load d s imm) (Executed v a) ρ ρ′ μ μ′ k m h = more-load (ρ s) (ρ′ s) imm v a μ μ′ (k s) m h
+right-more (Load d s imm) (Executed v a) ρ ρ′ μ μ′ k m h =
+    more-read (ρ s) (some imm) (ρ′ s) (some imm) sum (λ b. b) (λ b c w. w) v a μ μ′ (k s) (λ w e. e) m h
 right-more (Store d s imm) (Executed v a) ρ ρ′ μ μ′ k m h = more₂ (ρ s) (ρ d) (ρ′ s) (ρ′ d) _ _ (k s) (k d) h
+right-more (Byte d s imm) (Executed v a) ρ ρ′ μ μ′ k m h =
+    more-part part.Byte (ρ s) (ρ d) (ρ′ s) (ρ′ d) imm v a μ μ′ (k s) (k d) m h
+right-more (Half d s imm) (Executed v a) ρ ρ′ μ μ′ k m h =
+    more-part part.Half (ρ s) (ρ d) (ρ′ s) (ρ′ d) imm v a μ μ′ (k s) (k d) m h
 
 -- past an entry
 tells-past : (t : Bool) (x y y′ : Option ℕ) → Tells y y′ → Tells (cond t x y) (cond t x y′)

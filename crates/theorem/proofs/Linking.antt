@@ -2,8 +2,8 @@
 -- call is one step, whose conditions are the checks that it passed; for an execution the buffer owes the rest (Paired). The
 -- references move with the entries, so the result is linked again. Where the window is empty and instructions are left, issue
 -- is accepted; execution of an oldest entry that waits is accepted, as its operands are the committed registers and it never
--- stalls; and so is the commit of an oldest entry that executed without a fault. Assumes nothing.
-use mathlib.Core.Bool.{Bool, true, false, cond, not, _&&_, true≢false, and-eq-true-iff}
+-- stalls; and so is the commit of an oldest entry that executed and is not barred by 13 or 14. Assumes nothing.
+use mathlib.Core.Bool.{Bool, true, false, cond, not, _&&_, _||_, true≢false, and-eq-true-iff}
 use mathlib.Core.List.{List, [], _∷_, _++_}
 use mathlib.Core.Option.{Option, none, some}
 use mathlib.Core.Path.{_≡_, refl, sym, ap, ap₂, fun-ext, _∙_}
@@ -23,12 +23,12 @@ use Rattle.lookup.specs.Forwarding.{seen}
 use Rattle.engine.specs.Execution.{written}
 use Rattle.engine.specs.Conditions.{when, refusal, faults}
 use Rattle.machine_model.specs.declared.Instruction.{Instruction}
-use Rattle.machine_model.specs.declared.Instruction.the-variants.{Add, Sum, Load, Store}
+use Rattle.machine_model.specs.declared.Instruction.the-variants.{Add, Sum, Load, Store, Byte, Half}
 use Rattle.machine_model.specs.declared.Fate.{Fate}
 use Rattle.machine_model.specs.declared.Fate.the-variants.{Waiting, Executed}
 use Rattle.machine_model.specs.declared.Entry.{Entry}
 use Rattle.machine_model.specs.Program.{programFits, codeOf, instructionAt, dOf, sOf, immOf, same}
-use Rattle.machine_model.specs.Window.{entryAt, entryWith, registerSeen, referenceBy, reference, evaluate}
+use Rattle.machine_model.specs.Window.{entryAt, entryWith, misaligned, registerSeen, referenceBy, reference, evaluate}
 use Rattle.machine_model.specs.Calls
 use Rattle.machine_model.specs.Calls.{
   Plain,
@@ -45,7 +45,8 @@ use Rattle.machine_model.specs.Calls.{
 use Rattle.machine_model.specs.Calls.{squashes, commits, openChecks, opened, issueChecks, executeChecks, commitChecks}
 use Rattle.machine_model.proofs.OldestReady.{oldest-leaves}
 use Rattle.theorem.specs.computed.Linked.{Linked}
-use Rattle.theorem.proofs.Core.{issuing, executing, squashing, committing}
+use Rattle.theorem.proofs.Core.{issuing, executing, squashing, barred, committing}
+use Rattle.theorem.proofs.Keeping.{neither}
 use Rattle.theorem.proofs.Paired.{Each, each-next, each-take, each-drop, each-set, Fated, seen-paired, owed}
 use Rattle.theorem.proofs.Links.{steps-quiet, judged-links, passes, program-passes, lent-passes, stays, goes, Links}
 
@@ -255,7 +256,8 @@ module _ (program : List ℕ) (X : Plain) (memory : List ℕ) (linked : Linked p
       let eleven = passes (eqb (length (X .entries)) 0) 10 _ passed in
       let twelve = passes (waits (entryAt (X .entries) 0 .fate)) 11 _ (eleven .1) in
       let e = entryAt (X .entries) 0 in
-      let thirteen = passes (faults (X .buffer .words) (reference e)) 12 0 (twelve .1) in
+      let thirteen = passes (faults (X .buffer .words) (reference e)) 12 _ (twelve .1) in
+      let fourteen = passes (misaligned e) 13 0 (thirteen .1) in
       let live = eqb-false (length (X .entries)) 0 (eleven .0) in
       let fate = linked .fates 0 (omega arith) in
       record {
@@ -268,7 +270,7 @@ module _ (program : List ℕ) (X : Plain) (memory : List ℕ) (linked : Linked p
             rw (fate, add-one n)
             (goes stays
             (committing e (drop 1 (X .entries)) (oldest-first (X .entries) live) (twelve .0)
-            (ap (λ (k : ℕ). faults k (reference e)) (linked .lent) ∙ thirteen .0)));
+            (ap₂ _||_ (ap (λ (k : ℕ). faults k (reference e)) (linked .lent) ∙ thirteen .0) (fourteen .0))));
       })
 
 -- ---- when the oldest's calls are accepted
@@ -283,6 +285,8 @@ all-known (Add d s imm) registers memory = refl
 all-known (Sum d s r) registers memory = refl
 all-known (Load d s imm) registers memory = refl
 all-known (Store d s imm) registers memory = refl
+all-known (Byte d s imm) registers memory = refl
+all-known (Half d s imm) registers memory = refl
 
 -- the operands of the oldest are the committed registers
 oldest-comes : (X : Plain) (memory : List ℕ) → unknown (evaluated X memory 0) ≡ false
@@ -319,13 +323,14 @@ module _ (program : List ℕ) (X : Plain) (memory : List ℕ) (linked : Linked p
         (referenceBy i (known (evaluated X memory 0)))))
         refl)))
 
-    module _ (executed : waits (e .fate) ≡ false) (clean : faults (length memory) (reference e) ≡ false) where
+    module _ (executed : waits (e .fate) ≡ false) (clean : barred (length memory) e ≡ false) where
       pub commit-accepted : refusal (commitChecks program X memory) ≡ 0
       commit-accepted =
           let oldest = ap (λ (ys : List Entry). entryAt ys 0) is in
+          let fine = neither (faults (length memory) (reference e)) (misaligned e) clean in
           lent-passes program X memory linked (drop 2 (commitChecks program X memory))
           ∙ skips _ 11 _ (ne-eqb (length (X .entries)) 0 (λ empty. omega (arith, ap length is)))
           (skips _ 12 _ (ap (λ (y : Entry). waits (y .fate)) oldest ∙ executed)
-          (skips _ 13 0
-          (ap₂ (λ (k : ℕ) (y : Entry). faults k (reference y)) (sym (linked .lent)) oldest ∙ clean)
-          refl))
+          (skips _ 13 _
+          (ap₂ (λ (k : ℕ) (y : Entry). faults k (reference y)) (sym (linked .lent)) oldest ∙ fine .0)
+          (skips _ 14 0 (ap misaligned oldest ∙ fine .1) refl)))

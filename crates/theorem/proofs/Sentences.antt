@@ -1,15 +1,28 @@
 -- What a refusal is, said of the answers themselves: `isRefused` holds of the refusals and of nothing else, a refused call adds
 -- nothing to the record, and `noneRefused` says that no answer is a refusal. And what the number of commits is, said of the
--- calls: the commit calls not refused and the numbers that finish answered. Assumes nothing.
+-- calls: the commit calls not refused and the numbers that finish answered. And what B and H do in the sequential run, said of
+-- memory by its bytes: each byte of the part becomes the register's, every other one stays. Assumes nothing.
 use mathlib.Core.Path.{_≡_, refl, sym, ap, ap₂, _∙_}
-use mathlib.Core.Bool.{Bool, true, false, cond, not, _&&_, true≢false, and-eq-true-iff}
-use mathlib.Core.List.{List, [], _∷_}
-use Prim.Native.Nat.{ℕ}
-use lib.Dec.{eqb}
+use mathlib.Core.Bool.{Bool, true, false, cond, not, _&&_, _||_, true≢false, and-eq-true-iff, or-true}
+use mathlib.Core.List.{List, [], _∷_, _++_}
+use Prim.Native.Nat.{ℕ, _/_, _%_, _<_}
+use native.Mathlib.Omega.{arith}
+use lib.Dec.{eqb, leb}
+use lib.ListN.{length, getD, set}
+use lib.Seq.{getD-set-same, getD-set-other}
+use borrow.Author.Tests.{eq-eqb, ne-eqb, eqb-true, eqb-false}
+use Rattle.engine.specs.declared.Part.{Part}
+use Rattle.engine.specs.declared.Part.the-variants as part
+use Rattle.engine.specs.Part.{wordOf, whole}
+use Rattle.engine.proofs.Parts.{byteOf, byte-stored, half-stored}
 use Rattle.engine.specs.Contract.{refused, named, executed, done, committed, finished}
 use Rattle.engine.specs.Conditions.{refusal}
+use Rattle.machine_model.specs.declared.Instruction.{Instruction}
+use Rattle.machine_model.specs.declared.Instruction.the-variants.{Byte, Half}
+use Rattle.machine_model.specs.Program.{instructionAt}
 use Rattle.machine_model.specs.Calls.{Plain, Call, issue, execute, squash, commit, finish, Answer, Result, respond}
 use Rattle.machine_model.specs.Calls.{issueChecks, executeChecks, squashChecks, commitChecks, finishChecks}
+use Rattle.theorem.specs.Sequential.{Run, putsPart, register, addressOf, does, faultsAt, ends}
 use Rattle.theorem.specs.Play.{recorded, commitsIn, isRefused, noneRefused}
 use Rattle.theorem.proofs.Finishing.{either}
 
@@ -71,3 +84,86 @@ counts program commit X memory =
 counts program (finish k list) X memory =
     either (λ (r : Result). Counts (finish k list) (r .answer)) (eqb (refusal (finishChecks program X memory)) 0) (λ e. refl)
     (λ e. absurd (true≢false e))
+
+-- ---- B and H in the sequential run
+
+-- "The sequential run faults there": it ends before an H at an odd byte number.
+pub odd-ends : (program : List ℕ) (r : Run) (d s imm : ℕ) → instructionAt program (r .index) ≡ Half d s imm
+    → addressOf r s imm % 2 ≡ 1 → ends program r ≡ true
+odd-ends program r d s imm is odd =
+    ap (λ (i : Instruction). leb (length program / 4) (r .index) || faultsAt r i) is
+    ∙ rw (eq-eqb (addressOf r s imm % 2) 1 odd, or-true (leb (length (r .memory)) (wordOf (addressOf r s imm))))
+    (or-true (leb (length program / 4) (r .index)))
+
+-- byte j of memory: its word is a quarter of j rounded down, and lower byte numbers are the lower bits of the word
+abbrev pub byteAt : List ℕ → ℕ → ℕ
+byteAt memory j = byteOf (getD memory (j / 4) 0) (j % 4)
+
+same-test : (a b c d : ℕ) → (a ≡ b → c ≡ d) → (c ≡ d → a ≡ b) → eqb a b ≡ eqb c d
+same-test a b c d there back = go (eqb a b) refl
+  where
+    go : (t : Bool) → eqb a b ≡ t → t ≡ eqb c d
+    go true e = sym (eq-eqb c d (there (eqb-true a b e)))
+    go false e = sym (ne-eqb c d (λ h. eqb-false a b e (back h)))
+
+module _ (r : Run) (b v : ℕ) (lies : wordOf b < length (r .memory)) where
+  -- "The record prints the byte number and the whole word stored", which memory then has.
+  pub part-recorded : (code : ℕ) (part : Part)
+      → let x = putsPart r code part b v in
+      x .record′ ≡ r .record′ ++ (r .index ∷ code ∷ b ∷ getD (x .memory) (wordOf b) 0 ∷ [])
+  part-recorded code part =
+      let w = whole part b (getD (r .memory) (wordOf b) 0) v in
+      ap (λ (u : ℕ). r .record′ ++ (r .index ∷ code ∷ b ∷ u ∷ [])) (sym (getD-set-same (r .memory) (wordOf b) w 0 lies))
+
+  -- where a byte of b's word is that of the whole word, and a byte of another word is none of the part
+  part-bytes : (code : ℕ) (part : Part) (j : ℕ) (t : Bool) (u : ℕ)
+      → (wordOf j ≡ wordOf b
+      → byteOf (whole part b (getD (r .memory) (wordOf b) 0) v) (j % 4) ≡ cond t u (byteOf (getD (r .memory) (wordOf b) 0) (j % 4)))
+      → ((wordOf j ≡ wordOf b → ⊥) → t ≡ false)
+      → byteAt (putsPart r code part b v .memory) j ≡ cond t u (byteAt (r .memory) j)
+  part-bytes code part j t u inside outside = go (eqb (wordOf j) (wordOf b)) refl
+    where
+      w : ℕ
+      w = whole part b (getD (r .memory) (wordOf b) 0) v
+
+      go : (c : Bool) → eqb (wordOf j) (wordOf b) ≡ c
+          → byteOf (getD (set (r .memory) (wordOf b) w) (wordOf j) 0) (j % 4) ≡ cond t u (byteAt (r .memory) j)
+      go true e =
+          let same = eqb-true (wordOf j) (wordOf b) e in
+          rw (same, getD-set-same (r .memory) (wordOf b) w 0 lies) (inside same)
+      go false e =
+          let other = eqb-false (wordOf j) (wordOf b) e in
+          rw (getD-set-other (r .memory) (wordOf b) (wordOf j) w 0 other, outside other) refl
+
+-- "The low byte of register d": byte b of memory becomes it, and every other byte stays.
+pub byte-does : (r : Run) (d s imm j : ℕ)
+    → let b = addressOf r s imm in
+    wordOf b < length (r .memory)
+    → byteAt (does r (Byte d s imm) .memory) j ≡ cond (eqb j b) (register r d % 256) (byteAt (r .memory) j)
+byte-does r d s imm j lies =
+    let b = addressOf r s imm in
+    let w = getD (r .memory) (wordOf b) 0 in
+    part-bytes r b (register r d) lies 5 part.Byte j (eqb j b) (register r d % 256)
+    (λ same.
+    byte-stored w (register r d) b (j % 4) (omega arith)
+    ∙ ap (λ (t : Bool). cond t (register r d % 256) (byteOf w (j % 4)))
+    (same-test (j % 4) (b % 4) j b (λ e. omega arith) (λ e. ap (λ (k : ℕ). k % 4) e)))
+    (λ other. ne-eqb j b (λ e. other (ap wordOf e)))
+
+-- "Its low 16 bits": the two bytes of b's half word become them, lower bits first, and every other byte stays.
+pub half-does : (r : Run) (d s imm j : ℕ)
+    → let b = addressOf r s imm in
+    wordOf b < length (r .memory)
+    → byteAt (does r (Half d s imm) .memory) j
+    ≡ cond (eqb (j / 2) (b / 2)) (byteOf (register r d) (j % 2)) (byteAt (r .memory) j)
+half-does r d s imm j lies =
+    let b = addressOf r s imm in
+    let w = getD (r .memory) (wordOf b) 0 in
+    let place : j % 4 % 2 ≡ j % 2 = omega arith in
+    part-bytes r b (register r d) lies 6 part.Half j (eqb (j / 2) (b / 2)) (byteOf (register r d) (j % 2))
+    (λ same.
+    half-stored w (register r d) b (j % 4) (omega arith)
+    ∙ ap₂ (λ (t : Bool) (k : ℕ). cond t (byteOf (register r d) k) (byteOf w (j % 4)))
+    (same-test (j % 4 / 2) (b % 4 / 2) (j / 2) (b / 2) (λ e. omega arith) (λ e. omega arith))
+    place)
+    (λ other. ne-eqb (j / 2) (b / 2) (λ e. other (omega arith)))

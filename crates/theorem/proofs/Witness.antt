@@ -1,7 +1,8 @@
 -- The record theorem is about something: one program and one list of calls, refused ones and a finish among them, whose history
 -- has a violation, a stage wrap and an eviction, on a buffer of one bank with one row and three stages. Computed are what each
 -- call answers, where the window stood after the wrap, and the record, which the sequential run gives too. What the theorem
--- says is used in the middle, where the run goes on, and at its end.
+-- says is used in the middle, where the run goes on, and at its end. A second program ends at a fault, an H at an odd byte
+-- number.
 -- Assumes nothing.
 use mathlib.Core.Path.{_≡_, refl}
 use mathlib.Core.Bool.{true, false}
@@ -12,8 +13,8 @@ use native.Mathlib.Omega.{arith}
 use lib.ListN.{length, take, drop, replicate}
 use Rattle.marks.specs.Circle.{stage}
 use Rattle.table.specs.Limits.{sizesFit}
-use Rattle.engine.specs.Contract.{refused, named, executed, committed, finished}
-use Rattle.machine_model.specs.Calls.{Call, issue, execute, commit, finish, opened}
+use Rattle.engine.specs.Contract.{refused, done, named, executed, committed, finished}
+use Rattle.machine_model.specs.Calls.{Call, issue, execute, squash, commit, finish, opened}
 use Rattle.theorem.specs.Sequential.{runAfter, ends}
 use Rattle.theorem.specs.Play.{Played, play, start, answersOf, allAccepted}
 use Rattle.theorem.specs.Truth.{next, Truth}
@@ -103,3 +104,34 @@ pub finish-there : ends program (runAfter program memory 4) ≡ true
 unfolding computing sizesFit
 finish-there =
     finish-theorem 1 1 3 8 program memory refl (take 13 calls) 5 (replicate 16 0) .ended 2 refl (omega arith) (omega arith)
+
+-- ---- a run that ends at a fault
+
+-- r1 becomes 511; its low byte is stored at byte 13, its low 16 bits at bytes 14 and 15, and then at byte 13, an odd one
+abbrev parts : List ℕ
+parts = 1 ∷ 1 ∷ 0 ∷ 511 ∷ 5 ∷ 1 ∷ 0 ∷ 13 ∷ 6 ∷ 1 ∷ 0 ∷ 14 ∷ 6 ∷ 1 ∷ 0 ∷ 13 ∷ []
+
+abbrev part-opening : Played
+part-opening = start (opened 1 1 3 8 parts) memory
+
+abbrev part-calls : List Call
+part-calls = issue ∷ issue ∷ issue ∷ execute 0 ∷ execute 2 ∷ execute 1 ∷ finish 5 (replicate 16 0) ∷ commit ∷ squash 0 ∷ []
+
+-- The half word goes first and is squashed by the byte, a store of its word. The finish commits three and leaves the odd one
+-- executed, whose commit is refused.
+pub part-answered : answersOf parts part-opening part-calls
+    ≡ named 0 ∷ named 1 ∷ named 2 ∷ executed 0 none ∷ executed 0 none ∷ executed 0 (some 2) ∷ finished 3 ∷ refused 14 ∷ done ∷ []
+unfolding computing
+part-answered = refl
+
+-- the run's record has the byte numbers and the whole words, and the run has ended
+pub part-recorded : (play parts part-opening part-calls .record′
+    ≡ 0 ∷ 1 ∷ 1 ∷ 511 ∷ 1 ∷ 5 ∷ 13 ∷ 65285 ∷ 2 ∷ 6 ∷ 14 ∷ 33554181 ∷ [])
+    × (ends parts (runAfter parts memory 3) ≡ true)
+unfolding computing
+part-recorded = (refl, refl)
+
+-- though an instruction is left and its place in the window is free again, no further calls commit anything
+pub part-stops : (more : List Call) → play parts (play parts part-opening part-calls) more .commits ≡ 3
+unfolding computing sizesFit
+part-stops more = record-theorem 1 1 3 8 parts memory refl part-calls .stops refl more

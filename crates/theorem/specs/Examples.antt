@@ -5,7 +5,7 @@ use mathlib.Core.Path.{_≡_}
 use mathlib.Core.Bool.{Bool, true, false}
 use mathlib.Core.List.{List, [], _∷_, _++_}
 use mathlib.Core.Option.{none, some}
-use Prim.Native.Nat.{ℕ}
+use Prim.Native.Nat.{ℕ, _+_, _*_}
 use lib.ListN.{length, replicate}
 use Rattle.engine.specs.Contract.{refused, named, executed, done, committed, finished}
 use Rattle.machine_model.specs.Calls.{Call, issue, execute, squash, commit, finish, Answer, opened}
@@ -29,6 +29,32 @@ L = four 3
 
 abbrev pub S : ℕ → ℕ → ℕ → List ℕ
 S = four 4
+
+abbrev pub B : ℕ → ℕ → ℕ → List ℕ
+B = four 5
+
+abbrev pub H : ℕ → ℕ → ℕ → List ℕ
+H = four 6
+
+-- the word with these bytes, that of the lowest number first
+abbrev pub bytes : ℕ → ℕ → ℕ → ℕ → ℕ
+bytes a b c d = a + b * 256 + c * 65536 + d * 16777216
+
+-- two programs with parts of one word, and their records on memory of 0: a byte, a half word over others and a byte of 0; and
+-- a byte into a word stored before it, which is loaded then
+abbrev pub mixed : List ℕ
+mixed = A 1 0 511 ++ B 1 0 3 ++ H 1 0 0 ++ B 0 0 1 ++ L 2 0 0
+
+abbrev pub mixedRecord : List ℕ
+mixedRecord =
+    four 0 1 1 511 ++ four 1 5 3 (bytes 0 0 0 255) ++ four 2 6 0 (bytes 255 1 0 255) ++ four 3 5 1 (bytes 255 0 0 255)
+    ++ four 4 3 2 (bytes 255 0 0 255)
+
+abbrev pub laid : List ℕ
+laid = A 1 0 511 ++ S 1 0 0 ++ B 0 0 0 ++ L 2 0 0
+
+abbrev pub laidRecord : List ℕ
+laidRecord = four 0 1 1 511 ++ four 1 4 0 (bytes 255 1 0 0) ++ four 2 5 0 (bytes 0 1 0 0) ++ four 3 3 2 (bytes 0 1 0 0)
 
 -- ---- the sequential run
 
@@ -70,6 +96,34 @@ ran program lent steps registers memory index numbers ended =
 abbrev pub words : List ℕ
 words = 4 ∷ 5 ∷ 6 ∷ []
 
+-- two words by their bytes, and the registers where r1 has bytes 1, 2, 3 and 4
+abbrev pub first : ℕ
+first = bytes 10 11 12 13
+
+abbrev pub second : ℕ
+second = bytes 20 21 22 23
+
+abbrev pub value : ℕ
+value = bytes 1 2 3 4
+
+-- r1 gets its bytes; then an instruction of this code stores its part at byte b: the word at 0 or at 1 becomes w
+abbrev pub stored : ℕ → ℕ → List ℕ → ℕ → RunExample
+stored code b memory w =
+    ran (A 1 0 value ++ four code 1 0 b) (first ∷ second ∷ []) 2 (0 ∷ value ∷ 0 ∷ 0 ∷ 0 ∷ 0 ∷ 0 ∷ 0 ∷ []) memory 2
+    (four 0 1 1 value ++ four 1 code b w) true
+
+abbrev pub inFirst : ℕ → ℕ → ℕ → RunExample
+inFirst code b w = stored code b (w ∷ second ∷ []) w
+
+abbrev pub inSecond : ℕ → ℕ → ℕ → RunExample
+inSecond code b w = stored code b (first ∷ w ∷ []) w
+
+-- the same is a fault: it has no effect, and the run ends before it
+abbrev pub faulting : ℕ → ℕ → RunExample
+faulting code b =
+    ran (A 1 0 value ++ four code 1 0 b ++ A 2 0 9) (first ∷ second ∷ []) 3 (0 ∷ value ∷ 0 ∷ 0 ∷ 0 ∷ 0 ∷ 0 ∷ 0 ∷ [])
+    (first ∷ second ∷ []) 1 (four 0 1 1 value) true
+
 unfoldable pub runTable : List RunExample
 runTable =
     -- Eight registers at 0, the memory as lent, index 0 and an empty record; an instruction is left.
@@ -105,6 +159,32 @@ runTable =
     -- Addresses are sums modulo 2^32, too.
     ∷ ran (A 1 0 4294967295 ++ L 2 1 2 ++ S 2 1 1) words 3 (0 ∷ 4294967295 ∷ 5 ∷ 0 ∷ 0 ∷ 0 ∷ 0 ∷ 0 ∷ []) (5 ∷ 5 ∷ 6 ∷ []) 3
     (four 0 1 1 4294967295 ++ four 1 3 2 5 ++ four 2 4 0 5) true
+    -- B: the low byte of register d, at each byte of a word; the record has the byte number and the whole word.
+    ∷ inFirst 5 0 (bytes 1 11 12 13) ∷ inFirst 5 1 (bytes 10 1 12 13) ∷ inFirst 5 2 (bytes 10 11 1 13)
+    ∷ inFirst 5 3 (bytes 10 11 12 1) ∷ inSecond 5 4 (bytes 1 21 22 23)
+    -- H: its low 16 bits, the lower ones at the lower byte number.
+    ∷ inFirst 6 0 (bytes 1 2 12 13) ∷ inFirst 6 2 (bytes 10 11 1 2) ∷ inSecond 6 4 (bytes 1 2 22 23)
+    -- Byte 4W - 1 is of the last word, and so is the half word before 4W. A fault is at 4W and past it.
+    ∷ inSecond 5 7 (bytes 20 21 22 1) ∷ inSecond 6 6 (bytes 20 21 1 2)
+    ∷ faulting 5 8 ∷ faulting 6 8 ∷ faulting 5 4294967295 ∷ faulting 6 4294967294
+    -- An H at an odd byte number is a fault, in the memory and past it.
+    ∷ faulting 6 1 ∷ faulting 6 3 ∷ faulting 6 5 ∷ faulting 6 7 ∷ faulting 6 9
+    -- Byte numbers are sums modulo 2^32; s and d are two registers.
+    ∷ ran (A 1 0 4294967295 ++ A 2 0 513 ++ B 2 1 6 ++ H 2 1 3) (first ∷ second ∷ []) 4
+    (0 ∷ 4294967295 ∷ 513 ∷ 0 ∷ 0 ∷ 0 ∷ 0 ∷ 0 ∷ [])
+    (bytes 10 11 1 2 ∷ bytes 20 1 22 23 ∷ [])
+    4
+    (four 0 1 1 4294967295 ++ four 1 1 2 513 ++ four 2 5 5 (bytes 20 1 22 23) ++ four 3 6 2 (bytes 10 11 1 2)) true
+    -- The sum decides whether an H is odd, not imm.
+    ∷ ran (A 1 0 3 ++ H 1 1 1) (first ∷ second ∷ []) 2 (0 ∷ 3 ∷ 0 ∷ 0 ∷ 0 ∷ 0 ∷ 0 ∷ 0 ∷ []) (first ∷ bytes 3 0 22 23 ∷ []) 2
+    (four 0 1 1 3 ++ four 1 6 4 (bytes 3 0 22 23)) true
+    ∷ ran (A 1 0 3 ++ H 1 1 2) (first ∷ second ∷ []) 2 (0 ∷ 3 ∷ 0 ∷ 0 ∷ 0 ∷ 0 ∷ 0 ∷ 0 ∷ []) (first ∷ second ∷ []) 1
+    (four 0 1 1 3) true
+    -- Parts of one word, one after the other, and a word with a part stored into it.
+    ∷ ran mixed (0 ∷ []) 5 (0 ∷ 511 ∷ bytes 255 0 0 255 ∷ 0 ∷ 0 ∷ 0 ∷ 0 ∷ 0 ∷ []) (bytes 255 0 0 255 ∷ []) 5 mixedRecord true
+    ∷ ran laid (0 ∷ []) 4 (0 ∷ 511 ∷ bytes 0 1 0 0 ∷ 0 ∷ 0 ∷ 0 ∷ 0 ∷ 0 ∷ []) (bytes 0 1 0 0 ∷ []) 4 laidRecord true
+    ∷ ran (B 0 0 3 ++ L 1 0 0 ++ B 0 0 4) (replicate 8 0) 3 (replicate 8 0) (replicate 8 0) 3
+    (four 0 5 3 0 ++ four 1 3 1 0 ++ four 2 5 4 0) true
     ∷ []
 
 -- ---- lists of calls
@@ -189,4 +269,40 @@ callTable =
     -- A fault stops a finish, and leaves the oldest executed; its commit is refused.
     ∷ called (A 1 0 2 ++ L 2 1 0) (4 ∷ 5 ∷ []) (finish 5 (replicate 99 7) ∷ commit ∷ []) (finished 1 ∷ refused 13 ∷ []) false
     (four 0 1 1 2) 1 (commit ∷ [])
+    -- Two bytes of one word, the younger first: it is squashed by the older, and its store goes again.
+    ∷ called (A 1 0 255 ++ B 1 0 0 ++ B 1 0 1) (replicate 8 0)
+    (issue ∷ issue ∷ issue ∷ execute 0 ∷ execute 2 ∷ execute 1 ∷ commit ∷ commit ∷ commit ∷ finish 1 (replicate 4 7) ∷ [])
+    (named 0 ∷ named 1 ∷ named 2 ∷ executed 0 none ∷ executed 0 none ∷ executed 0 (some 2) ∷ committed 0 1 1 255
+    ∷ committed 1 5 0 255 ∷ refused 11 ∷ finished 1 ∷ [])
+    false (four 0 1 1 255 ++ four 1 5 0 255 ++ four 2 5 1 65535) 3 (issue ∷ execute 0 ∷ commit ∷ [])
+    -- Out of order, with a squash by each part, the record is that of the run; so it is of a finish alone.
+    ∷ called mixed (0 ∷ [])
+    (issue ∷ issue ∷ issue ∷ issue ∷ execute 0 ∷ execute 3 ∷ execute 2 ∷ execute 1 ∷ commit ∷ commit ∷ issue ∷ execute 0
+    ∷ finish 9 (replicate 20 7) ∷ [])
+    (named 0 ∷ named 1 ∷ named 2 ∷ named 3 ∷ executed 0 none ∷ executed 0 none ∷ executed 0 (some 3) ∷ executed 0 (some 2)
+    ∷ committed 0 1 1 511 ∷ committed 1 5 3 (bytes 0 0 0 255) ∷ named 0 ∷ executed 0 none ∷ finished 3 ∷ [])
+    true mixedRecord 5 (issue ∷ execute 0 ∷ commit ∷ [])
+    ∷ called mixed (0 ∷ []) (finish 9 (replicate 20 7) ∷ []) (finished 5 ∷ []) true mixedRecord 5 (issue ∷ execute 0 ∷ commit ∷ [])
+    -- A load goes before a part and is squashed by it; the part went before a store of its word and is squashed by that.
+    ∷ called laid (0 ∷ [])
+    (issue ∷ issue ∷ issue ∷ issue ∷ execute 0 ∷ execute 3 ∷ execute 2 ∷ issue ∷ execute 1 ∷ commit ∷ commit ∷ issue ∷ execute 0
+    ∷ commit ∷ issue ∷ execute 0 ∷ commit ∷ [])
+    (named 0 ∷ named 1 ∷ named 2 ∷ named 3 ∷ executed 0 none ∷ executed 0 none ∷ executed 0 (some 3) ∷ named 3
+    ∷ executed 0 (some 2) ∷ committed 0 1 1 511 ∷ committed 1 4 0 511 ∷ named 0 ∷ executed 0 none ∷ committed 2 5 0 256
+    ∷ named 0 ∷ executed 256 none ∷ committed 3 3 2 256 ∷ [])
+    true laidRecord 4 (issue ∷ execute 0 ∷ commit ∷ [])
+    -- A part and a load take the words of older parts that are not in memory yet; nothing is squashed.
+    ∷ called (B 0 0 3 ++ L 1 0 0 ++ B 0 0 4) (replicate 8 0)
+    (issue ∷ issue ∷ issue ∷ execute 0 ∷ execute 1 ∷ execute 2 ∷ commit ∷ commit ∷ [])
+    (named 0 ∷ named 1 ∷ named 2 ∷ executed 0 none ∷ executed 0 none ∷ executed 0 none ∷ committed 0 5 3 0 ∷ committed 1 3 1 0 ∷ [])
+    true (four 0 5 3 0 ++ four 1 3 1 0) 2 (commit ∷ [])
+    -- A part at 4W stops a finish; one at 4W - 1 does not.
+    ∷ called (A 1 0 7 ++ B 1 0 7 ++ B 1 0 8) (0 ∷ 0 ∷ []) (finish 9 (replicate 99 7) ∷ commit ∷ []) (finished 2 ∷ refused 13 ∷ [])
+    false (four 0 1 1 7 ++ four 1 5 7 (bytes 0 0 0 7)) 2 (commit ∷ [])
+    -- An H at an odd byte number executes, and a load takes the word; no commit and no finish takes it further.
+    ∷ called (A 1 0 7 ++ H 1 0 5 ++ L 2 0 1) (0 ∷ 0 ∷ [])
+    (issue ∷ issue ∷ execute 0 ∷ commit ∷ issue ∷ execute 0 ∷ execute 1 ∷ commit ∷ commit ∷ finish 3 (replicate 99 7) ∷ [])
+    (named 0 ∷ named 1 ∷ executed 0 none ∷ committed 0 1 1 7 ∷ named 1 ∷ executed 0 none ∷ executed 7 none ∷ refused 14
+    ∷ refused 14 ∷ finished 0 ∷ [])
+    false (four 0 1 1 7) 1 (commit ∷ [])
     ∷ []

@@ -20,7 +20,7 @@ const FORWARDS: [(&str, Forward); 5] = [
 ];
 
 const VIOLATIONS: [(&str, Violation); 9] = [
-    ("a load past a store", |w, k, a, _| younger(w, k).find(|&p| marked(&w.live[p], Code::L, a))),
+    ("a load past a store", |w, k, a, _| younger(w, k).find(|&p| marked(&w.live[p], Code::loads, a))),
     ("a load of any address", |w, k, _, _| first_load(w, k, |_| true)),
     ("a load of the bank", |w, k, a, _| first_load(w, k, |b| w.sizes.bank(b) == w.sizes.bank(a))),
     ("a load of the remainder by 64", |w, k, a, _| first_load(w, k, |b| b % 64 == a % 64)),
@@ -91,12 +91,12 @@ fn with_rows(window: &Window, k: usize, address: u32, rows: u32) -> Result<Optio
     Stated.room(&window, k, address)
 }
 
-fn marked(entry: &Entry, code: Code, address: u32) -> bool {
-    entry.is(code) && entry.mark() == Some(address)
+fn marked(entry: &Entry, side: fn(Code) -> bool, address: u32) -> bool {
+    side(entry.code()) && entry.mark() == Some(address)
 }
 
 fn older_stores(window: &Window, k: usize, address: u32) -> impl Iterator<Item = usize> + '_ {
-    (0..k).filter(move |&p| marked(&window.live[p], Code::S, address))
+    (0..k).filter(move |&p| marked(&window.live[p], Code::stores, address))
 }
 
 fn younger(window: &Window, k: usize) -> std::ops::Range<usize> {
@@ -106,7 +106,7 @@ fn younger(window: &Window, k: usize) -> std::ops::Range<usize> {
 /// The first younger one executed to a `near` address, if it is a load.
 fn first_load(window: &Window, k: usize, near: impl Fn(u32) -> bool) -> Option<usize> {
     let first = younger(window, k).find(|&p| window.live[p].mark().is_some_and(&near))?;
-    window.live[first].is(Code::L).then_some(first)
+    window.live[first].code().loads().then_some(first)
 }
 
 /// Room by `choice` among the rows of a bank without a free one, and without one of this address.

@@ -24,8 +24,9 @@ const COMMITS: [(&str, Commits); 14] = [
         m.commit().map(|commit| Commit { target: d, ..commit })
     }),
     ("commit tells the address of L", |m| {
-        let address = m.window.live.first().and_then(Entry::mark);
-        m.commit().map(|commit| Commit { target: address.unwrap_or(commit.target), ..commit })
+        let access = m.window.live.first().and_then(Entry::access);
+        m.commit()
+            .map(|commit| Commit { target: access.map_or(commit.target, |access| access.number), ..commit })
     }),
     ("commit tells 0 for S", |m| {
         m.commit().map(|commit| if commit.code == Code::S { Commit { value: 0, ..commit } } else { commit })
@@ -179,9 +180,7 @@ const FATES: [(&str, FateOf); 12] = [
     ("open where none is live", |m| if m.window.live.is_empty() { "open" } else { m.fate() }),
     ("fault though the oldest waits", |m| if would_fault(m) { "fault" } else { m.fate() }),
     ("fault of a younger one", |m| {
-        let past = |address| address >= m.window.sizes.words;
-        let any = m.window.live.iter().filter_map(Entry::mark).any(past);
-        if any {
+        if m.window.live.iter().any(|entry| m.past(entry)) {
             "fault"
         } else {
             m.fate()
@@ -211,7 +210,7 @@ const FATES: [(&str, FateOf); 12] = [
 ];
 
 /// The oldest, past the end of memory, leaves the window as if it had committed.
-fn passed(machine: &mut Wrong) -> Result<Commit, u32> {
+pub fn passed(machine: &mut Wrong) -> Result<Commit, u32> {
     let Entry { index, instruction: Instruction { code, d, .. }, .. } = machine.window.live.remove(0);
     if code == Code::L {
         machine.registers[d as usize] = 0;

@@ -102,7 +102,7 @@ const EXECUTES: [(&str, Execute); 20] = [
         }
     }),
     ("a load waits for older stores", |m, k| {
-        let older = m.window.live.iter().take(k).any(|entry| entry.is(Code::S) && entry.waits());
+        let older = m.window.live.iter().take(k).any(|entry| entry.code().stores() && entry.waits());
         if older && m.window.live.get(k).is_some_and(|entry| entry.is(Code::L)) {
             Err(9)
         } else {
@@ -118,8 +118,8 @@ const EXECUTES: [(&str, Execute); 20] = [
     ("loads take 0", |m, k| {
         let answer = m.execute(k)?;
         let entry = &mut m.window.live[k];
-        if let (Code::L, address @ Some(_)) = (entry.instruction.code, entry.mark()) {
-            entry.fate = Fate::Executed { value: 0, address };
+        if let (Code::L, access @ Some(_)) = (entry.code(), entry.access()) {
+            entry.fate = Fate::Executed { value: 0, access };
         }
         Ok(answer)
     }),
@@ -133,7 +133,7 @@ const EXECUTES: [(&str, Execute); 20] = [
     ("stores reach memory when executed", |m, k| {
         let answer = m.execute(k)?;
         let entry = m.window.live[k];
-        if let (Code::S, Some(address), Some(value)) = (entry.instruction.code, entry.mark(), entry.value()) {
+        if let (true, Some(address), Some(value)) = (entry.code().stores(), entry.mark(), entry.value()) {
             m.memory.get_mut(address as usize).into_iter().for_each(|word| *word = value);
         }
         Ok(answer)
@@ -141,7 +141,7 @@ const EXECUTES: [(&str, Execute); 20] = [
     ("registers written when executed", |m, k| {
         let answer = m.execute(k)?;
         let entry = m.window.live[k];
-        if let (true, Some(value)) = (entry.instruction.code != Code::S, entry.value()) {
+        if let (false, Some(value)) = (entry.code().stores(), entry.value()) {
             m.registers[entry.instruction.d as usize] = value;
         }
         Ok(answer)
@@ -149,7 +149,7 @@ const EXECUTES: [(&str, Execute); 20] = [
     ("no execution past the end", |m, k| {
         let mut tried = m.clone();
         let answer = tried.execute(k)?;
-        if tried.window.live[k].mark().is_some_and(|address| address >= m.window.sizes.words) {
+        if m.past(&tried.window.live[k]) {
             return Err(13);
         }
         *m = tried;
@@ -190,7 +190,7 @@ fn held(window: &Window, registers: &[u32; 8], register: u32, writer: Option<usi
 }
 
 /// Executes an instruction of this code as another one.
-fn altered(
+pub fn altered(
     machine: &mut Wrong,
     k: usize,
     code: Code,

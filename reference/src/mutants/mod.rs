@@ -4,6 +4,7 @@ mod buffers;
 mod commits;
 mod limits;
 mod machines;
+mod parts;
 mod texts;
 
 use crate::generator::generate;
@@ -11,7 +12,7 @@ use crate::machine::{Commit, Executed, Machine};
 use crate::player::{play, play_by};
 use crate::rules::{Rules, Stated};
 use crate::watch::watch;
-use crate::window::{Instruction, Sizes, Window};
+use crate::window::{Code, Instruction, Sizes, Window};
 use std::sync::OnceLock;
 
 const SCRIPTS: u64 = 3000;
@@ -29,6 +30,9 @@ struct Mutant {
     room: fn(&Window, usize, u32) -> Result<Option<usize>, u32>,
     operand: Operand,
     sum: fn(u32, u32) -> u32,
+    word: fn(Code, u32) -> u32,
+    merge: fn(Code, u32, u32, u32) -> u32,
+    misaligned: fn(Code, u32) -> bool,
     resume: fn(&Window, usize) -> usize,
     opens: fn(Sizes) -> bool,
     takes: fn(usize, bool, Instruction) -> Result<(), &'static str>,
@@ -46,6 +50,9 @@ const RIGHT: Mutant = Mutant {
     room: |window, k, address| Stated.room(window, k, address),
     operand: |window, registers, k, register| Stated.operand(window, registers, k, register),
     sum: |left, right| Stated.sum(left, right),
+    word: |code, number| Stated.word(code, number),
+    merge: |code, byte, word, value| Stated.merge(code, byte, word, value),
+    misaligned: |code, number| Stated.misaligned(code, number),
     resume: |window, from| Stated.resume(window, from),
     opens: |sizes| Stated.opens(sizes),
     takes: |before, stepped, instruction| Stated.takes(before, stepped, instruction),
@@ -76,6 +83,18 @@ impl Rules for Mutant {
 
     fn sum(&self, left: u32, right: u32) -> u32 {
         (self.sum)(left, right)
+    }
+
+    fn word(&self, code: Code, number: u32) -> u32 {
+        (self.word)(code, number)
+    }
+
+    fn merge(&self, code: Code, byte: u32, word: u32, value: u32) -> u32 {
+        (self.merge)(code, byte, word, value)
+    }
+
+    fn misaligned(&self, code: Code, number: u32) -> bool {
+        (self.misaligned)(code, number)
     }
 
     fn resume(&self, window: &Window, from: usize) -> usize {
@@ -162,5 +181,12 @@ fn the_right_one_is_not_told_apart() {
 #[should_panic(expected = "three calls do not commit the next instruction")]
 fn demand_3_is_checked() {
     let mutant = Mutant { violation: |_, _, _, _| None, ..RIGHT };
+    (0..SCRIPTS).for_each(|seed| drop(watch(mutant, &generate(seed))));
+}
+
+#[test]
+#[should_panic(expected = "a commit after the end of the sequential run")]
+fn demand_3_is_checked_at_an_odd_byte() {
+    let mutant = Mutant { misaligned: |_, _| false, ..RIGHT };
     (0..SCRIPTS).for_each(|seed| drop(watch(mutant, &generate(seed))));
 }

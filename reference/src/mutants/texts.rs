@@ -9,7 +9,7 @@ type Reading = fn(&[u8]) -> Vec<u8>;
 /// What is printed in the place of an output.
 type Printing = fn(&str) -> String;
 
-const READINGS: [(&str, Reading); 22] = [
+const READINGS: [(&str, Reading); 26] = [
     ("last line unended taken", |text| {
         let end: &[u8] = if text.is_empty() || text.ends_with(b"\n") { b"" } else { b"\n" };
         [text, end].concat()
@@ -85,18 +85,36 @@ const READINGS: [(&str, Reading); 22] = [
     }),
     ("registers by 3 bits", |text| {
         by_lines(text, |line| {
-            let mut fields: Vec<Vec<u8>> = line.split(|&byte| byte == b',').map(<[u8]>::to_vec).collect();
-            let registers = match fields[0].as_slice() {
-                b"P" => 3,
-                b"A" | b"L" | b"S" => 2,
+            let registers = match line.first() {
+                Some(b'P') => 3,
+                Some(b'A' | b'L' | b'S' | b'B' | b'H') => 2,
                 _ => 0,
             };
-            fields
-                .iter_mut()
-                .skip(1)
-                .take(registers)
-                .for_each(|field| *field = number(field, |n| n as u32 % 8));
-            fields.join(&b',')
+            registers_cut(line, registers)
+        })
+    }),
+    ("registers of B by 3 bits", |text| {
+        by_lines(text, |line| registers_cut(line, if line.starts_with(b"B") { 2 } else { 0 }))
+    }),
+    ("registers of H by 3 bits", |text| {
+        by_lines(text, |line| registers_cut(line, if line.starts_with(b"H") { 2 } else { 0 }))
+    }),
+    ("B and H without imm taken", |text| {
+        by_lines(text, |line| {
+            let short = line.starts_with(b"B,") || line.starts_with(b"H,");
+            let commas = line.iter().filter(|&&byte| byte == b',').count();
+            if short && commas == 2 {
+                [line, b",0"].concat()
+            } else {
+                line.to_vec()
+            }
+        })
+    }),
+    ("B and H exchanged", |text| {
+        by_lines(text, |line| match line.split_first() {
+            Some((b'B', rest)) => [b"H", rest].concat(),
+            Some((b'H', rest)) => [b"B", rest].concat(),
+            _ => line.to_vec(),
         })
     }),
     ("no banks are one", |text| {
@@ -175,10 +193,18 @@ fn number(field: &[u8], other: impl Fn(u128) -> u32) -> Vec<u8> {
     }
 }
 
+/// A line with so many registers cut to 3 bits.
+fn registers_cut(line: &[u8], registers: usize) -> Vec<u8> {
+    let mut fields: Vec<Vec<u8>> = line.split(|&byte| byte == b',').map(<[u8]>::to_vec).collect();
+    let cut = fields.iter_mut().skip(1).take(registers);
+    cut.for_each(|field| *field = number(field, |n| n as u32 % 8));
+    fields.join(&b',')
+}
+
 fn wanted(letter: &[u8]) -> Option<usize> {
     match letter {
         b"N" => Some(5),
-        b"A" | b"P" | b"L" | b"S" => Some(4),
+        b"A" | b"P" | b"L" | b"S" | b"B" | b"H" => Some(4),
         b"e" | b"q" | b"x" => Some(2),
         b"i" | b"c" => Some(1),
         _ => None,

@@ -1,6 +1,6 @@
 -- What an execution comes to, found over the arrays lent, and the table that it leaves.
 -- Assumes nothing.
-use mathlib.Core.Bool.{true, false, cond, _||_}
+use mathlib.Core.Bool.{Bool, true, false, cond, _||_}
 use mathlib.Core.List.{List}
 use Prim.Native.Nat.{ℕ}
 use lib.ListN.{getD, set}
@@ -9,19 +9,21 @@ use Rattle.table.specs.Bank.{bank}
 use Rattle.engine.specs.computed.Steps.{cut, executing, marking}
 use Rattle.lookup.specs.computed.Search.{forward, placeFor, leftAfter}
 use Rattle.engine.specs.declared.Action.{Action}
-use Rattle.engine.specs.declared.Action.the-variants.{Compute, LoadAt, StoreAt}
+use Rattle.engine.specs.declared.Action.the-variants.{Compute, LoadAt, StoreAt, PartAt}
+use Rattle.engine.specs.Part.{wordOf, whole}
 use Rattle.engine.specs.declared.Effect.{Effect}
 
 -- what an action comes to at position p of a table with these parts, over this memory
 abbrev pub effectOf : ℕ → ℕ → ℕ → ℕ → ℕ → List ℕ → List ℕ → List ℕ → List ℕ → ℕ → List ℕ → Action → Effect
 effectOf banks rows stages oldest live addresses loads stores values p memory (Compute v) =
-    record { load = false; store = false; row = 0; left = live; value = v; address = 0 }
+    record { load = false; store = false; row = 0; word = 0; left = live; value = v; address = 0 }
 effectOf banks rows stages oldest live addresses loads stores values p memory (LoadAt a) =
     let q = placeFor oldest stages live rows addresses loads stores (bank banks a) a p in
     record {
       load = true;
       store = false;
       row = q .row;
+      word = a;
       left = q .left;
       value = forward oldest stages stores values (q .row) p (getD memory a 0);
       address = a;
@@ -32,10 +34,27 @@ effectOf banks rows stages oldest live addresses loads stores values p memory (S
       load = false;
       store = true;
       row = q .row;
+      word = a;
       left = leftAfter oldest stages live loads stores (q .row) (q .left) p;
       value = v;
       address = a;
     }
+effectOf banks rows stages oldest live addresses loads stores values p memory (PartAt part b v) =
+    let a = wordOf b in
+    let q = placeFor oldest stages live rows addresses loads stores (bank banks a) a p in
+    record {
+      load = true;
+      store = true;
+      row = q .row;
+      word = a;
+      left = leftAfter oldest stages live loads stores (q .row) (q .left) p;
+      value = whole part b (forward oldest stages stores values (q .row) p (getD memory a 0)) v;
+      address = b;
+    }
+
+-- the value that it answers: a load's, else 0
+abbrev pub answered : Bool → Bool → ℕ → ℕ
+answered load store v = cond load (cond store 0 v) 0
 
 -- the same of a table
 abbrev pub effectAt : Table → ℕ → List ℕ → Action → Effect
@@ -46,7 +65,7 @@ effectAt t p memory act =
 abbrev pub applyEffect : Table → Effect → ℕ → Table
 applyEffect t q s =
     let u = cut t (q .left) in
-    executing u s (cond (q .load || q .store) (set (t .addresses) (q .row) (q .address)) (t .addresses))
+    executing u s (cond (q .load || q .store) (set (t .addresses) (q .row) (q .word)) (t .addresses))
     (marking (u .loads) (q .load) (q .row) s)
     (marking (u .stores) (q .store) (q .row) s)
     (cond (q .store) (set (t .values) s (q .value)) (t .values))

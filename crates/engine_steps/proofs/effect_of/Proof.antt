@@ -24,8 +24,19 @@ returns-3 c =
       c .before .place-of2 .ensures .1,
     )
 
+returns-4 : tie.Need-returns-4
+returns-4 c =
+    let found = c .before .before .before .before in
+    rw (
+      found .before .before .action4 .given .1,
+      c .merge .ensures,
+      c .before .left-after2 .ensures,
+      c .before .before .forwarded2 .ensures,
+      c .before .before .before .word2 .ensures,
+      found .place-of3 .ensures .1,
+    )
+
 pub effect-of-spec : {M : Type 1} → statement M
 effect-of-spec =
     tie.close
-    (tie.spec (search needs) (search needs) (search needs) (search needs) (search needs) (search needs) (search needs)
-    (search needs) returns returns-2 returns-3)
+    (tie.spec (search needs) (search needs) (search needs) (search needs) (search needs) (search needs) (search needs) (search needs) (search needs) (search needs) (search needs) (search needs) (search needs) (search needs) returns returns-2 returns-3 returns-4)

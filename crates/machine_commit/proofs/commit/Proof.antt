@@ -19,7 +19,7 @@ use Rattle.machine_model.specs.Calls.{commit, waits}
 use Rattle.machine_model.specs.computed.Parts.{markWith}
 use Rattle.machine_model.proofs.Sized.{Sized, sized-of}
 use Rattle.machine_model.proofs.Answering.{Passed, check-passes, check-turns}
-use Rattle.machine_model.proofs.Committed.{empty-refused, waiting-refused, fault-refused, commit-meets}
+use Rattle.machine_model.proofs.Committed.{empty-refused, waiting-refused, fault-refused, odd-refused, commit-meets}
 use borrow.Author.Needs.{needs}
 use Rattle.machine_commit.proofs.commit.Statement.{statement}
 use Rattle.machine_commit.proofs.commit.Tie as tie
@@ -50,8 +50,12 @@ executed c = c .before .before .before
 abbrev faultless : tie.Else4 → tie.Else3
 faultless c = c .before .before .before .before .before .before
 
--- from the end back to where the oldest was found not to fault
-abbrev last : tie.After-target-of → tie.Else4
+-- from where the oldest was found aligned back to where it does not wait
+abbrev aligned : tie.Else5 → tie.Else3
+aligned c = faultless (c .before .before)
+
+-- from the end back to where the oldest was found aligned
+abbrev last : tie.After-target-of → tie.Else5
 last c = c .before .before .before .before .before .before .before .before .before .before .before .before .before .before
     .before .before .before
 
@@ -105,44 +109,53 @@ returns-4 c =
     fault-refused _ _ _ (passed-at (l .before)) (live-at l) (executed-at x) _ (mark-at (c .before .before))
     (sym (c .before .mark-faults .ensures) ∙ c .if4 .taken)
 
+returns-5 : tie.Need-returns-5
+returns-5 c =
+    let f = c .before .before in
+    let x = faultless f in
+    let l = executed x in
+    odd-refused _ _ _ (passed-at (l .before)) (live-at l) (executed-at x) _ (mark-at (f .before .before))
+    (sym (f .before .mark-faults .ensures) ∙ f .if4 .left) (sym (c .before .is-misaligned .ensures) ∙ c .if5 .taken)
+
 write-back-requires : tie.Need-write-back-requires
 write-back-requires c κs =
-    let f = c .before in
+    let f = c .before .before .before in
     ap (λ (n : ℕ). faults n (markedFate (f .before .before .oldest-mark .result))) (passed-at (executed (faultless f) .before)
     .words)
     ∙ sym (f .before .mark-faults .ensures) ∙ f .if4 .left
 
 stage-at-requires : tie.Need-stage-at-requires
 stage-at-requires c κs =
-    let l = executed (faultless (c .before .before .before .before .before)) in
+    let l = executed (aligned (c .before .before .before .before .before)) in
     circle-asks _ (rules-at (l .before)) 1 (live-at l)
 
 first-stages-requires : tie.Need-first-stages-requires
 first-stages-requires c κs =
-    let l = executed (faultless (c .before .before .before .before .before .before)) in
+    let l = executed (aligned (c .before .before .before .before .before .before)) in
     next-asks _ (rules-at (l .before)) (c .stage-at .ensures)
 
 keep-requires : tie.Need-keep-requires
-keep-requires c κs = let l = executed (faultless (c .before .before .before .before .before .before .before .before .before
+keep-requires c κs = let l = executed (aligned (c .before .before .before .before .before .before .before .before .before
     .before)) .before in (fits _ (rules-at l) .banks, sized-at (entry l) .lengths .loads)
 
 keep-requires-2 : tie.Need-keep-requires-2
-keep-requires-2 c κs = let l = executed (faultless (c .before .before .before .before .before .before .before .before .before
+keep-requires-2 c κs = let l = executed (aligned (c .before .before .before .before .before .before .before .before .before
     .before .before .before)) .before in (fits _ (rules-at l) .banks, sized-at (entry l) .lengths .stores)
 
 write-register-requires : tie.Need-write-register-requires
 write-register-requires c κs =
-    let f = faultless (c .before .before .before .before .before .before .before .before .before .before .before .before
+    let f = aligned (c .before .before .before .before .before .before .before .before .before .before .before .before
     .before .before) in
     sized-at (entry (executed f .before)) .registers
 
-returns-5 : tie.Need-returns-5
-returns-5 c =
-    let f = last c in
+returns-6 : tie.Need-returns-6
+returns-6 c =
+    let f = last c .before .before in
     let x = faultless f in
     let l = executed x in
     commit-meets _ _ _ (passed-at (l .before)) (live-at l) (executed-at x) _ (mark-at (f .before .before))
-    (sym (f .before .mark-faults .ensures) ∙ f .if4 .left) _ _ _ _ _ _ _ _ _
+    (sym (f .before .mark-faults .ensures) ∙ f .if4 .left) (sym (last c .before .is-misaligned .ensures) ∙ last c .if5 .left) _ _ _
+    _ _ _ _ _ _
     (c .before .before .before .before .before .before .before .before .before .before .before .stage-at .ensures)
     (c .before .before .before .before .before .before .before .before .before .before .first-stages .ensures)
     (c .before .before .before .before .before .before .keep .ensures)
@@ -158,6 +171,6 @@ pub commit-spec : {M : Type 1} → statement M
 commit-spec =
     tie.close
     (tie.spec (λ c κs. search needs) returns returns-2 mul-e array-copy-out-e (search needs) returns-3 at-stage-requires
-    (search needs) (search needs) returns-4 write-back-requires (search needs) stage-at-requires (search needs)
+    (search needs) (search needs) returns-4 (search needs) returns-5 write-back-requires (search needs) stage-at-requires (search needs)
     first-stages-requires (search needs) keep-requires keep-requires-2 write-register-requires (search needs)
-    (search needs) (search needs) returns-5)
+    (search needs) (search needs) returns-6)

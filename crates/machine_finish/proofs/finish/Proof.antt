@@ -5,6 +5,7 @@
 -- with the reason why the rest stops. Assumes nothing.
 use mathlib.Core.Path.{_≡_, refl, sym, ap, _∙_}
 use mathlib.Core.Bool.{true, false, _&&_}
+use mathlib.Core.List.{[]}
 use mathlib.Core.Logic.{⊎-elim}
 use Prim.Native.Nat.{ℕ, _-_, _*_, _<_, _≤_}
 use native.Mathlib.Omega.{arith}
@@ -20,10 +21,11 @@ use Rattle.table.proofs.Sizes.{Sizes}
 use Rattle.lookup.specs.computed.Search.{markedFate}
 use Rattle.machine_model.specs.Program.{sOf}
 use Rattle.engine.specs.Conditions.{faults}
+use Rattle.engine.specs.Contract.{refused, finished}
 use Rattle.machine_model.specs.declared.Entry.{Entry}
-use Rattle.machine_model.specs.Window.{blankEntry, reference}
-use Rattle.machine_model.specs.Calls.{finish, waits, programDone, begun}
-use Rattle.machine_model.specs.Contract.{plain}
+use Rattle.machine_model.specs.Window.{blankEntry, misaligned, reference}
+use Rattle.machine_model.specs.Calls.{commit, finish, waits, programDone, begun}
+use Rattle.machine_model.specs.Contract.{plain, Meets}
 use Rattle.machine_model.specs.computed.Parts.{second, markWith}
 use Rattle.machine_model.proofs.Sounding.{validateOf}
 use Rattle.machine_model.proofs.Sized.{Sized, sized-of}
@@ -56,6 +58,7 @@ use Rattle.machine_model.proofs.FinishStep.{
   taken-bounds,
   ready-taken,
   turn-faults,
+  turn-odd,
   turn-clean,
   turn-commits,
   turn-sized,
@@ -370,16 +373,19 @@ abbrev turning : tie.Joined5 Inv-loop μ-loop → tie.At-loop Inv-loop μ-loop
 turning c = head (more c)
 
 -- from after the oldest's mark was read back to where it has executed; from where it was found not to fault back to its
--- mark; from after its value was read back to both; and from after its numbers were read back to the stages that stay, and
--- to its value
+-- mark; from after its value was read back to where it was found aligned, to where it was found not to fault, and to where it
+-- has executed; and from after its numbers were read back to the stages that stay, and to its value
 abbrev prepared : tie.After-oldest-mark Inv-loop μ-loop → tie.Joined5 Inv-loop μ-loop
 prepared c = c .before .before .before .before .before
 
 abbrev read : tie.Else6 Inv-loop μ-loop → tie.After-oldest-mark Inv-loop μ-loop
 read c = c .before .before
 
+abbrev aligned : tie.After-value-of Inv-loop μ-loop → tie.Else7 Inv-loop μ-loop
+aligned c = c .before .before .before .before .before
+
 abbrev faultless : tie.After-value-of Inv-loop μ-loop → tie.Else6 Inv-loop μ-loop
-faultless c = c .before .before .before .before .before
+faultless c = aligned c .before .before
 
 abbrev committing : tie.After-value-of Inv-loop μ-loop → tie.Joined5 Inv-loop μ-loop
 committing c = prepared (read (faultless c))
@@ -407,6 +413,29 @@ mark-at : (c : tie.After-oldest-mark Inv-loop μ-loop)
     c .oldest-mark .result ≡ markWith (reference (getD (p .if5 .m .window) o blankEntry)) (value (p .if5 .m .table) o)
 mark-at c = rw (c .before .at-stage .ensures) at (c .oldest-mark .ensures)
 
+-- its commit is refused: the finish ends with the oldest executed
+refused-meets : (p : tie.Joined5 Inv-loop μ-loop)
+    → let l = turning p in
+    let a = entry l .args in
+    (r : ℕ) → Meets (a .program .now) (p .if5 .m) commit (l .loop .memory) (refused r) (p .if5 .m) (l .loop .memory) []
+    → Meets (a .program .now) (a .t1) (finish (a .k) (a .list .now)) (a .memory .now) (finished (l .loop .n)) (p .if5 .m)
+    (l .loop .memory)
+    (l .loop .list)
+refused-meets p r meets =
+    let e = more p in
+    let l = turning p in
+    let along = ready-at p .along in
+    let sound = along-passed along .sound in
+    remains-meets _ _ _ (l .loop .m) _ _ _ _ _ _ _ (passed-at (l .before)) (l .loop .inv .2)
+    (turn-stops _ (l .loop .m) (p .if5 .m) _ _ _ _ _ _ (below-at (e .before .before)) (room-at (e .before)) (more-at e)
+    sound
+    (along .is)
+    _
+    r
+    refl
+    meets)
+    sound
+
 same-length-5 : tie.Need-same-length-5 Inv-loop μ-loop
 same-length-5 c = turning (prepared (c .before .before)) .loop .inv .1
 
@@ -417,29 +446,36 @@ returns-4 : tie.Need-returns-4 Inv-loop μ-loop
 returns-4 c =
     let mark = c .before .before in
     let p = prepared mark in
-    let e = more p in
-    let l = turning p in
-    let r = ready-at p in
-    let sound = along-passed (r .along) .sound in
-    remains-meets _ _ _ (l .loop .m) _ _ _ _ _ _ _ (passed-at (l .before)) (l .loop .inv .2)
-    (turn-stops _ (l .loop .m) (p .if5 .m) _ _ _ _ _ _ (below-at (e .before .before)) (room-at (e .before)) (more-at e)
-    sound
-    (r .along .is)
-    _
-    _
-    refl
-    (turn-faults r (mark-at mark) (sym (c .before .mark-faults .ensures) ∙ c .if6 .taken)))
-    sound
+    refused-meets p 13 (turn-faults (ready-at p) (mark-at mark) (sym (c .before .mark-faults .ensures) ∙ c .if6 .taken))
 
--- it does not fault
+-- it does not fault, and is aligned
 clean-at : (c : tie.Else6 Inv-loop μ-loop)
     → faults (prepared (read c) .if5 .m .table .words) (markedFate (read c .oldest-mark .result)) ≡ false
 clean-at c = sym (c .before .mark-faults .ensures) ∙ c .if6 .left
 
+even-at : (c : tie.Else7 Inv-loop μ-loop)
+    → let p = prepared (read (c .before .before)) in
+    misaligned (getD (p .if5 .m .window) (turning p .loop .m .table .oldest) blankEntry) ≡ false
+even-at c = sym (c .before .is-misaligned .ensures) ∙ c .if7 .left
+
+same-length-7 : tie.Need-same-length-7 Inv-loop μ-loop
+same-length-7 c = turning (prepared (read (c .before .before))) .loop .inv .1
+
+same-length-8 : tie.Need-same-length-8 Inv-loop μ-loop
+same-length-8 c = turning (prepared (read (c .before .before))) .loop .inv .2 .size
+
+returns-5 : tie.Need-returns-5 Inv-loop μ-loop
+returns-5 c =
+    let mark = read (c .before .before) in
+    let p = prepared mark in
+    refused-meets p 14
+    (turn-odd (ready-at p) (mark-at mark) (clean-at (c .before .before)) (sym (c .before .is-misaligned .ensures) ∙ c .if7 .taken))
+
 write-back-requires : tie.Need-write-back-requires Inv-loop μ-loop
 write-back-requires c κs =
-    let mark = read (c .before) in
-    turn-clean (ready-at (prepared mark)) (mark-at mark) (clean-at (c .before))
+    let f = c .before .before .before in
+    let mark = read f in
+    turn-clean (ready-at (prepared mark)) (mark-at mark) (clean-at f) (even-at (c .before))
 
 stage-at-requires-2 : tie.Need-stage-at-requires-2 Inv-loop μ-loop
 stage-at-requires-2 c κs = let a = ready-at (committing c) .along in along-asks a 1 (a .some)
@@ -512,7 +548,7 @@ loop-again c =
     let place = t .target-of .ensures in
     let v = value .value-of .ensures in
     let meets =
-    turn-commits r mark (clean-at f) first stay loads stores code place v registers _
+    turn-commits r mark (clean-at f) (even-at (aligned value)) first stay loads stores code place v registers _
     (value .before .before .before .write-back .ensures) in (
       commit-passes (p .if5 .m) _ _ _
           (validate-lent (p .if5 .m) (entry l .args .program .now) _ _ (l .loop .inv .1) (r .along .passes))
@@ -533,11 +569,11 @@ loop-again c =
           refl
           meets)
           (c .before .before .put-four .ensures),
-      turn-sized r mark (clean-at f) first stay loads stores code place v registers,
+      turn-sized r mark (clean-at f) (even-at (aligned value)) first stay loads stores code place v registers,
     )
 
-returns-5 : tie.Need-returns-5 Inv-loop μ-loop
-returns-5 c =
+returns-6 : tie.Need-returns-6 Inv-loop μ-loop
+returns-6 c =
     let l = c .before in
     remains-meets _ _ _ (l .loop .m) _ _ _ _ _ _ _ (passed-at (l .before)) (l .loop .inv .2)
     (finishes-limit _ _ _ _ _ (omega (arith, c .loop-test .left)))
@@ -553,6 +589,6 @@ finish-spec =
     effect-of-requires cut-requires cut-requires-2 including-requires set-word-requires add-mark-requires
     add-mark-requires-2 set-value-requires stage-at-requires mul-f element-copy-out-f mul-t79 element-set-from-m-2
     (search needs) mul-done element-copy-out-done at-stage-requires (search needs) (search needs) same-length-5
-    same-length-6 returns-4 write-back-requires (search needs) stage-at-requires-2 sub-first-stages
+    same-length-6 returns-4 (search needs) same-length-7 same-length-8 returns-5 write-back-requires (search needs) stage-at-requires-2 sub-first-stages
     first-stages-requires sub-m keep-requires keep-requires-2 write-register-requires mul-put-four (search needs)
-    (search needs) put-four-requires add-n loop-less loop-again (search needs) (search needs) returns-5)
+    (search needs) put-four-requires add-n loop-less loop-again (search needs) (search needs) returns-6)

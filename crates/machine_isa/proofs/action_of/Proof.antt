@@ -16,8 +16,15 @@ returns-3 c = rw (c .before .before .i2 .given .1, c .wrapping-add-u323 .ensures
 returns-4 : tie.Need-returns-4
 returns-4 c = rw (c .before .before .i3 .given .1, c .wrapping-add-u324 .ensures)
 
+returns-5 : tie.Need-returns-5
+returns-5 c = rw (c .before .before .i4 .given .1, c .wrapping-add-u325 .ensures)
+
+returns-6 : tie.Need-returns-6
+returns-6 c = rw (c .before .before .i5 .given .1, c .wrapping-add-u326 .ensures)
+
 pub action-of-spec : {M : Type 1} → statement M
 action-of-spec =
     tie.close
     (tie.spec (search needs) (search needs) (search needs) (search needs) (search needs) (search needs) (search needs)
-    (search needs) returns returns-2 returns-3 returns-4)
+    (search needs) (search needs) (search needs) (search needs) (search needs) returns returns-2 returns-3 returns-4
+    returns-5 returns-6)

@@ -15,7 +15,13 @@ returns-3 : tie.Need-returns-3
 returns-3 c = search (needs, eq-eqb, ne-eqb)
 
 returns-4 : tie.Need-returns-4
-returns-4 c = search (needs, ne-eqb)
+returns-4 c = search (needs, eq-eqb, ne-eqb)
+
+returns-5 : tie.Need-returns-5
+returns-5 c = search (needs, eq-eqb, ne-eqb)
+
+returns-6 : tie.Need-returns-6
+returns-6 c = search (needs, ne-eqb)
 
 pub decode-spec : {M : Type 1} → statement M
-decode-spec = tie.close (tie.spec returns returns-2 returns-3 returns-4)
+decode-spec = tie.close (tie.spec returns returns-2 returns-3 returns-4 returns-5 returns-6)

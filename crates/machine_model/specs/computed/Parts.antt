@@ -1,9 +1,9 @@
 -- What the parts of a call compute, as the code does it, over the arrays lent or passed to them.
 -- Assumes nothing.
-use mathlib.Core.Bool.{Bool, cond, not, _&&_}
+use mathlib.Core.Bool.{Bool, cond, not, _&&_, _||_}
 use mathlib.Core.List.{List, [], _∷_}
 use mathlib.Core.Option.{Option, none, some}
-use Prim.Native.Nat.{ℕ, zero, suc, _+_, _*_}
+use Prim.Native.Nat.{ℕ, zero, suc, _+_, _-_, _*_}
 use lib.Dec.{eqb, ltb}
 use lib.Bits.{bitOr}
 use lib.ListN.{length, getD}
@@ -21,9 +21,11 @@ use Rattle.lookup.specs.declared.Mark.the-variants.{Absent}
 use Rattle.lookup.specs.computed.Search.{find}
 use Rattle.engine.specs.declared.Action.{Action}
 use Rattle.engine.specs.declared.Action.the-variants as action
+use Rattle.engine.specs.declared.Part.the-variants as part
 use Rattle.engine.specs.Conditions.{refusal, when}
+use Rattle.engine.specs.Part.{wordOf}
 use Rattle.machine_model.specs.declared.Instruction.{Instruction}
-use Rattle.machine_model.specs.declared.Instruction.the-variants.{Add, Sum, Load, Store}
+use Rattle.machine_model.specs.declared.Instruction.the-variants.{Add, Sum, Load, Store, Byte, Half}
 use Rattle.machine_model.specs.declared.Entry.{Entry}
 use Rattle.machine_model.specs.declared.Operand.{Operand}
 use Rattle.machine_model.specs.declared.Operand.the-variants.{Unknown, Known}
@@ -60,6 +62,8 @@ actionOf (Add d s imm) x y = action.Compute (sum x imm)
 actionOf (Sum d s r) x y = action.Compute (sum x y)
 actionOf (Load d s imm) x y = action.LoadAt (sum x imm)
 actionOf (Store d s imm) x y = action.StoreAt (sum x imm) y
+actionOf (Byte d s imm) x y = action.PartAt part.Byte (sum x imm) y
+actionOf (Half d s imm) x y = action.PartAt part.Half (sum x imm) y
 
 -- the register of an instruction's second operand; of one that has none, the first again
 abbrev pub second : Instruction → ℕ
@@ -67,6 +71,8 @@ second (Add d s imm) = s
 second (Sum d s r) = r
 second (Load d s imm) = s
 second (Store d s imm) = d
+second (Byte d s imm) = d
+second (Half d s imm) = d
 
 -- the union of the sets f i, over the i below n that pass the test
 unfoldable pub union : (ℕ → Bool) → (ℕ → ℕ) → ℕ → ℕ
@@ -78,14 +84,27 @@ abbrev pub marksAt : List ℕ → List ℕ → ℕ → ℕ → ℕ
 marksAt addresses marks b a =
     union (λ (i : ℕ). eqb (getD addresses (b * rowsMost + i) 0) a) (λ (i : ℕ). getD marks (b * rowsMost + i) 0) rowsMost
 
+-- the kind and the address of an executed entry with this code: tests of a number, no jump by the instruction
+abbrev pub kindBy : ℕ → ℕ
+kindBy code = cond (ltb code 3) 0 (cond (ltb code 5) (code - 2) 3)
+
+abbrev pub placeBy : ℕ → ℕ → ℕ
+placeBy code a = cond (ltb code 3) 0 (cond (ltb code 5) a (wordOf a))
+
+-- the kind of an access with these marks; 0 with neither
+abbrev pub markNumber : Bool → Bool → ℕ
+markNumber load store = cond load (cond store 3 1) (cond store 2 0)
+
 -- An entry with this kind and address agrees with the marks of stage s, where `marked` are the stages with a mark. A row
 -- of the address lies in its bank, so no other is read.
 abbrev pub agreesBy : ℕ → ℕ → ℕ → List ℕ → List ℕ → List ℕ → ℕ → ℕ → ℕ → Bool
 agreesBy banks executed marked addresses loads stores kind place s =
     cond (eqb kind 4) (not (has executed s))
     (cond (eqb kind 0) (has executed s && not (has marked s))
-    (cond (eqb kind 1) (has (marksAt addresses loads (bank banks place) place) s)
-    (has (marksAt addresses stores (bank banks place) place) s)))
+    (eqb
+    (markNumber (has (marksAt addresses loads (bank banks place) place) s)
+    (has (marksAt addresses stores (bank banks place) place) s))
+    kind))
 
 -- the same of the entries at the first k positions
 abbrev pub agreeingBy : ℕ → ℕ → ℕ → ℕ → List ℕ → List ℕ → List ℕ → List Entry → ℕ → Bool
@@ -140,4 +159,6 @@ validateBy banks rows stages words oldest live executed addresses loads stores w
 
 -- the mark of the oldest stage, by what its entry is to the buffer; v is the word that the table has at that stage
 abbrev pub markWith : Reference.Fate → ℕ → Mark
-markWith f v = cond (eqb (kindOf f) 1) (mark.Load (placeOf f)) (cond (eqb (kindOf f) 2) (mark.Store (placeOf f) v) Absent)
+markWith f v =
+    cond (eqb (kindOf f) 1) (mark.Load (placeOf f))
+    (cond (eqb (kindOf f) 2 || eqb (kindOf f) 3) (mark.Store (placeOf f) v) Absent)

@@ -5,18 +5,18 @@ use mathlib.Core.Path.{refl}
 use mathlib.Core.Logic.{⊎-elim}
 use native.Mathlib.Omega.{arith}
 use borrow.Author.Needs.{needs}
-use Rattle.buffer_model.specs.Calls.{issue, commit, executeLoad, executeStore, executeOther, squash}
+use Rattle.buffer_model.specs.Calls.{issue, commit, executeLoad, executeStore, executePart, executeOther, squash}
 use Rattle.mixes_buffer.specs.computed.Turns.{ticketed, Served}
 use Rattle.mixes.proofs.Remaining.{Mixing, mixing-all, mixing-called, mixing-changed, mixed}
 use Rattle.mixes_buffer.proofs.mixes_buffer.Statement.{statement}
 use Rattle.mixes_buffer.proofs.mixes_buffer.Tie as tie
 
 abbrev Inv-loop : tie.InvT-loop
-Inv-loop banks rows stages words calls seed when part by memory₀ t₀ sum₀ second₀ left₀ memory t sum second left =
+Inv-loop banks rows stages words calls seed when part by whole memory₀ t₀ sum₀ second₀ left₀ memory t sum second left =
     Mixing ticketed Served when left₀ t₀ memory₀ sum₀ left t memory sum
 
 abbrev μ-loop : tie.MeasureT-loop
-μ-loop banks rows stages words calls seed when part by memory₀ t₀ sum₀ second₀ left₀ memory t sum second left = left
+μ-loop banks rows stages words calls seed when part by whole memory₀ t₀ sum₀ second₀ left₀ memory t sum second left = left
 
 loop-holds : tie.Need-loop-holds Inv-loop μ-loop
 loop-holds c = mixing-all
@@ -46,11 +46,15 @@ loop-again c =
     (w .12 .ensures))
     (⊎-elim
     (λ w.
-    mixing-called inv some told (w .14) (w .15) (w .16) refl (record { call = executeOther _; meets = w .11 .ensures })
-    (w .13 .ensures))
+    mixing-called inv some told (w .17) (w .18) (w .19) refl
+    (record { call = executePart _ _ _ _; meets = w .14 .ensures }) (w .16 .ensures))
+    (⊎-elim
     (λ w.
-    mixing-called inv some told (w .13) (w .14) (w .15) refl (record { call = squash _; meets = w .10 .ensures _ })
-    (w .12 .ensures)))))))
+    mixing-called inv some told (w .15) (w .16) (w .17) refl (record { call = executeOther _; meets = w .12 .ensures })
+    (w .14 .ensures))
+    (λ w.
+    mixing-called inv some told (w .14) (w .15) (w .16) refl (record { call = squash _; meets = w .11 .ensures _ })
+    (w .13 .ensures))))))))
     (c .before .if1 .came)
 
 same-length : tie.Need-same-length Inv-loop μ-loop
@@ -66,6 +70,7 @@ pub mixes-buffer-spec : {M : Type 1} → statement M
 mixes-buffer-spec =
     tie.close
     (tie.spec Inv-loop μ-loop (λ c κs. tt) (λ c κs. tt) (λ c κs. tt) loop-holds (λ c. omega arith) (λ c κs. tt)
+    (λ c κs. tt) (λ c κs. tt) (λ c κs. tt) (λ c κs. tt) (λ c κs. tt) (λ c κs. tt) (λ c κs. tt) (λ c κs. tt) (λ c κs. tt)
+    (λ c κs. tt) (λ c κs. tt) (λ c κs. tt) (search needs) (λ c κs. tt) (λ c κs. tt) (λ c κs. tt) (λ c κs. tt)
     (λ c κs. tt) (λ c κs. tt) (λ c κs. tt) (λ c κs. tt) (λ c κs. tt) (λ c κs. tt) (λ c κs. tt) (λ c κs. tt)
-    (λ c κs. tt) (λ c κs. tt) (λ c κs. tt) (λ c κs. tt) (search needs) (λ c κs. tt) (λ c κs. tt) (λ c κs. tt)
-    (λ c κs. tt) (λ c κs. tt) (λ c κs. tt) (λ c κs. tt) (λ c. omega arith) loop-again same-length returns)
+    (λ c. omega arith) loop-again same-length returns)

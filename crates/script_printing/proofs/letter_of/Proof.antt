@@ -1,20 +1,13 @@
--- `script_printing::letter_of` meets its contract: each branch is one of `letter`, by the tests taken. Assumes nothing.
+-- `script_printing::letter_of` meets its contract: the constant array is the list of the letters. Assumes nothing.
+use mathlib.Core.Path.{sym}
+use lib.ListN.{List·getD-eq-default}
 use borrow.Author.Needs.{needs}
-use borrow.Author.Tests.{eq-eqb, ne-eqb}
+use Rattle.script_model.specs.Language.{letters}
 use Rattle.script_printing.proofs.letter_of.Statement.{statement}
 use Rattle.script_printing.proofs.letter_of.Tie as tie
 
-returns : tie.Need-returns
-returns c = search (needs, eq-eqb)
-
 returns-2 : tie.Need-returns-2
-returns-2 c = search (needs, eq-eqb, ne-eqb)
-
-returns-3 : tie.Need-returns-3
-returns-3 c = search (needs, eq-eqb, ne-eqb)
-
-returns-4 : tie.Need-returns-4
-returns-4 c = search (needs, ne-eqb)
+returns-2 c = sym (List·getD-eq-default letters 0 (c .if1 .left))
 
 pub letter-of-spec : {M : Type 1} → statement M
-letter-of-spec = tie.close (tie.spec returns returns-2 returns-3 returns-4)
+letter-of-spec = tie.close (tie.spec (search needs) (search needs) returns-2)

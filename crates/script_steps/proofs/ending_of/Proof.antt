@@ -1,10 +1,9 @@
 -- `script_steps::ending_of` meets its contract, by script_model/proofs/Endings.antt: with nothing live the two numbers
 -- decide, and otherwise the entry at position 0, if the window has its stage. Assumes nothing.
-use mathlib.Core.Path.{_≡_, refl, sym, ap₂, _∙_}
-use mathlib.Core.Bool.{Bool, true, false, cond, _&&_, _||_}
-use Prim.Native.Nat.{ℕ, _<_}
+use mathlib.Core.Path.{_≡_, refl, sym, _∙_}
+use mathlib.Core.Bool.{Bool, true, false, cond}
+use Prim.Native.Nat.{_<_}
 use native.Mathlib.Omega.{arith}
-use lib.Dec.{eqb, leb}
 use lib.ListN.{length, length-map}
 use borrow.Author.Needs.{needs}
 use Rattle.machine_model.specs.Contract.{plain}
@@ -35,16 +34,12 @@ returns-3 c =
     (omega (arith, c .if3 .taken, window-length (staged .before .before .before))))
 
 -- what the test of the entry says
-told-at : (t : Bool) (c : tie.After-outside) → c .outside .result ≡ t
-    → ending (plain (c .before .before .before .before .before .before .before .before .before .args .m)) ≡ cond t Fault Open
+told-at : (t : Bool) (c : tie.After-has-faulted) → c .has-faulted .result ≡ t
+    → ending (plain (c .before .before .before .before .before .before .before .args .m)) ≡ cond t Fault Open
 told-at t c is =
-    let kinds = c .before .before in
-    let staged = kinds .before .before .before .before in
+    let staged = c .before .before .before .before in
     let m = staged .before .before .before .args .m in
-    ending-entry m _ _ t (live-at (staged .before)) (staged .first-stage .ensures) refl
-    (sym is ∙ c .outside .ensures
-    ∙ ap₂ (λ (k a : ℕ). (eqb k 1 || eqb k 2) && leb (m .table .words) a) (kinds .entry-kind .ensures)
-    (c .before .entry-place .ensures))
+    ending-entry m _ _ t (live-at (staged .before)) (staged .first-stage .ensures) refl (sym is ∙ c .has-faulted .ensures)
 
 returns-4 : tie.Need-returns-4
 returns-4 c = sym (told-at true (c .before) (c .if4 .taken))
@@ -57,4 +52,4 @@ ending-of-spec =
     tie.close
     (tie.spec
     returns returns-2 (λ c κs. search needs) returns-3 (λ c. search needs) (λ c. search needs) (λ c κs. search needs)
-    (λ c κs. search needs) (λ c κs. search needs) returns-4 returns-5)
+    returns-4 returns-5)

@@ -32,8 +32,7 @@ otherAddress addresses loads stores b a i =
 unfoldable pub rowFits : ℕ → ℕ → ℕ → List ℕ → List ℕ → List ℕ → ℕ → Bool
 rowFits banks rows usable addresses loads stores r =
     eqb (marksOf loads stores r) 0
-    || eqb (bitAnd (getD loads r 0) (getD stores r 0)) 0
-    && eqb (bitAnd (marksOf loads stores r) usable) (marksOf loads stores r)
+    || eqb (bitAnd (marksOf loads stores r) usable) (marksOf loads stores r)
     && eqb (bitAnd (marksOf loads stores r) (marksBelow loads stores r)) 0
     && eqb (r / rowsMost) (bank banks (getD addresses r 0))
     && ltb (r % rowsMost) rows
