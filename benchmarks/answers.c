@@ -1,6 +1,6 @@
 // The answers of the buffer and of the machine in Rattle held to those in C, refusals too: on whole states, on states
-// with one part spoiled, at openings, and of finishes, without part stores and with them. Each batch is many runs of a
-// mix; the last line counts batches.
+// with one part spoiled, at openings, and of finishes, without part stores and with them. Every run of the machine ends
+// with a finish. Each batch is many runs of a mix; the last line counts batches.
 #include "both.h"
 
 #include <stdio.h>
@@ -35,15 +35,21 @@ static void close_batch(enum mix mix, const char *name)
     runs = differing = 0;
 }
 
+// The turns of a run of this mix; of a finish there are none before it.
+static uint32_t turns(enum mix mix, uint32_t calls)
+{
+    return mix == FINISH ? 0 : calls;
+}
+
 // A job of this mix with good lengths, after which its program is written and both sides are filled.
 static struct job prepared(enum mix mix, struct sizes sizes)
 {
     struct job j = {.mix = mix, .parts = parts, .sizes = sizes, .seed = seed++, .spoiling.when = NEVER};
-    j.calls = mix == FINISH ? 1 : WHOLE_CALLS;
+    j.calls = turns(mix, WHOLE_CALLS);
     j.limit = 256;
     j.length = sizes.words;
     j.numbers = (mix == FINISH ? 256 : 64) * 4;
-    j.places = 1024;
+    j.places = 256 * PER_COMMIT;
     write_program(j.numbers / 4, j.seed, parts, j.seed % 3 ? 0 : 12);
     fill_both(j.seed);
     return j;
@@ -109,17 +115,19 @@ static void spoiled_machine(struct sizes sizes, size_t part)
     spoiled(MACHINE, sizes, part);
 }
 
-// The last stops of a finish: its limit, its list, the program's end and a fault.
+// The last stops of a finish: its limit, its list, the program's end and a fault, on a machine just opened or after 20
+// or 40 turns.
 static void finishes(struct sizes sizes, size_t part)
 {
     static const uint32_t limits[] = {256, 0, 1, 2, 7, 255, 257, UINT32_MAX};
-    static const size_t places[] = {1024, 0, 3, 4, 7, 8, 1020, 1023, 1028};
+    static const size_t places[] = {1280, 0, 4, 5, 9, 10, 14, 1275, 1279, 1284};
     static const size_t instructions[] = {256, 0, 1, 5};
     struct job j = prepared(FINISH, sizes);
     j.limit = part == 0 ? limits[j.seed % 8] : 256;
-    j.places = part == 1 ? places[j.seed % 9] : 1024;
+    if (part == 1)
+        j.places = places[j.seed % 10];
     j.numbers = 4 * instructions[part == 2 ? j.seed % 4 : 0];
-    j.calls = 1 + j.seed % 3;
+    j.calls = j.seed / 9 % 3 * 20;
     run(&j);
 }
 
@@ -136,7 +144,7 @@ static void openings(enum mix mix)
                     for (size_t more = 0; more < 3; more++) {
                         struct job j = prepared(mix, (struct sizes){banks[b], rows[r], stages[n], words[w]});
                         j.length = j.length + more - (j.length > 0);
-                        j.calls = mix == FINISH ? 1 : 20;
+                        j.calls = turns(mix, 20);
                         run(&j);
                     }
 }
@@ -163,7 +171,7 @@ static void programs(enum mix mix)
                     struct job j = prepared(mix, sizes);
                     size_t at = place < 32 ? place : j.numbers - 36 + place;
                     uint32_t *instruction = program + at / 4 * 4;
-                    j.calls = mix == FINISH ? 1 : 100;
+                    j.calls = turns(mix, 100);
                     j.length += more;
                     instruction[0] = code;
                     instruction[3] %= 8;
@@ -183,7 +191,7 @@ static void byte_numbers(enum mix mix)
                     struct job j = prepared(mix, (struct sizes){2, 2, stages, words[w]});
                     uint32_t byte = (near < 12 ? 0 : 4 * (uint32_t)words[w]) + near % 12 - 6;
                     uint32_t first[] = {1, 2, 0, j.seed * UINT32_C(2654435761), code, 2, 0, byte, 3, 3, 0, byte / 4};
-                    j.calls = 60;
+                    j.calls = turns(mix, 60);
                     memcpy(program, first, sizeof first);
                     run(&j);
                 }
@@ -212,9 +220,9 @@ static void all_spoiled(void)
 {
     static const char *const names[] = {"banks", "rows", "stages", "words", "oldest", "live", "executed",
                                         "load marks", "store marks", "addresses", "marks of a row",
-                                        "count", "entries", "live entries"};
+                                        "count", "entries", "live entries", "distances"};
     char name[64];
-    for (size_t part = 0; part < 14; part++) {
+    for (size_t part = 0; part < 15; part++) {
         snprintf(name, sizeof name, "%s spoiled", names[part]);
         if (part < 11) {
             every_table(spoiled_buffer, part);

@@ -9,11 +9,9 @@ extern uint64_t mixes_buffer(size_t banks, size_t rows, size_t stages, size_t wo
                              uint64_t seed, uint32_t when, size_t part, size_t by, size_t whole,
                              uint32_t *memory, size_t length);
 extern uint64_t mixes_machine(size_t banks, size_t rows, size_t stages, size_t words, uint32_t calls,
-                              uint64_t seed, uint32_t when, size_t part, size_t by, const uint32_t *program,
-                              size_t numbers, uint32_t *memory, size_t length);
-extern uint64_t mixes_finish(size_t banks, size_t rows, size_t stages, size_t words, uint32_t runs,
-                             uint32_t limit, const uint32_t *program, size_t numbers, uint32_t *memory,
-                             size_t length, uint32_t *list, size_t places);
+                              uint64_t seed, uint32_t when, size_t part, size_t by, uint32_t limit,
+                              const uint32_t *program, size_t numbers, uint32_t *memory, size_t length,
+                              uint32_t *list, size_t places);
 
 const char *const mix_names[2][3] = {{"buffer", "machine", "finish"},
                                      {"buffer, parts", "machine, parts", "finish, parts"}};
@@ -72,31 +70,20 @@ static uint64_t in_rattle(const struct job *j)
 {
     struct sizes z = j->sizes;
     struct spoiling w = j->spoiling;
-    switch (j->mix) {
-    case BUFFER:
+    if (j->mix == BUFFER)
         return mixes_buffer(z.banks, z.rows, z.stages, z.words, j->calls, j->seed, w.when, w.part, w.by,
                             whole(j), rattle.memory, j->length);
-    case MACHINE:
-        return mixes_machine(z.banks, z.rows, z.stages, z.words, j->calls, j->seed, w.when, w.part, w.by,
-                             program, j->numbers, rattle.memory, j->length);
-    default:
-        return mixes_finish(z.banks, z.rows, z.stages, z.words, j->calls, j->limit, program, j->numbers,
-                            rattle.memory, j->length, rattle.list, j->places);
-    }
+    return mixes_machine(z.banks, z.rows, z.stages, z.words, j->calls, j->seed, w.when, w.part, w.by, j->limit,
+                         program, j->numbers, rattle.memory, j->length, rattle.list, j->places);
 }
 
 static uint64_t in_c(const struct job *j)
 {
     struct memory memory = {plain.memory, j->length}, list = {plain.list, j->places};
     struct lent lent = {program, j->numbers};
-    switch (j->mix) {
-    case BUFFER:
+    if (j->mix == BUFFER)
         return inplace_buffer(j->sizes, j->calls, j->seed, j->spoiling, whole(j), memory);
-    case MACHINE:
-        return inplace_machine(j->sizes, j->calls, j->seed, j->spoiling, lent, memory);
-    default:
-        return inplace_finish(j->sizes, j->calls, j->limit, lent, memory, list);
-    }
+    return inplace_machine(j->sizes, j->calls, j->seed, j->spoiling, j->limit, lent, memory, list);
 }
 
 double now(void)

@@ -4,12 +4,13 @@
 
 #include "inplace.h"
 
-enum { MOST_WORDS = 4100, MOST_NUMBERS = 1040, MOST_PLACES = 1040, NEVER = -1 };
+enum { MOST_WORDS = 4100, MOST_NUMBERS = 1040, MOST_PLACES = 260 * PER_COMMIT, NEVER = -1 };
 
 enum mix { BUFFER, MACHINE, FINISH };
 
-// A mix to run: `calls` turns, or as many runs of a finish; with part stores among the buffer's stores, or as the
-// program has them. Memory, program and list are lent with these lengths, whatever the sizes say.
+// A mix to run: `calls` turns, and of the machine then a finish; with part stores among the buffer's stores, or as
+// the program has them. A FINISH is a mix of the machine with few turns or none. Memory, program and list are lent
+// with these lengths, whatever the sizes say.
 struct job {
     enum mix mix;
     bool parts;

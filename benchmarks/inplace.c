@@ -167,14 +167,21 @@ static inline struct place place_for(const struct table *t, uint32_t address, si
     return r < 64 ? (struct place){r, t->live} : take_row(t, bank, position);
 }
 
+// A word and how many positions older the store is that it is of; 0: it is memory's.
+struct source {
+    uint32_t word, distance;
+};
+
 // The word that a load at this position takes. An evicted row has younger marks alone.
-static inline uint32_t forwarded(const struct table *t, size_t r, size_t position, uint32_t address,
-                                 struct memory memory)
+static inline struct source forwarded(const struct table *t, size_t r, size_t position, uint32_t address,
+                                      struct memory memory)
 {
     uint32_t older = turned(t, t->stores[r]) & ((UINT32_C(1) << position) - 1);
-    if (older)
-        return t->values[stage_at(t, 31 - __builtin_clz(older))];
-    return address < memory.length ? memory.words[address] : 0;
+    if (older) {
+        size_t nearest = 31 - __builtin_clz(older);
+        return (struct source){t->values[stage_at(t, nearest)], position - nearest};
+    }
+    return (struct source){address < memory.length ? memory.words[address] : 0, 0};
 }
 
 // How many references stay when one at this position stores: those before the first younger stage with a mark, if
@@ -212,7 +219,9 @@ static unsigned load_step(struct table *t, size_t s, uint32_t address, struct me
     struct place place = place_for(t, address, position);
     if (place.left == 0)
         return 10;
-    out->value = forwarded(t, place.row, position, address, memory);
+    struct source source = forwarded(t, place.row, position, address, memory);
+    out->value = source.word;
+    out->distance = source.distance;
     enter(t, s, place, address, out);
     t->loads[place.row] |= UINT32_C(1) << s;
     return 0;
@@ -225,7 +234,7 @@ static unsigned store_step(struct table *t, size_t s, uint32_t address, uint32_t
     if (place.left == 0)
         return 10;
     place.left = left_by_store(t, place, position);
-    out->value = 0;
+    out->value = out->distance = 0;
     enter(t, s, place, address, out);
     t->stores[place.row] |= UINT32_C(1) << s;
     t->values[s] = value;
@@ -251,9 +260,9 @@ static unsigned part_step(struct table *t, size_t s, enum part part, uint32_t by
     struct place place = place_for(t, address, position);
     if (place.left == 0)
         return 10;
-    *whole = merged(part, byte, forwarded(t, place.row, position, address, memory), from);
+    *whole = merged(part, byte, forwarded(t, place.row, position, address, memory).word, from);
     place.left = left_by_store(t, place, position);
-    out->value = 0;
+    out->value = out->distance = 0;
     enter(t, s, place, address, out);
     t->loads[place.row] |= UINT32_C(1) << s;
     t->stores[place.row] |= UINT32_C(1) << s;
@@ -339,7 +348,7 @@ unsigned buffer_other(struct table *t, struct ticket ticket, struct memory memor
     if (why)
         return why;
     t->executed |= UINT32_C(1) << ticket.stage;
-    out->value = 0;
+    out->value = out->distance = 0;
     out->squashed = false;
     return 0;
 }
@@ -479,7 +488,7 @@ static unsigned execute_at(struct machine *m, size_t position, struct memory mem
     struct table *t = &m->table;
     size_t s = stage_at(t, position), live = t->live;
     struct entry *e = &m->window[s];
-    struct outcome outcome = {0, false, {0, 0}};
+    struct outcome outcome = {0, 0, false, {0, 0}};
     uint32_t x, y = 0;
     if (!operand(m, e->s, position, &x) || (e->code == 2 && !operand(m, e->imm, position, &y)) ||
         (e->code >= 4 && !operand(m, e->d, position, &y)))
@@ -500,7 +509,9 @@ static unsigned execute_at(struct machine *m, size_t position, struct memory mem
         e->address = address;
     }
     e->executed = true;
+    e->distance = outcome.distance;
     out->value = outcome.value;
+    out->distance = outcome.distance;
     out->squashed = t->live < live;
     if (out->squashed) {
         out->from = t->live;
@@ -511,7 +522,7 @@ static unsigned execute_at(struct machine *m, size_t position, struct memory mem
 
 // The oldest, which has executed, commits; 13 where its word is past the memory, 14 where it is an H at an odd byte.
 // Its marks are in row r, and the word that a store writes is the table's, as in Rattle (docs/DECISIONS.md).
-static unsigned commit_oldest(struct machine *m, size_t r, struct memory memory, uint32_t record[4])
+static unsigned commit_oldest(struct machine *m, size_t r, struct memory memory, uint32_t record[PER_COMMIT])
 {
     const struct entry *e = &m->window[m->table.oldest];
     if (e->code >= 3 && m->table.addresses[r] >= m->table.words)
@@ -526,6 +537,7 @@ static unsigned commit_oldest(struct machine *m, size_t r, struct memory memory,
     record[1] = e->code;
     record[2] = e->code >= 4 ? e->address : e->d;
     record[3] = e->value;
+    record[4] = e->code == 3 ? e->distance : 0;
     commit_step(&m->table, r);
     return 0;
 }
@@ -586,7 +598,7 @@ unsigned machine_squash(struct machine *m, struct lent program, size_t position)
     return 0;
 }
 
-unsigned machine_commit(struct machine *m, struct lent program, struct memory memory, uint32_t record[4])
+unsigned machine_commit(struct machine *m, struct lent program, struct memory memory, uint32_t record[PER_COMMIT])
 {
     struct marked found;
     unsigned why = verdict(m, program, memory.length, &found);
@@ -609,7 +621,7 @@ unsigned machine_finish(struct machine *m, struct lent program, uint32_t limit, 
     if (why)
         return why;
     size_t n = 0;
-    for (; n < limit && list.length - n * 4 >= 4; n++) {
+    for (; n < limit && list.length - n * PER_COMMIT >= PER_COMMIT; n++) {
         struct result ran;
         if (t->live == 0) {
             if (m->next >= m->count)
@@ -621,7 +633,7 @@ unsigned machine_finish(struct machine *m, struct lent program, uint32_t limit, 
         if (!e->executed)
             execute_at(m, 0, memory, &ran);
         size_t r = e->code >= 3 ? row_of(t, bank_of(t->banks, word_of(e)), word_of(e)) : 64;
-        if (commit_oldest(m, r, memory, list.words + n * 4))
+        if (commit_oldest(m, r, memory, list.words + n * PER_COMMIT))
             break;
     }
     *commits = n;
@@ -650,7 +662,7 @@ static uint64_t with_ticket(uint64_t sum, struct ticket ticket)
     return with(with(sum, ticket.stage), ticket.number);
 }
 
-// The checksum with an answer: a refusal's number, or 100 and what the answer carries.
+// The checksum with an answer: a refusal's number, or 100 and what the answer carries; of a machine's commit its five.
 static uint64_t with_done(uint64_t sum, unsigned why)
 {
     return with(sum, why ? why : 100);
@@ -665,8 +677,17 @@ static uint64_t with_executed(uint64_t sum, unsigned why, const struct outcome *
 {
     if (why)
         return with(sum, why);
-    sum = with(with(sum, 100), out->value);
+    sum = with(with(with(sum, 100), out->value), out->distance);
     return out->squashed ? with_ticket(sum, out->from) : sum;
+}
+
+static uint64_t with_commit(uint64_t sum, unsigned why, const uint32_t record[PER_COMMIT])
+{
+    if (why)
+        return with(sum, why);
+    for (size_t i = 0; i < PER_COMMIT; i++)
+        sum = with(sum, record[i]);
+    return sum;
 }
 
 static size_t stage_drawn(const struct table *t, size_t drawn)
@@ -801,6 +822,9 @@ static void spoil_entry(struct entry *e, size_t what, size_t x)
         e->s = 0;
         e->imm = address;
         break;
+    case 11:
+        e->distance = x % 32768 * 131073;
+        break;
     default:
         // of a waiting entry neither is read
         e->value = 1;
@@ -811,6 +835,7 @@ static void spoil_entry(struct entry *e, size_t what, size_t x)
 static void spoil_machine(struct machine *m, size_t what, size_t x)
 {
     struct table *t = &m->table;
+    size_t s = t->stages ? (t->oldest + x / 128) % t->stages % 16 : 0;
     if (what < 11)
         spoil(t, what, x);
     else if (what == 11)
@@ -818,11 +843,11 @@ static void spoil_machine(struct machine *m, size_t what, size_t x)
     else if (what == 12)
         spoil_entry(&m->window[x / 128 % 16], x % 4, x);
     else
-        spoil_entry(&m->window[t->stages ? (t->oldest + x / 128) % t->stages % 16 : 0], 3 + x % 8, x);
+        spoil_entry(&m->window[s], what == 13 ? 3 + x % 8 : 11, x);
 }
 
 uint64_t inplace_machine(struct sizes sizes, uint32_t calls, uint64_t seed, struct spoiling spoiling,
-                         struct lent program, struct memory memory)
+                         uint32_t limit, struct lent program, struct memory memory, struct memory list)
 {
     struct machine m;
     uint64_t sum = with_done(0, machine_open(&m, sizes, program, memory)), draw = seed;
@@ -845,10 +870,9 @@ uint64_t inplace_machine(struct sizes sizes, uint32_t calls, uint64_t seed, stru
             continue;
         }
         if (kind < 20) {
-            uint32_t record[4];
+            uint32_t record[PER_COMMIT];
             why = machine_commit(&m, program, memory, record);
-            sum = why ? with(sum, why)
-                      : with(with(with(with(sum, record[0]), record[1]), record[2]), record[3]);
+            sum = with_commit(sum, why, record);
             continue;
         }
         size_t p = position_drawn(&m.table, bits(draw) / 32);
@@ -862,23 +886,11 @@ uint64_t inplace_machine(struct sizes sizes, uint32_t calls, uint64_t seed, stru
             sum = with(sum, why);
             continue;
         }
-        sum = with(with(sum, 100), out.value);
+        sum = with(with(with(sum, 100), out.value), out.distance);
         if (out.squashed)
             sum = with(sum, out.from);
     }
-    return sum;
-}
-
-uint64_t inplace_finish(struct sizes sizes, uint32_t runs, uint32_t limit, struct lent program,
-                        struct memory memory, struct memory list)
-{
-    uint64_t sum = 0;
-    for (; runs > 0; runs--) {
-        struct machine m;
-        size_t commits;
-        sum = with_done(sum, machine_open(&m, sizes, program, memory));
-        unsigned why = machine_finish(&m, program, limit, memory, list, &commits);
-        sum = why ? with(sum, why) : with(with(sum, 100), commits);
-    }
-    return sum;
+    size_t commits;
+    unsigned why = machine_finish(&m, program, limit, memory, list, &commits);
+    return why ? with(sum, why) : with(with(sum, 100), commits);
 }

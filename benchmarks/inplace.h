@@ -26,9 +26,10 @@ struct ticket {
 // What a part store replaces: the byte at its byte number, or the half word that holds it.
 enum part { BYTE, HALF };
 
-// The answer of an execution that was not refused.
+// The answer of an execution that was not refused. The distance of a load is how many positions older the store is
+// whose word it took; 0: it took memory's, or is no load.
 struct outcome {
-    uint32_t value;
+    uint32_t value, distance;
     bool squashed;
     struct ticket from;
 };
@@ -37,7 +38,7 @@ struct entry {
     uint32_t code, d, s, imm;
     uint32_t index;
     bool executed;
-    uint32_t value, address;
+    uint32_t value, address, distance;
 };
 
 struct machine {
@@ -49,7 +50,7 @@ struct machine {
 
 // The same of the machine: where references were squashed, the position from which on.
 struct result {
-    uint32_t value;
+    uint32_t value, distance;
     bool squashed;
     size_t from;
 };
@@ -63,6 +64,10 @@ struct memory {
     uint32_t *words;
     size_t length;
 };
+
+// What a commit answers, and the places that it takes in a finish's list: index, code, register (of S, B and H the
+// address), value and distance (of L, else 0).
+enum { PER_COMMIT = 5 };
 
 // Every call answers 0 where it was done, else the number of its refusal.
 unsigned buffer_open(struct table *t, struct sizes sizes, struct memory memory);
@@ -82,7 +87,7 @@ unsigned machine_issue(struct machine *m, struct lent program, size_t *position)
 unsigned machine_execute(struct machine *m, struct lent program, size_t position, struct memory memory,
                          struct result *out);
 unsigned machine_squash(struct machine *m, struct lent program, size_t position);
-unsigned machine_commit(struct machine *m, struct lent program, struct memory memory, uint32_t record[4]);
+unsigned machine_commit(struct machine *m, struct lent program, struct memory memory, uint32_t record[PER_COMMIT]);
 unsigned machine_finish(struct machine *m, struct lent program, uint32_t limit, struct memory memory,
                         struct memory list, size_t *commits);
 
@@ -94,12 +99,10 @@ struct spoiling {
 };
 
 // The mixes of crates/mixes_buffer and mixes_machine, with the same answers. Turns of the kinds 25 to 29 are the
-// buffer's stores, those from `whole` on of a part.
+// buffer's stores, those from `whole` on of a part. The machine is finished at the end.
 uint64_t inplace_buffer(struct sizes sizes, uint32_t calls, uint64_t seed, struct spoiling spoiling,
                         size_t whole, struct memory memory);
 uint64_t inplace_machine(struct sizes sizes, uint32_t calls, uint64_t seed, struct spoiling spoiling,
-                         struct lent program, struct memory memory);
-uint64_t inplace_finish(struct sizes sizes, uint32_t runs, uint32_t limit, struct lent program,
-                        struct memory memory, struct memory list);
+                         uint32_t limit, struct lent program, struct memory memory, struct memory list);
 
 #endif

@@ -35,7 +35,7 @@ static void measure(struct line *lines)
 static void print(const struct line *line)
 {
     const struct job *j = &line->job;
-    double calls = j->mix == FINISH ? j->calls * j->numbers / 4 : j->calls;
+    double calls = j->mix == FINISH ? j->numbers / 4 : j->calls;
     printf("%-14s %3zu %5zux%zu %12.0f %12.0f %8.1f\n", mix_names[j->parts][j->mix], j->sizes.stages,
            j->sizes.banks, j->sizes.rows, line->c / calls, line->r / calls, line->r / line->c);
 }
@@ -49,11 +49,11 @@ int main(void)
         struct job j = {.parts = parts, .sizes = tables[i % 3], .seed = 11, .spoiling.when = NEVER};
         j.mix = parts ? (i - PLAIN) / 3 : i / 6;
         j.sizes.stages = parts || i / 3 % 2 ? 16 : 4;
-        j.calls = j.mix == FINISH ? 1 : 1000;
-        j.limit = 256;
+        j.calls = j.mix == FINISH ? 0 : 1000;
+        j.limit = j.mix == FINISH ? 256 : 0;
         j.length = WORDS;
         j.numbers = (j.mix == FINISH ? 256 : 64) * 4;
-        j.places = 1024;
+        j.places = 256 * PER_COMMIT;
         lines[i] = (struct line){j, 1e18, 1e18};
     }
     measure(lines);

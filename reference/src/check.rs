@@ -1,30 +1,48 @@
-//! Demand 3, asserted of the player itself: its commits are the sequential run, and it never gets stuck.
+//! Demand 3, asserted of the player itself: its commits are the sequential run, and it never gets stuck. Beside it, how
+//! far the word of each load came.
 
 use crate::machine::{Commit, Machine};
 use crate::rules::Rules;
-use crate::run::Run;
-use crate::window::Instruction;
+use crate::run::{Recorded, Run};
+use crate::window::{Access, Code, Entry, Fate, Instruction, Window};
 
 pub struct Check {
     run: Run,
+    /// The distance of each index's last execution.
+    distances: Vec<usize>,
 }
 
 impl Check {
     pub fn new(words: u32) -> Self {
-        Check { run: Run::new(words) }
+        Check { run: Run::new(words), distances: Vec::new() }
     }
 
     pub fn instruction(&mut self, instruction: Instruction) {
         self.run.program.push(instruction);
+        self.distances.push(0);
     }
 
     /// What the run does next; none at its end and before a fault.
-    pub fn ahead(&self) -> Option<Commit> {
+    pub fn ahead(&self) -> Option<Recorded> {
         self.run.ahead()
     }
 
+    /// An execution at position `k` of this window; `entry` is what it became.
+    pub fn executed(&mut self, before: &Window, memory: &[u32], k: usize, entry: &Entry) {
+        match entry.access() {
+            Some(Access { number, .. }) if entry.is(Code::L) => {
+                came(&before.live[..k], memory, number, entry)
+            }
+            _ => assert_eq!(entry.distance, 0, "a distance of no load"),
+        }
+        self.distances[entry.index] = entry.distance;
+    }
+
     pub fn committed(&mut self, commit: Commit) {
-        assert_eq!(self.run.step(), Some(commit), "the record is not that of the sequential run");
+        let recorded = Some(commit.without_distance());
+        assert_eq!(self.run.step(), recorded, "the record is not that of the sequential run");
+        let distance = self.distances[commit.index];
+        assert_eq!(commit.distance, distance, "the distance is not that of the execution");
     }
 
     pub fn state<R: Rules>(&self, machine: &Machine<R>) {
@@ -50,6 +68,38 @@ impl Check {
         if machine.window.live[0].waits() {
             machine.execute(0).expect("an execute of the oldest");
         }
-        assert_eq!(machine.commit(), Ok(next), "three calls do not commit the next instruction");
+        let commit = machine.commit().map(Commit::without_distance);
+        assert_eq!(commit, Ok(next), "three calls do not commit the next instruction");
     }
+}
+
+/// A distance names the store whose word the load took, and no store to this word stands between; with 0 no older one
+/// is to it, and the word is memory's.
+fn came(older: &[Entry], memory: &[u32], address: u32, load: &Entry) {
+    let words: Vec<Option<u32>> = older.iter().map(|entry| stored(entry, address)).collect();
+    assert!(load.distance <= older.len(), "a distance past the window");
+    let (before, after) = words.split_at(older.len() - load.distance);
+    match after.split_first() {
+        None => {
+            assert!(before.iter().all(Option::is_none), "no distance although an older store is to the word");
+            let word = memory.get(address as usize).copied().unwrap_or(0);
+            assert_eq!(load.value(), Some(word), "no distance and not memory's word");
+        }
+        Some((word, between)) => {
+            assert!(word.is_some(), "the distance is not to a store to the word");
+            assert_eq!(load.value(), *word, "the distance is to a store of another word");
+            assert!(between.iter().all(Option::is_none), "a store to the word stands between");
+        }
+    }
+}
+
+/// What an entry stored at an address, if it did.
+fn stored(entry: &Entry, address: u32) -> Option<u32> {
+    let Fate::Executed { value, access: Some(Access { number, .. }) } = entry.fate else { return None };
+    let word = match entry.instruction.code {
+        Code::S => number,
+        Code::B | Code::H => number / 4,
+        _ => return None,
+    };
+    (word == address).then_some(value)
 }

@@ -1,10 +1,10 @@
 //! Counters of what scripts reach. Each kind has a name; most are members of a family with a number or two.
 
-use crate::window::{Code, CODES, LOADS, PARTS};
+use crate::window::{Code, CODES, LOADS, PARTS, STORES};
 use std::collections::HashMap;
 use std::sync::OnceLock;
 
-const SINGLE: [&str; 114] = [
+const SINGLE: [&str; 136] = [
     "issue wrapped",
     "re-issued executed late",
     "re-issued executed late, wrapped",
@@ -50,7 +50,29 @@ const SINGLE: [&str; 114] = [
     "x ended by the program's end",
     "x squashed",
     "x left live ones executed",
-    "x of more than 64 commits",
+    "x of more than 51 commits",
+    "distance 0",
+    "distance 0 of a load that x executed",
+    "distance 0 of a load executed before x",
+    "distance above 0 of a load executed before x",
+    "distance 0 beside a younger store",
+    "distance above 0 beside a younger store",
+    "distance 0 at W or more",
+    "distance above 0 at W or more",
+    "distance 0 of a word that a store committed",
+    "distance 0, an older store to another word",
+    "distance 0, an older store waits",
+    "distance with a choice",
+    "distance of a word like memory's",
+    "distance of a word 0",
+    "distance over a waiting one",
+    "distance over a load of its word",
+    "distance over a store to another word",
+    "distance kept, an older store executed to its word",
+    "distance kept, its store's stage was issued again",
+    "distance kept, a younger one was squashed",
+    "f line of index 0",
+    "f line of index 255",
     "register 0 written",
     "word above 2147483647",
     "refusal 5",
@@ -149,6 +171,10 @@ const OF_PART: [&str; 9] = [
     "committed with a word above 2147483647",
 ];
 
+/// The distances of a load that is executed again.
+pub const CHANGES: [&str; 6] =
+    ["0 then 0", "0 then above", "above then 0", "above then smaller", "above then larger", "the same above"];
+
 pub fn by_byte(way: Way, byte: u8) -> String {
     format!("byte {byte} {way:?}")
 }
@@ -171,13 +197,27 @@ fn all() -> Vec<String> {
     let mut names: Vec<String> = SINGLE.map(String::from).into();
     let tables = BANKS.into_iter().flat_map(|banks| (1..=8).map(move |rows| (banks, rows)));
     let tables: Vec<(u32, u32)> = tables.collect();
-    for kind in ["eviction", "refusal 10"] {
+    for kind in ["eviction", "refusal 10", "distance"] {
         names.extend(tables.iter().map(|(banks, rows)| format!("{kind}, B {banks} R {rows}")));
     }
     names.extend((2..=8).map(|rows| format!("eviction with a choice, R {rows}")));
     names.extend((1..=8).map(|rows| format!("full bank, the address has a row, R {rows}")));
     for kind in ["forward", "violation", "eviction", "operand"] {
         names.extend((1..=15).map(|positions| format!("{kind} over {positions:2}")));
+    }
+    for code in STORES {
+        names.extend((1..=15).map(|distance| format!("distance {distance:2} by {code:?}")));
+    }
+    names.extend((1..=15).map(|distance| format!("distance {distance:2} across the wrap")));
+    names.extend((2..=16).map(|stages| format!("distance n - 1, n {stages:2}")));
+    for (step, store) in [("c", "c"), ("c", "x"), ("x", "c"), ("x", "x")] {
+        names.push(format!("distance told by {step}, its store committed by {store}"));
+    }
+    for by in ["violation", "eviction", "q"] {
+        names.extend(CHANGES.map(|change| format!("distance again after {by}, {change}")));
+    }
+    for (index, distance) in [(1, 1), (2, 1), (2, 2), (3, 1), (3, 2)] {
+        names.push(format!("f line, index of {index} digits, distance of {distance}"));
     }
     names.extend((1..=16).map(|stages| format!("window full, n {stages:2}")));
     names.extend(BANKS.map(|banks| format!("size B {banks}")));
@@ -194,6 +234,7 @@ fn all() -> Vec<String> {
 fn of_code(code: Code) -> Vec<String> {
     let mut kinds =
         vec![format!("sum of {code:?} wrapped"), format!("refusal 9 of the first operand of {code:?}")];
+    kinds.push(format!("distance over {code:?}"));
     kinds.extend(["d", "s"].map(|field| format!("register 8, {field} of {code:?}")));
     kinds.extend(SPOILED.map(|event| format!("{event}, {code:?}")));
     if code == Code::P || code.stores() {
@@ -214,7 +255,10 @@ fn of_code(code: Code) -> Vec<String> {
     if code.is_part() {
         kinds.extend((0..4).map(|place| format!("{code:?} at byte {place}")));
         let places = (0..4).filter(|place| code == Code::B || place % 2 == 0);
-        kinds.extend(places.map(|place| format!("{code:?} committed at byte {place}")));
+        for place in places {
+            kinds.push(format!("{code:?} committed at byte {place}"));
+            kinds.push(format!("distance of {code:?} at byte {place}"));
+        }
         for older in PARTS {
             kinds.extend(["beside", "over"].map(|how| format!("{code:?} {how} {older:?}")));
         }

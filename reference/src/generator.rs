@@ -1,19 +1,21 @@
-//! Scripts from a seed: full banks, pairs at both ends of a window, parts of words at the end of memory and at odd
-//! places, lines spoiled by every byte and by every limit, short scripts that probe windows before they finish,
-//! malformed ones, and rare huge ones.
+//! Scripts from a seed: full banks, pairs at both ends of a window, words over every distance, loads executed again,
+//! parts of words at the end of memory and at odd places, lines spoiled by every byte, in every way and by every limit,
+//! huge ones, long programs, short scripts that probe windows before they finish, and malformed ones.
 
 use crate::events::{BANKS, WAYS};
+use crate::far::{again, far, CAUSES};
 use crate::player::LONGEST;
 use crate::prober::Prober;
 use crate::random::Random;
 use crate::reach::{cut_positions, edge, full_bank, guarded, pair, EDGES, PAIRS};
 use crate::rules::MOST_INSTRUCTIONS;
-use crate::spoil::{just_beyond, spoil, spoil_by, BEYOND};
+use crate::spoil::{just_beyond, spoil, spoil_by, spoil_line, BEYOND, SPOILED_LINES};
 use crate::taste::Taste;
 use crate::text::{Line, Step};
 use crate::window::{Instruction, Sizes, LOADS, STORES};
 
-/// So many seeds in a row reach every table, every long pair, every limit and every byte, this in one of its ways.
+/// So many seeds in a row reach every table, every long pair, every distance of a word, every limit, every spoiled line
+/// and every byte, this in one of its ways.
 const ROUND: u64 = 1000;
 
 pub fn generate(seed: u64) -> Vec<u8> {
@@ -34,16 +36,24 @@ pub fn generate(seed: u64) -> Vec<u8> {
         }
         610..=664 => edge(random, turn % EDGES).text(),
         665..=682 => guarded(random, STORES[turn % 3], LOADS[turn / 3 % 3]).text(),
+        683..=727 => far(random, STORES[turn % 3], 1 + turn / 3 % 15, seed / ROUND % 3).text(),
+        728..=787 => again(random, CAUSES[turn % 3]).text(),
+        788..=827 => {
+            let draft = Draft::probing(random);
+            spoil_line(random, draft, turn % SPOILED_LINES)
+        }
+        828..=833 => huge(random, turn % 2),
+        834..=839 => crowded(random, MOST_INSTRUCTIONS + turn % 2),
         _ => any(random),
     }
 }
 
 fn any(random: &mut Random) -> Vec<u8> {
-    match random.below(340) {
-        0..=7 => huge(random),
-        8..=17 => crowded(random),
-        18..=39 => slight(random),
-        40..=159 => {
+    match random.below(300) {
+        0..=7 => huge(random, 5000),
+        8..=17 => crowded(random, MOST_INSTRUCTIONS),
+        18..=49 => slight(random),
+        50..=109 => {
             let draft = Draft::probing(random);
             spoil(random, draft)
         }
@@ -115,7 +125,7 @@ fn tight_sizes(random: &mut Random) -> Sizes {
 }
 
 /// As many instructions as a program may have, or one more.
-fn crowded(random: &mut Random) -> Vec<u8> {
+fn crowded(random: &mut Random, length: usize) -> Vec<u8> {
     let sizes = Sizes { stages: random.pick(&[5, 15, 16]), ..sizes(random) };
     let addresses = (0..200).map(|_| random.number(sizes.words)).collect();
     let mut taste = Taste::new(random, sizes);
@@ -123,7 +133,6 @@ fn crowded(random: &mut Random) -> Vec<u8> {
     if random.one_in(2) {
         taste.addresses = addresses;
     }
-    let length = random.pick(&[MOST_INSTRUCTIONS, MOST_INSTRUCTIONS, MOST_INSTRUCTIONS + 1]);
     let program = taste.program(random, length);
     let budget = random.pick(&[5, 40, 1500]);
     let mut draft = Draft::probed(random, sizes, program, budget);
@@ -151,9 +160,8 @@ fn slight(random: &mut Random) -> Vec<u8> {
 }
 
 /// A script filled up to the longest input, or to somewhat more, by steps that mostly do nothing.
-fn huge(random: &mut Random) -> Vec<u8> {
+fn huge(random: &mut Random, over: usize) -> Vec<u8> {
     let mut draft = Draft::probing(random);
-    let over = random.pick(&[0, 0, 0, 1, 1, 1, 5000]);
     let place = draft.steps + random.below(draft.lines.len() - draft.steps + 1);
     let mut left = (LONGEST + over).saturating_sub(draft.length());
     let fillers = ["c", "i", "x,0", "e,4294967295", "q,4294967295", "e,0", "q,16"];

@@ -3,7 +3,9 @@
 pub mod blame;
 pub mod check;
 pub mod compare;
+pub mod distances;
 pub mod events;
+pub mod far;
 pub mod generator;
 pub mod machine;
 pub mod outside;

@@ -1,21 +1,37 @@
 //! The window machine: issue, execute, squash, commit and finish over the plain list.
 
 use crate::rules::Rules;
+use crate::run::Recorded;
 use crate::window::{Access, Code, Entry, Fate, Instruction, Sizes, Window};
 
+/// So many numbers a commit answers.
+pub const PLACES: usize = 5;
+
+/// What the run records, and the distance.
 #[derive(Clone, Copy, PartialEq, Eq, Debug)]
 pub struct Commit {
     pub index: usize,
     pub code: Code,
-    /// The register, for S the address, for B and H the byte number.
     pub target: u32,
     pub value: u32,
+    /// Of a load, else 0.
+    pub distance: usize,
+}
+
+impl Commit {
+    /// What is compared with the run.
+    pub fn without_distance(self) -> Recorded {
+        let Commit { index, code, target, value, .. } = self;
+        Recorded { index, code, target, value }
+    }
 }
 
 #[derive(Clone, Copy, PartialEq, Eq, Debug)]
 pub struct Executed {
     /// Of a load, else 0.
     pub value: u32,
+    /// How many positions older the store is whose word a load took; 0 for memory's, and for no load.
+    pub distance: usize,
     pub squashed: Option<usize>,
 }
 
@@ -44,7 +60,7 @@ impl<R: Rules> Machine<R> {
         }
         let instruction = *self.program.get(self.next).ok_or(6u32)?;
         let fate = self.rules.fresh(self.next);
-        self.window.live.push(Entry { index: self.next, instruction, fate });
+        self.window.live.push(Entry { index: self.next, instruction, fate, distance: 0 });
         self.next += 1;
         Ok(self.window.live.len() - 1)
     }
@@ -99,7 +115,8 @@ impl<R: Rules> Machine<R> {
             }
         };
         self.window.live.remove(0);
-        Ok(Commit { index: oldest.index, code, target, value })
+        let distance = if code == Code::L { oldest.distance } else { 0 };
+        Ok(Commit { index: oldest.index, code, target, value, distance })
     }
 
     /// One round of finish: takes the oldest to its commit, issuing when the window is empty. None at the
@@ -153,14 +170,15 @@ impl<R: Rules> Machine<R> {
 
     fn other(&mut self, k: usize, value: u32) -> Executed {
         self.window.live[k].fate = Fate::Executed { value, access: None };
-        Executed { value: 0, squashed: None }
+        Executed { value: 0, distance: 0, squashed: None }
     }
 
     fn load(&mut self, k: usize, address: u32) -> Result<Executed, u32> {
         let squashed = self.rules.room(&self.window, k, address)?;
-        let value = self.taken(k, address);
+        let (value, distance) = self.taken(k, address);
         self.mark(k, value, Access { number: address, word: address }, squashed);
-        Ok(Executed { value, squashed })
+        self.window.live[k].distance = distance;
+        Ok(Executed { value, distance, squashed })
     }
 
     /// A store of a part takes the word as a load does, and stores the whole of it.
@@ -169,18 +187,20 @@ impl<R: Rules> Machine<R> {
         let word = self.rules.word(code, number);
         let evicted = self.rules.room(&self.window, k, word)?;
         let whole =
-            if code.is_part() { self.rules.merge(code, number, self.taken(k, word), value) } else { value };
+            if code.is_part() { self.rules.merge(code, number, self.taken(k, word).0, value) } else { value };
         let squashed = evicted.or_else(|| self.rules.violation(&self.window, k, word, whole));
         self.mark(k, whole, Access { number, word }, squashed);
-        Ok(Executed { value: 0, squashed })
+        Ok(Executed { value: 0, distance: 0, squashed })
     }
 
-    /// The word that position `k` takes: of the nearest older store to it, else of memory, else 0.
-    fn taken(&self, k: usize, word: u32) -> u32 {
-        match self.rules.forward(&self.window, k, word) {
+    /// The word that position `k` takes, of the nearest older store to it, else of memory, else 0, and how far it came.
+    fn taken(&self, k: usize, word: u32) -> (u32, usize) {
+        let store = self.rules.forward(&self.window, k, word);
+        let value = match store {
             Some(store) => self.window.live[store].value().unwrap_or(0),
             None => self.memory.get(word as usize).copied().unwrap_or(0),
-        }
+        };
+        (value, self.rules.distance(&self.window, k, word, store))
     }
 
     fn mark(&mut self, k: usize, value: u32, access: Access, squashed: Option<usize>) {

@@ -101,7 +101,10 @@ impl<R: Rules> Game<R> {
     }
 
     fn print(&mut self, commit: Commit, out: &mut Vec<u8>) {
-        let Commit { index, code, target, value } = commit;
+        let Commit { index, code, target, value, distance } = commit;
+        if self.machine.rules.tells(code) {
+            out.extend(format!("f,{index},{distance}\n").bytes());
+        }
         out.extend(format!("{index},{code:?},{target},{value}\n").bytes());
         self.commits += 1;
     }

@@ -39,6 +39,33 @@ impl<'a> Prober<'a> {
         positions.iter().for_each(|&k| self.take(Step::Execute(k)));
     }
 
+    /// Executes the live one of an index.
+    pub fn execute_index(&mut self, index: usize) {
+        self.position(index).into_iter().for_each(|k| self.take(Step::Execute(k)));
+    }
+
+    pub fn squash_index(&mut self, index: usize) {
+        self.position(index).into_iter().for_each(|k| self.take(Step::Squash(k)));
+    }
+
+    fn position(&self, index: usize) -> Option<u32> {
+        self.machine.window.live.iter().position(|entry| entry.index == index).map(|k| k as u32)
+    }
+
+    /// Commits the live ones up to an index, and executes those that wait before.
+    pub fn commit_through(&mut self, index: usize) {
+        for _ in 0..self.position(index).map_or(0, |k| k + 1) {
+            if self.machine.window.live.first().is_some_and(|oldest| oldest.waits()) {
+                self.take(Step::Execute(0));
+            }
+            self.take(Step::Commit);
+        }
+    }
+
+    pub fn finish_through(&mut self, index: usize) {
+        self.position(index).into_iter().for_each(|k| self.take(Step::Finish(k + 1)));
+    }
+
     /// Every waiting one once, in this order.
     pub fn all(&mut self, order: Order) {
         let mut positions: Vec<u32> = (0..self.machine.window.live.len() as u32).collect();
@@ -119,7 +146,7 @@ impl<'a> Prober<'a> {
         self.steps
     }
 
-    fn take(&mut self, step: Step) {
+    pub fn take(&mut self, step: Step) {
         self.steps.push(step);
         // A refusal is as good a step as any other.
         match step {

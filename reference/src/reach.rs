@@ -167,10 +167,13 @@ pub fn cut_positions(random: &mut Random) -> Draft {
 /// Three constants, for words that tell stores apart, and as many more as turn the window; answers how many.
 fn constants(random: &mut Random, program: &mut Vec<Instruction>, stages: u32) -> u32 {
     let count = 3 + random.number(stages);
-    let word = |step: u32| (10 + step).wrapping_mul(0x0b1d_2f41);
-    let constant = |step| Instruction { code: Code::A, d: 1 + step % 3, s: 0, imm: word(step) };
     program.extend((0..count).map(constant));
     count
+}
+
+pub fn constant(step: u32) -> Instruction {
+    let word = (10 + step).wrapping_mul(0x0b1d_2f41);
+    Instruction { code: Code::A, d: 1 + step % 3, s: 0, imm: word }
 }
 
 fn reference(random: &mut Random, address: u32) -> Instruction {
@@ -188,7 +191,7 @@ fn part(random: &mut Random, d: u32, address: u32) -> Instruction {
 }
 
 /// A load or store of this code at a word.
-fn at_word(random: &mut Random, code: Code, address: u32) -> Instruction {
+pub fn at_word(random: &mut Random, code: Code, address: u32) -> Instruction {
     let d = if code == Code::L { 4 } else { 1 + random.number(3) };
     let imm = if code.is_part() { 4 * address + part_of(random, code, false) } else { address };
     Instruction { code, d, s: 0, imm }

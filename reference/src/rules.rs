@@ -13,6 +13,11 @@ pub trait Rules: Clone {
         (0..k).rev().find(stores)
     }
 
+    /// How many positions older the store is whose word position `k` takes; 0 for memory.
+    fn distance(&self, _window: &Window, k: usize, _address: u32, store: Option<usize>) -> usize {
+        store.map_or(0, |store| k - store)
+    }
+
     /// Where a store at position `k` squashes from. The value plays no part, and what loads and stores is met as a
     /// load.
     fn violation(&self, window: &Window, k: usize, address: u32, _value: u32) -> Option<usize> {
@@ -102,6 +107,11 @@ pub trait Rules: Clone {
             return Err(if registers > 7 { "register above 7" } else { "P's imm above 7" });
         }
         Ok(())
+    }
+
+    /// Whether a script prints the distance of a commit of this code.
+    fn tells(&self, code: Code) -> bool {
+        code == Code::L
     }
 
     fn issue(machine: &mut Machine<Self>) -> Result<usize, u32> {

@@ -1,7 +1,16 @@
 //! The sequential run: one instruction after another, with its own registers and memory.
 
-use crate::machine::Commit;
 use crate::window::{Code, Instruction};
+
+/// What a step adds to the record.
+#[derive(Clone, Copy, PartialEq, Eq, Debug)]
+pub struct Recorded {
+    pub index: usize,
+    pub code: Code,
+    /// The register, for S the address, for B and H the byte number.
+    pub target: u32,
+    pub value: u32,
+}
 
 #[derive(Clone)]
 pub struct Run {
@@ -17,7 +26,7 @@ impl Run {
     }
 
     /// What the next step adds to the record; None at the end and before a fault.
-    pub fn ahead(&self) -> Option<Commit> {
+    pub fn ahead(&self) -> Option<Recorded> {
         let index = self.index;
         let Instruction { code, d, s, imm } = *self.program.get(index)?;
         let base = self.registers[s as usize];
@@ -32,18 +41,19 @@ impl Run {
             }
             Code::B | Code::H => (sum, self.whole(code, sum, self.registers[d as usize])?),
         };
-        Some(Commit { index, code, target, value })
+        Some(Recorded { index, code, target, value })
     }
 
-    pub fn step(&mut self) -> Option<Commit> {
-        let commit = self.ahead()?;
-        match commit.code {
-            Code::S => self.memory[commit.target as usize] = commit.value,
-            Code::B | Code::H => self.memory[commit.target as usize / 4] = commit.value,
-            _ => self.registers[commit.target as usize] = commit.value,
+    pub fn step(&mut self) -> Option<Recorded> {
+        let recorded = self.ahead()?;
+        let Recorded { code, target, value, .. } = recorded;
+        match code {
+            Code::S => self.memory[target as usize] = value,
+            Code::B | Code::H => self.memory[target as usize / 4] = value,
+            _ => self.registers[target as usize] = value,
         }
         self.index += 1;
-        Some(commit)
+        Some(recorded)
     }
 
     /// What the word of a byte number becomes by the lowest byte of a value, or by its lowest two. None before a fault.

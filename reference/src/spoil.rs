@@ -8,6 +8,9 @@ use crate::window::CODES;
 
 /// How many places `just_beyond` knows.
 pub const BEYOND: usize = 40;
+/// How many ways `spoil_line` knows, the first ones of fields.
+pub const SPOILED_LINES: usize = FIELDS + 6;
+const FIELDS: usize = 14;
 
 pub fn spoil(random: &mut Random, mut draft: Draft) -> Vec<u8> {
     match random.below(10) {
@@ -20,13 +23,22 @@ pub fn spoil(random: &mut Random, mut draft: Draft) -> Vec<u8> {
             beyond(random, &mut draft);
             draft.text()
         }
-        kind => {
-            let place = place(random, &draft);
-            let line = draft.lines[place].clone();
-            draft.lines[place] = if kind < 8 { numbers(random, &line) } else { bytes(random, &line) };
-            draft.text()
+        _ => {
+            let which = random.below(SPOILED_LINES);
+            spoil_line(random, draft, which)
         }
     }
+}
+
+/// A line of a likely letter, spoiled in this way.
+pub fn spoil_line(random: &mut Random, mut draft: Draft, which: usize) -> Vec<u8> {
+    let place = place(random, &draft);
+    let line = &mut draft.lines[place];
+    *line = match which.checked_sub(FIELDS) {
+        None => fields(random, line, which),
+        Some(which) => bytes(random, line, which),
+    };
+    draft.text()
 }
 
 /// One line with this byte in the place of a comma, before another byte, or at its end. A byte of the grammar goes to
@@ -141,34 +153,34 @@ pub fn just_beyond(random: &mut Random, mut draft: Draft, which: usize) -> Vec<u
 }
 
 /// Another field, one less, or a number written in a way that no number is.
-fn numbers(random: &mut Random, line: &[u8]) -> Vec<u8> {
+fn fields(random: &mut Random, line: &[u8], which: usize) -> Vec<u8> {
     let mut fields: Vec<Vec<u8>> = line.split(|&byte| byte == b',').map(<[u8]>::to_vec).collect();
     let place = random.below(fields.len()).max(fields.len().min(2) - 1);
     let field = fields[place].clone();
-    match random.below(11) {
+    // The last three are small numbers if a sum of 32 or 64 bits wraps.
+    let large = ["99999999999", "4294967296", "4294967297", "18446744073709551617"];
+    match which {
         0 => drop(fields.pop()),
         1 => fields.push(b"0".to_vec()),
         2 => fields.push(Vec::new()),
         3 => fields[place].clear(),
         4 => fields.insert(1, Vec::new()),
         5 => fields[place] = [b"0", field.as_slice()].concat(),
-        6..=7 => fields[place] = [random.pick(&[b"+", b"-"]).as_slice(), &field].concat(),
+        6 => fields[place] = [b"+", field.as_slice()].concat(),
+        7 => fields[place] = [b"-", field.as_slice()].concat(),
         8 => fields[place] = [field.as_slice(), random.pick(&[b"a", b":", b"/", b"."])].concat(),
-        _ => {
-            // The last three are small numbers if a sum of 32 or 64 bits wraps.
-            let large = ["99999999999", "4294967296", "4294967297", "18446744073709551617"];
-            fields[place] = random.pick(&large).into();
-        }
+        9 => fields.last_mut().into_iter().for_each(|field| field.push(0)),
+        _ => fields[place] = large[which - 10].into(),
     }
     fields.join(&b',')
 }
 
 /// Another letter, or a byte that no line has.
-fn bytes(random: &mut Random, line: &[u8]) -> Vec<u8> {
+fn bytes(random: &mut Random, line: &[u8], which: usize) -> Vec<u8> {
     let mut line = line.to_vec();
     let place = random.below(line.len() + 1);
     let high = 128 + random.number(128) as u8;
-    match random.below(7) {
+    match which {
         0 => line[0] = random.pick(b"CZbzMn0,\"#"),
         1 => line[0] ^= 32,
         2 => line.insert(1, line[0]),

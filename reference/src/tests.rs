@@ -37,17 +37,21 @@ fn advance(machine: &mut Machine<Stated>, count: usize) {
 }
 
 fn took(value: u32) -> Result<Executed, u32> {
-    Ok(Executed { value, squashed: None })
+    came(value, 0)
+}
+
+fn came(value: u32, distance: usize) -> Result<Executed, u32> {
+    Ok(Executed { value, distance, squashed: None })
 }
 
 fn squashed_from(position: usize) -> Result<Executed, u32> {
-    Ok(Executed { value: 0, squashed: Some(position) })
+    Ok(Executed { value: 0, distance: 0, squashed: Some(position) })
 }
 
 #[test]
 fn sample() {
     let output = played("N,1,2,4,8 A,1,0,5 S,1,0,3 L,2,0,3 i i i e,2 e,0 e,1 c c i e,0 c");
-    assert_eq!(output, "0,A,1,5 1,S,3,5 2,L,2,5 m,3,5 end,done,3");
+    assert_eq!(output, "0,A,1,5 1,S,3,5 f,2,0 2,L,2,5 m,3,5 end,done,3");
 }
 
 #[test]
@@ -66,7 +70,8 @@ fn table_1() {
 fn table_1_as_a_script() {
     let program = "N,1,4,4,200 A,1,0,140 S,1,0,100 A,1,0,120 A,2,0,50 S,1,0,100 S,2,0,120 L,3,0,100 L,4,3,0";
     let steps = "x,4 i i i i e,2 e,1 e,3 e,0 c c c i i e,0 e,1 c c";
-    let commits = "0,A,1,140 1,S,100,140 2,A,1,120 3,A,2,50 4,S,100,120 5,S,120,50 6,L,3,120 7,L,4,50";
+    let commits =
+        "0,A,1,140 1,S,100,140 2,A,1,120 3,A,2,50 4,S,100,120 5,S,120,50 f,6,0 6,L,3,120 f,7,0 7,L,4,50";
     let end = "m,100,120 m,120,50 end,done,8";
     assert_eq!(played(&format!("{program} {steps}")), format!("{commits} {end}"));
 }
@@ -74,7 +79,7 @@ fn table_1_as_a_script() {
 #[test]
 fn forwards() {
     let mut older = machine(4, 4, "A,1,0,7 S,1,0,5 L,2,0,5", 1);
-    assert_eq!((older.execute(0), older.execute(1)), (took(0), took(7)));
+    assert_eq!((older.execute(0), older.execute(1)), (took(0), came(7, 1)));
     let mut younger = machine(4, 4, "A,1,0,7 L,2,0,5 S,1,0,5", 1);
     assert_eq!((younger.execute(1), younger.execute(0)), (took(0), took(0)));
 }
@@ -83,7 +88,7 @@ fn forwards() {
 fn store_between() {
     let program = "A,1,0,7 S,1,0,5 S,1,0,5 L,2,0,5";
     let mut between = machine(4, 4, program, 1);
-    assert_eq!((between.execute(1), between.execute(2), between.execute(0)), (took(0), took(7), took(0)));
+    assert_eq!((between.execute(1), between.execute(2), between.execute(0)), (took(0), came(7, 1), took(0)));
     let mut bare = machine(4, 4, program, 1);
     assert_eq!((bare.execute(2), bare.execute(0)), (took(0), squashed_from(2)));
 }
@@ -107,7 +112,7 @@ fn row_with_an_older_mark_stays() {
 
 #[test]
 fn last_word_and_beyond() {
-    assert_eq!(played("N,1,4,4,200 L,1,0,199 i e,0 c"), "0,L,1,0 end,done,1");
+    assert_eq!(played("N,1,4,4,200 L,1,0,199 i e,0 c"), "f,0,0 0,L,1,0 end,done,1");
     let mut beyond = machine(4, 4, "L,1,0,200", 0);
     assert_eq!((beyond.execute(0), beyond.commit()), (took(0), Err(13)));
 }
@@ -115,7 +120,7 @@ fn last_word_and_beyond() {
 #[test]
 fn forward_beyond_memory() {
     let mut machine = machine(4, 4, "A,1,0,7 S,1,0,200 L,2,0,200", 1);
-    assert_eq!((machine.execute(0), machine.execute(1)), (took(0), took(7)));
+    assert_eq!((machine.execute(0), machine.execute(1)), (took(0), came(7, 1)));
     machine.squash(0).unwrap();
     while machine.issue().is_ok() {}
     assert_eq!((machine.execute(1), machine.execute(0)), (took(0), squashed_from(1)));
@@ -140,7 +145,7 @@ fn forward_across_the_last_stage() {
     advance(&mut machine, 2);
     while machine.issue().is_ok() {}
     assert_eq!((machine.window.stage(1), machine.window.stage(2)), (3, 0));
-    assert_eq!((machine.execute(1), machine.execute(2)), (took(0), took(7)));
+    assert_eq!((machine.execute(1), machine.execute(2)), (took(0), came(7, 1)));
 }
 
 /// Against a word as an array of bytes, and by quotients and remainders.
@@ -186,7 +191,7 @@ fn parts_as_scripts() {
     let examples = [
         (
             "N,1,1,4,1 A,1,0,511 B,1,0,3 H,1,0,0 B,0,0,1 L,2,0,0 x,9",
-            "0,A,1,511 1,B,3,4278190080 2,H,0,4278190591 3,B,1,4278190335 4,L,2,4278190335 m,0,4278190335 end,done,5",
+            "0,A,1,511 1,B,3,4278190080 2,H,0,4278190591 3,B,1,4278190335 f,4,0 4,L,2,4278190335 m,0,4278190335 end,done,5",
         ),
         (
             "N,1,2,4,8 A,1,0,255 B,1,0,0 B,1,0,1 i i i e,0 e,2 e,1 c c c x,1",
@@ -194,7 +199,7 @@ fn parts_as_scripts() {
         ),
         ("N,1,1,2,2 A,1,0,7 B,1,0,7 B,1,0,8 x,9", "0,A,1,7 1,B,7,117440512 m,1,117440512 end,fault,2"),
         ("N,1,1,2,2 A,1,0,7 H,1,0,5 L,2,0,1 i i e,0 c i e,0 e,1 c c x,3", "0,A,1,7 end,fault,1"),
-        ("N,1,1,4,8 B,0,0,3 L,1,0,0 B,0,0,4 i i i e,0 e,1 e,2 c c", "0,B,3,0 1,L,1,0 end,open,2"),
+        ("N,1,1,4,8 B,0,0,3 L,1,0,0 B,0,0,4 i i i e,0 e,1 e,2 c c", "0,B,3,0 f,1,1 1,L,1,0 end,open,2"),
     ];
     for (lines, output) in examples {
         assert_eq!(played(lines), output, "{lines}");
@@ -204,16 +209,19 @@ fn parts_as_scripts() {
 #[test]
 fn parts_take_words_as_loads_do() {
     let mut memory = machine(4, 4, "A,1,0,511 B,1,0,401 L,2,0,100", 1);
-    assert_eq!((memory.execute(0), memory.execute(1)), (took(0), took(140 + (255 << 8))));
+    assert_eq!((memory.execute(0), memory.execute(1)), (took(0), came(140 + (255 << 8), 1)));
     let mut store = machine(4, 4, "A,1,0,65541 S,1,0,5 H,1,0,22 L,2,0,5", 1);
-    assert_eq!((store.execute(0), store.execute(1), store.execute(2)), (took(0), took(0), took(0x0005_0005)));
+    assert_eq!(
+        (store.execute(0), store.execute(1), store.execute(2)),
+        (took(0), took(0), came(0x0005_0005, 1))
+    );
     let mut younger = machine(4, 4, "A,1,0,511 B,1,0,20 S,1,0,5 L,2,0,5", 1);
     assert_eq!((younger.execute(1), younger.execute(0)), (took(0), took(0)));
-    assert_eq!((younger.window.live[0].value(), younger.execute(2)), (Some(255), took(511)));
+    assert_eq!((younger.window.live[0].value(), younger.execute(2)), (Some(255), came(511, 1)));
     let mut beyond = machine(4, 4, "A,1,0,1 B,1,0,801 H,1,0,802 L,2,0,200", 1);
     assert_eq!(
         (beyond.execute(0), beyond.execute(1), beyond.execute(2)),
-        (took(0), took(0), took(0x0001_0100))
+        (took(0), took(0), came(0x0001_0100, 1))
     );
     assert_eq!(beyond.commit(), Err(13));
 }
@@ -230,9 +238,10 @@ fn parts_are_met_load_side_first() {
             );
             assert_eq!((met.window.live.len(), met.next), (2, 3), "{older} {younger}");
             let mut between = machine(4, 4, &format!("A,1,0,0 {older} S,1,0,5 {younger}"), 1);
+            let distance = usize::from(younger.starts_with('L'));
             assert_eq!(
                 (between.execute(1), between.execute(2), between.execute(0)),
-                (took(0), took(0), took(0))
+                (took(0), came(0, distance), took(0))
             );
         }
     }
@@ -241,7 +250,7 @@ fn parts_are_met_load_side_first() {
 #[test]
 fn rows_of_parts_go_by_the_word() {
     let mut one = machine(1, 4, "B,0,0,20 H,0,0,22 L,1,0,5 B,0,0,24", 0);
-    assert_eq!((one.execute(0), one.execute(1), one.execute(2)), (took(0), took(0), took(0)));
+    assert_eq!((one.execute(0), one.execute(1), one.execute(2)), (took(0), took(0), came(0, 1)));
     assert_eq!(one.execute(3), Err(10));
     let mut evicts = machine(1, 4, "B,0,0,24 L,1,0,5", 0);
     assert_eq!((evicts.execute(1), evicts.execute(0)), (took(0), squashed_from(1)));
@@ -263,7 +272,7 @@ fn operands_of_parts() {
 #[test]
 fn odd_half_words() {
     let mut below = machine(4, 4, "A,1,0,511 H,1,0,403 L,2,0,100", 1);
-    assert_eq!((below.execute(0), below.execute(1)), (took(0), took(140 + (511 << 16))));
+    assert_eq!((below.execute(0), below.execute(1)), (took(0), came(140 + (511 << 16), 1)));
     let access = Some(Access { number: 403, word: 100 });
     assert_eq!(below.window.live[0].fate, Fate::Executed { value: 140 + (511 << 16), access });
     assert_eq!((below.commit(), below.fate(), below.memory[100]), (Err(14), "fault", 140));
@@ -280,6 +289,105 @@ fn odd_half_words() {
         assert!(machine(4, 4, line, 0).advance().is_some(), "{line}");
     }
     assert_eq!(machine(4, 4, "B,0,0,800", 0).advance(), None);
+}
+
+#[test]
+fn distances_as_scripts() {
+    let examples = [
+        (
+            "N,1,2,8,8 A,1,0,5 S,1,0,3 A,2,0,6 S,2,0,3 L,3,0,3 L,4,0,4 i i i i i i e,0 e,1 e,2 e,3 e,4 e,5 x,9",
+            "0,A,1,5 1,S,3,5 2,A,2,6 3,S,3,6 f,4,1 4,L,3,6 f,5,0 5,L,4,0 m,3,6 end,done,6",
+        ),
+        (
+            "N,1,2,4,8 A,1,0,5 B,1,0,12 L,2,0,3 i i i e,0 e,1 e,2 c c c",
+            "0,A,1,5 1,B,12,5 f,2,1 2,L,2,5 m,3,5 end,done,3",
+        ),
+        (
+            "N,1,2,4,8 A,1,0,5 S,1,0,3 L,2,0,3 L,3,0,3 i i i i e,0 e,1 e,2 x,9",
+            "0,A,1,5 1,S,3,5 f,2,1 2,L,2,5 f,3,0 3,L,3,5 m,3,5 end,done,4",
+        ),
+        (
+            "N,1,2,4,8 A,1,0,5 S,1,0,3 B,1,0,13 H,1,0,14 x,9",
+            "0,A,1,5 1,S,3,5 2,B,13,1285 3,H,14,328965 m,3,328965 end,done,4",
+        ),
+    ];
+    for (lines, output) in examples {
+        assert_eq!(played(lines), output, "{lines}");
+    }
+    let late = format!("N,1,1,2,8{} S,1,0,3 L,2,0,3 x,99 i i e,0 e,1 c c", " A,1,0,5".repeat(99));
+    assert!(played(&late).ends_with("98,A,1,5 99,S,3,5 f,100,1 100,L,2,5 m,3,5 end,done,101"));
+}
+
+/// Whatever stands between, executed or not.
+#[test]
+fn every_distance() {
+    for (store, value) in [("S,1,0,5", 7), ("B,1,0,21", 7 << 8), ("H,1,0,22", 7 << 16)] {
+        for between in ["A,3,0,1", "P,3,0,2", "L,3,0,6", "S,1,0,6", "B,1,0,24", "H,1,0,26"] {
+            for distance in 1..=15 {
+                let program =
+                    format!("A,1,0,7 {store}{} L,2,0,5", format!(" {between}").repeat(distance - 1));
+                let mut machine = machine(2, 16, &program, 1);
+                assert_eq!((machine.execute(0), machine.execute(distance)), (took(0), came(value, distance)));
+                advance(&mut machine, distance);
+                let commit = machine.commit().unwrap();
+                assert_eq!((commit.value, commit.distance), (value, distance), "{program}");
+            }
+        }
+    }
+}
+
+#[test]
+fn distance_of_the_nearest() {
+    let mut nearest = machine(4, 6, "A,1,0,7 S,1,0,5 H,1,0,20 A,2,0,1 S,1,0,6 L,3,0,5 S,1,0,5", 1);
+    assert_eq!((nearest.execute(0), nearest.execute(1), nearest.execute(3)), (took(0), took(0), took(0)));
+    assert_eq!((nearest.execute(5), nearest.execute(4)), (took(0), came(7, 3)));
+    let mut waiting = machine(4, 4, "A,1,0,7 S,1,0,5 S,1,0,5 L,3,0,5", 1);
+    assert_eq!((waiting.execute(0), waiting.execute(2)), (took(0), came(7, 2)));
+    assert_eq!(waiting.execute(1), squashed_from(2));
+    assert_eq!((waiting.issue(), waiting.execute(2)), (Ok(2), came(7, 1)));
+}
+
+#[test]
+fn distances_are_kept() {
+    let mut machine = machine(4, 3, "A,1,0,7 S,1,0,5 A,2,0,1 L,3,0,5 S,1,0,5 L,4,0,5", 1);
+    assert_eq!((machine.execute(0), machine.execute(2)), (took(0), came(7, 2)));
+    advance(&mut machine, 2);
+    assert_eq!((machine.issue(), machine.issue()), (Ok(1), Ok(2)));
+    assert_eq!((machine.execute(1), machine.execute(2)), (took(0), came(7, 1)));
+    assert_eq!(machine.squash(1), Ok(()));
+    assert_eq!(machine.commit().map(|commit| (commit.index, commit.distance)), Ok((3, 2)));
+}
+
+#[test]
+fn distances_of_a_second_execution() {
+    let program = "A,1,0,7 S,1,0,5 A,2,0,1 L,3,0,5";
+    let mut later = machine(4, 4, program, 1);
+    assert_eq!((later.execute(2), later.execute(0)), (took(0), squashed_from(2)));
+    assert_eq!((later.issue(), later.execute(2)), (Ok(2), came(7, 2)));
+    assert_eq!((later.squash(1), later.commit().is_ok()), (Ok(()), true));
+    assert_eq!((later.issue(), later.issue(), later.execute(1)), (Ok(0), Ok(1), took(7)));
+    advance(&mut later, 1);
+    assert_eq!(later.commit().map(|commit| commit.distance), Ok(0));
+}
+
+#[test]
+fn distances_at_the_end_of_memory() {
+    let mut beyond = machine(4, 4, "A,1,0,7 L,2,0,200 S,1,0,200 A,2,0,1 L,3,0,200", 1);
+    assert_eq!((beyond.execute(0), beyond.execute(1)), (took(0), took(0)));
+    assert_eq!((beyond.execute(3), beyond.commit()), (came(7, 2), Err(13)));
+}
+
+/// Stores of parts look for a store, too.
+#[test]
+fn no_distance_of_other_codes() {
+    for line in ["A,2,0,1", "P,2,0,1", "S,1,0,5", "B,1,0,20", "H,1,0,22"] {
+        let mut other = machine(4, 4, &format!("A,1,0,7 S,1,0,5 {line}"), 1);
+        assert_eq!((other.execute(0), other.execute(1)), (took(0), took(0)), "{line}");
+        assert_eq!(other.window.live[1].distance, 0, "{line}");
+        other.window.live[1].distance = 3;
+        advance(&mut other, 1);
+        assert_eq!(other.commit().map(|commit| commit.distance), Ok(0), "{line}");
+    }
 }
 
 #[test]
@@ -313,7 +421,7 @@ fn finish_keeps_live_entries() {
 #[test]
 fn sums_wrap_and_register_0_is_ordinary() {
     let program = "N,1,1,2,8 A,0,0,4294967295 P,1,0,0 S,1,0,6 L,2,0,6";
-    let commits = "0,A,0,4294967295 1,P,1,4294967294 2,S,5,4294967294 3,L,2,4294967294";
+    let commits = "0,A,0,4294967295 1,P,1,4294967294 2,S,5,4294967294 f,3,0 3,L,2,4294967294";
     assert_eq!(played(&format!("{program} x,4")), format!("{commits} m,5,4294967294 end,done,4"));
 }
 

@@ -3,18 +3,19 @@
 
 use crate::blame::blame;
 use crate::check::Check;
+use crate::distances::Distances;
 use crate::events::{by_byte, Events, SPOILED};
-use crate::machine::{Commit, Machine};
+use crate::machine::{Commit, Machine, PLACES};
 use crate::player::{play_by, Printed, LONGEST};
 use crate::rules::{Rules, MOST_INSTRUCTIONS};
 use crate::sights;
 use crate::text::{parse, Line, Step};
-use crate::window::{Code, Instruction, Sizes};
+use crate::window::{Code, Entry, Instruction, Sizes, Window};
 
 /// From here on a bad line counts as late.
 const LATE: usize = 100;
 /// More commits than a list of 256 places takes.
-const MANY: usize = 64;
+const MANY: usize = 256 / PLACES;
 
 /// What is printed for a text, and what it reaches.
 pub fn watch<R: Rules>(rules: R, text: &[u8]) -> (Vec<u8>, Events) {
@@ -37,7 +38,14 @@ pub fn watch<R: Rules>(rules: R, text: &[u8]) -> (Vec<u8>, Events) {
             (Some(Line::Sizes(sizes)), _) => {
                 opened(&mut events, sizes);
                 let (machine, check) = (Machine::new(rules.clone(), sizes), Check::new(sizes.words));
-                game = Some(Game { machine, check, stepped: false, reached: 0, again: Vec::new() });
+                game = Some(Game {
+                    machine,
+                    check,
+                    stepped: false,
+                    reached: 0,
+                    again: Vec::new(),
+                    distances: Distances::default(),
+                });
             }
             (Some(Line::Instruction(instruction)), Some(game)) => game.instruction(&mut events, instruction),
             (Some(Line::Step(step)), Some(game)) => game.step(&mut events, step),
@@ -99,6 +107,7 @@ struct Game<R> {
     reached: usize,
     /// Whether the live instruction of an index was issued before.
     again: Vec<bool>,
+    distances: Distances,
 }
 
 impl<R: Rules> Game<R> {
@@ -116,7 +125,7 @@ impl<R: Rules> Game<R> {
             Step::Execute(k) => self.execute(events, k as usize),
             Step::Squash(k) => self.squash(events, k as usize),
             Step::Commit => match self.machine.commit() {
-                Ok(commit) => self.committed(events, commit),
+                Ok(commit) => self.committed(events, commit, "c"),
                 Err(number) => sights::uncommitted(events, &self.machine.window, number),
             },
             Step::Finish(limit) => self.finish(events, limit),
@@ -136,6 +145,7 @@ impl<R: Rules> Game<R> {
         self.again.resize(self.again.len().max(index + 1), false);
         self.again[index] = index < self.reached;
         self.reached = self.reached.max(index + 1);
+        self.distances.issued(index, stages as usize);
     }
 
     fn execute(&mut self, events: &mut Events, k: usize) {
@@ -152,10 +162,18 @@ impl<R: Rules> Game<R> {
         events.add_if(k == 0 && self.machine.past(&entry), "fault by e");
         events.add_if(k == 0 && self.stopped_by_odd(), "fault by e of an odd H");
         sights::executed(events, &before, &registers, &self.machine.memory, k, entry);
+        self.noted(events, &before, k, entry, false);
+    }
+
+    /// How far the word of an execution came.
+    fn noted(&mut self, events: &mut Events, before: &Window, k: usize, entry: Entry, finished: bool) {
+        self.check.executed(before, &self.machine.memory, k, &entry);
+        self.distances.executed(events, before, &self.machine.memory, k, entry, finished);
     }
 
     fn squash(&mut self, events: &mut Events, k: usize) {
-        let before = self.machine.window.live.clone();
+        let window = self.machine.window.clone();
+        let before = &window.live;
         let (faulted, odd) = (self.machine.faulted(), self.stopped_by_odd());
         match self.machine.squash(k) {
             Ok(()) => {
@@ -164,13 +182,14 @@ impl<R: Rules> Game<R> {
                 events.add_if(before[k..].iter().any(|entry| !entry.waits()), "q of executed ones");
                 events.add_if(faulted && k == 0, "fault squashed");
                 events.add_if(odd && k == 0, "fault of an odd H squashed");
+                self.distances.squashed(&window, k, "q");
             }
             Err(number) => events.add(&format!("refusal {number} of q")),
         }
     }
 
-    fn committed(&mut self, events: &mut Events, commit: Commit) {
-        let Commit { code, target, value, .. } = commit;
+    fn committed(&mut self, events: &mut Events, commit: Commit, step: &'static str) {
+        let Commit { index, code, target, value, .. } = commit;
         events.add_if(!code.stores() && target == 0, "register 0 written");
         events.add_if(value >= 1 << 31, "word above 2147483647");
         events.add_if(self.machine.faulted(), "fault by c or x, executed before");
@@ -185,6 +204,7 @@ impl<R: Rules> Game<R> {
             events.add_if(code == Code::H && target == 4 * words - 2, "H committed at byte 4W - 2");
         }
         self.check.committed(commit);
+        self.distances.committed(events, index, step);
     }
 
     /// The oldest is an H at an odd byte number, below the end of memory.
@@ -202,18 +222,31 @@ impl<R: Rules> Game<R> {
             let (live, faulted) = (self.machine.window.live.len(), self.machine.faulted());
             let odd = self.stopped_by_odd();
             events.add_if(self.machine.done(), "x ended by the program's end");
+            self.tried(events);
             let answer = self.machine.advance();
             events.add_if(!faulted && self.machine.faulted(), "fault by x");
             events.add_if(!odd && self.stopped_by_odd(), "fault by x of an odd H");
             events.add_if(self.machine.window.live.len() + 1 < live, "x squashed");
-            events.add_if(answer.is_some() && round as usize == MANY, "x of more than 64 commits");
+            events.add_if(answer.is_some() && round as usize == MANY, "x of more than 51 commits");
             self.reached = self.reached.max(self.machine.next);
             let Some(commit) = answer else { return };
-            self.committed(events, commit);
+            self.committed(events, commit, "x");
         }
         let left = self.machine.window.live.iter().any(|entry| !entry.waits());
         events.add_if(limit > 0, "x ended by its limit");
         events.add_if(limit > 0 && left, "x left live ones executed");
+    }
+
+    /// Notes what the next round of a finish executes, if it executes anything.
+    fn tried(&mut self, events: &mut Events) {
+        let mut tried = self.machine.clone();
+        if tried.window.live.is_empty() && tried.issue().is_err() || !tried.window.live[0].waits() {
+            return;
+        }
+        let before = tried.window.clone();
+        if tried.execute(0).is_ok() {
+            self.noted(events, &before, 0, tried.window.live[0], true);
+        }
     }
 
     fn end(&self, events: &mut Events) {

@@ -90,6 +90,8 @@ pub struct Entry {
     pub index: usize,
     pub instruction: Instruction,
     pub fate: Fate,
+    /// Of a load that executed, how many positions older the store was whose word it took, or 0; else 0.
+    pub distance: usize,
 }
 
 impl Entry {

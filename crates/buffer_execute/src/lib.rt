@@ -148,6 +148,7 @@ pub fn execute(mut t: Table, ticket: Ticket, action: Action, memory: &[u32]) -> 
     ExecuteResult {
         answer: ExecuteAnswer::Executed(
             engine_steps::answered(effect.load, effect.store, effect.value),
+            effect.distance,
             squash,
         ),
         table: t,

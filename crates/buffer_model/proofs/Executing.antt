@@ -27,7 +27,7 @@ use Rattle.engine.specs.Conditions.{refusal, hasExecuted}
 use Rattle.engine.specs.Contract.{refused, executed}
 use Rattle.engine.specs.computed.Effect.{effectAt, answered, applyEffect}
 use Rattle.engine.proofs.Fated.{executed-at}
-use Rattle.engine.proofs.Executed.{effect-left, effect-value, effect-view, effect-rules}
+use Rattle.engine.proofs.Executed.{effect-left, effect-value, effect-distance, effect-view, effect-rules}
 use Rattle.buffer_model.specs.declared.Squashed.{Squashed}
 use Rattle.buffer_model.specs.Answers.{squashSays}
 use Rattle.buffer_model.specs.Refusals.{place, names, executeChecks}
@@ -154,7 +154,7 @@ module _ (t : Table) (rules : Rules t) (τ : Ticket) (m : List ℕ) where
       pub executes-meets : Lengths t → (q .left ≡ 0 → ⊥) → (v : ℕ) → v ≡ answered (q .load) (q .store) (q .value)
           → (gone : Squashed) → gone ≡ cutFrom (t .oldest) (t .stages) (t .live) (q .left) (t .numbers)
           → (u : Table) → u ≡ applyEffect t q (τ .stage)
-          → Meets t (execute τ act) m (executed v (squashSays gone)) u m
+          → Meets t (execute τ act) m (executed v (q .distance) (squashSays gone)) u m
       executes-meets lengths some v hv gone hg u hu =
           let now = ready early in
           let stays : effectAt t p m act .left ≡ 0 → ⊥ = λ z. some (ap (λ (x : Effect). x .left) found ∙ z) in
@@ -162,14 +162,16 @@ module _ (t : Table) (rules : Rules t) (τ : Ticket) (m : List ℕ) where
           hu ∙ ap₂ (applyEffect t) found (sym (now .here)) in
           accepted-meets t (execute τ act) m rules
           (left-decides ∙ ap (λ (b : Bool). cond b 10 0) (ne-eqb (q .left) 0 some))
-          (executed v (squashSays gone))
+          (executed v (q .distance) (squashSays gone))
           u
           m
-          (ap₂ executed
+          (ap (executed v (q .distance))
+          (ap squashSays hg ∙ squash-from t rules (q .left) ∙ ap (squashFrom (view t)) left-is)
+          ∙ ap₂ (λ (x d : ℕ). executed x d (squashFrom (view t) (survivors (view t) p fate)))
           (hv
           ∙ ap (λ (x : Effect). answered (x .load) (x .store) (x .value)) found
           ∙ effect-value t rules p (now .live) m act stays)
-          (ap squashSays hg ∙ squash-from t rules (q .left) ∙ ap (squashFrom (view t)) left-is))
+          (ap (λ (x : Effect). x .distance) found ∙ effect-distance t rules p (now .live) m act stays))
           (ap view is ∙ effect-view t rules p (now .live) m lengths (now .idle) act stays)
           refl
           refl

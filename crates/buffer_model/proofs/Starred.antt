@@ -15,7 +15,7 @@ use Rattle.table.specs.Limits.{sizesFit}
 use Rattle.table.specs.Reference.{State}
 use Rattle.table.specs.Rules.{Rules}
 use Rattle.table.specs.View.{view, tabulate}
-use Rattle.lookup.specs.Forwarding.{seen}
+use Rattle.lookup.specs.Forwarding.{seen, distance}
 use Rattle.lookup.specs.Violation.{keptYounger}
 use Rattle.lookup.specs.Rows.{touched}
 use Rattle.engine.specs.Conditions.{refusal}
@@ -29,6 +29,7 @@ use Rattle.buffer_model.specs.Examples.{Turn, Example, played, answered,
 use Rattle.buffer_model.specs.Examples.{examples}
 use Rattle.buffer_model.specs.Edges.{openings, calls}
 use Rattle.buffer_model.specs.PartStores.{partStores}
+use Rattle.buffer_model.specs.Distances.{distances}
 
 session-played : {t : Table} {m : List ℕ} {turns : List Turn} {answers : List Answer} → Rules t
     → Session t m turns answers → answers ≡ played (view t) m turns
@@ -78,6 +79,7 @@ each : (rows : List Example) → map answered rows ≡ map (λ e. e .answers) ro
 each [] h = tt
 each (e ∷ rows) h = (shown e cc, each rows cc)
 
-pub starred : AllShown (examples ++ openings ++ calls ++ partStores)
-unfolding examples openings calls partStores played respond sizesFit tabulate seen keptYounger touched count last home bank
-starred = each (examples ++ openings ++ calls ++ partStores) refl
+pub starred : AllShown (examples ++ openings ++ calls ++ partStores ++ distances)
+unfolding examples openings calls partStores distances played respond sizesFit tabulate seen distance keptYounger touched
+    count last home bank
+starred = each (examples ++ openings ++ calls ++ partStores ++ distances) refl

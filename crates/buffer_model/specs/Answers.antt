@@ -35,4 +35,4 @@ squashSays (From τ) = some τ
 -- of the executes
 abbrev pub executeSays : ExecuteAnswer → Answer
 executeSays (execute-answer.Refused k) = refused k
-executeSays (execute-answer.Executed v s) = executed v (squashSays s)
+executeSays (execute-answer.Executed v d s) = executed v d (squashSays s)

@@ -10,7 +10,7 @@ use Rattle.marks.specs.Circle.{stage}
 use Rattle.table.specs.declared.Ticket.{Ticket}
 use Rattle.table.specs.Reference.{Fate, numberOf, fateOf, at, State}
 use Rattle.table.specs.Moves.{issued, squashTo, retire}
-use Rattle.lookup.specs.Forwarding.{forwarded}
+use Rattle.lookup.specs.Forwarding.{forwarded, distance}
 use Rattle.lookup.specs.Outcome.{survivors, executes}
 use Rattle.engine.specs.declared.Action.{Action}
 use Rattle.engine.specs.declared.Action.the-variants.{Compute, LoadAt, StoreAt, PartAt}
@@ -69,6 +69,7 @@ acceptedResult (execute τ act) P memory =
     record {
       answer =
           executed (answerOf (forwarded P memory (place P τ)) act)
+          (answerOf (distance (P .refs) (place P τ)) act)
           (squashFrom P (survivors P (place P τ) (comesTo P memory τ act)));
       state = executes P (place P τ) (comesTo P memory τ act);
       memory = memory;

@@ -1,6 +1,7 @@
 -- 01's starred examples as a table: the sizes and the memory of an opening, the calls after it, and what opening and calls
 -- answer. Below them stand rows for what they leave out; specs/Edges.antt has the limits and the refusals, specs/PartStores.antt
--- the stores of bytes and half words. proofs/Starred.antt shows that every row comes out.
+-- the stores of bytes and half words, specs/Distances.antt how far a word came. proofs/Starred.antt shows that every row comes
+-- out.
 -- As long as nothing has been squashed or committed, position p is at stage p under issue number p: its ticket is τ p p.
 -- Assumes nothing.
 use mathlib.Core.Path.{_≡_}
@@ -105,51 +106,51 @@ examples =
     ∷ commit ∷ commit ∷ issue ∷ issue
     ∷ executeLoad (τ 2 4) 100 ∷ executeLoad (τ 3 5) 120 ∷ [])
     (named (τ 0 0) ∷ named (τ 1 1) ∷ named (τ 2 2) ∷ named (τ 3 3)
-    ∷ executed 140 none ∷ executed 0 none ∷ executed 0 none ∷ executed 0 (some (τ 2 2))
+    ∷ executed 140 0 none ∷ executed 0 0 none ∷ executed 0 0 none ∷ executed 0 0 (some (τ 2 2))
     ∷ named (τ 0 0) ∷ named (τ 1 1) ∷ named (τ 2 4) ∷ named (τ 3 5)
-    ∷ executed 120 none ∷ executed 50 none ∷ [])
+    ∷ executed 120 0 none ∷ executed 50 0 none ∷ [])
     -- Position 0 stores 7 at 5, then 1 loads 5: takes 7.
     ∷ usual
     (issue ∷ issue ∷ executeStore (τ 0 0) 5 7 ∷ executeLoad (τ 1 1) 5 ∷ [])
-    (named (τ 0 0) ∷ named (τ 1 1) ∷ executed 0 none ∷ executed 7 none ∷ [])
+    (named (τ 0 0) ∷ named (τ 1 1) ∷ executed 0 0 none ∷ executed 7 1 none ∷ [])
     -- Position 1 stores 7 at 5, then 0 loads 5: takes 0, no squash.
     ∷ usual
     (issue ∷ issue ∷ executeStore (τ 1 1) 5 7 ∷ executeLoad (τ 0 0) 5 ∷ [])
-    (named (τ 0 0) ∷ named (τ 1 1) ∷ executed 0 none ∷ executed 0 none ∷ [])
+    (named (τ 0 0) ∷ named (τ 1 1) ∷ executed 0 0 none ∷ executed 0 0 none ∷ [])
     -- 0 and 1 store 7 at 5, 2 loads 5; order 1, 2, 0: no squash.
     ∷ usual
     (issue ∷ issue ∷ issue
     ∷ executeStore (τ 1 1) 5 7 ∷ executeLoad (τ 2 2) 5 ∷ executeStore (τ 0 0) 5 7 ∷ [])
     (named (τ 0 0) ∷ named (τ 1 1) ∷ named (τ 2 2)
-    ∷ executed 0 none ∷ executed 7 none ∷ executed 0 none ∷ [])
+    ∷ executed 0 0 none ∷ executed 7 1 none ∷ executed 0 0 none ∷ [])
     -- Order 2, 0: squash from 2.
     ∷ usual
     (issue ∷ issue ∷ issue ∷ executeLoad (τ 2 2) 5 ∷ executeStore (τ 0 0) 5 7 ∷ [])
-    (named (τ 0 0) ∷ named (τ 1 1) ∷ named (τ 2 2) ∷ executed 0 none ∷ executed 0 (some (τ 2 2)) ∷ [])
+    (named (τ 0 0) ∷ named (τ 1 1) ∷ named (τ 2 2) ∷ executed 0 0 none ∷ executed 0 0 (some (τ 2 2)) ∷ [])
     -- R 1: 1 loads 5, then 0 loads 6: squash from 1.
     ∷ sized 1 1
     (issue ∷ issue ∷ executeLoad (τ 1 1) 5 ∷ executeLoad (τ 0 0) 6 ∷ [])
-    (named (τ 0 0) ∷ named (τ 1 1) ∷ executed 0 none ∷ executed 0 (some (τ 1 1)) ∷ [])
+    (named (τ 0 0) ∷ named (τ 1 1) ∷ executed 0 0 none ∷ executed 0 0 (some (τ 1 1)) ∷ [])
     -- R 1: 0 loads 5, then 1 loads 6: refusal 10.
     ∷ sized 1 1
     (issue ∷ issue ∷ executeLoad (τ 0 0) 5 ∷ executeLoad (τ 1 1) 6 ∷ [])
-    (named (τ 0 0) ∷ named (τ 1 1) ∷ executed 0 none ∷ refused 10 ∷ [])
+    (named (τ 0 0) ∷ named (τ 1 1) ∷ executed 0 0 none ∷ refused 10 ∷ [])
     -- R 2: 1 loads 5, 3 loads 7, then 0 loads 6: squash from 3; 1 stays (it commits without executing again).
     ∷ sized 1 2
     (issue ∷ issue ∷ issue ∷ issue
     ∷ executeLoad (τ 1 1) 5 ∷ executeLoad (τ 3 3) 7 ∷ executeLoad (τ 0 0) 6
     ∷ commit ∷ commit ∷ [])
     (named (τ 0 0) ∷ named (τ 1 1) ∷ named (τ 2 2) ∷ named (τ 3 3)
-    ∷ executed 0 none ∷ executed 0 none ∷ executed 0 (some (τ 3 3))
+    ∷ executed 0 0 none ∷ executed 0 0 none ∷ executed 0 0 (some (τ 3 3))
     ∷ named (τ 0 0) ∷ named (τ 1 1) ∷ [])
     -- A load of 199 commits.
     ∷ usual
     (issue ∷ executeLoad (τ 0 0) 199 ∷ commit ∷ [])
-    (named (τ 0 0) ∷ executed 0 none ∷ named (τ 0 0) ∷ [])
+    (named (τ 0 0) ∷ executed 0 0 none ∷ named (τ 0 0) ∷ [])
     -- A load of 200 takes 0 and its commit is refusal 13.
     ∷ usual
     (issue ∷ executeLoad (τ 0 0) 200 ∷ commit ∷ [])
-    (named (τ 0 0) ∷ executed 0 none ∷ refused 13 ∷ [])
+    (named (τ 0 0) ∷ executed 0 0 none ∷ refused 13 ∷ [])
     -- Four issues pass, the fifth is refusal 5.
     ∷ usual
     (issue ∷ issue ∷ issue ∷ issue ∷ issue ∷ [])
@@ -164,36 +165,36 @@ examples =
     ∷ executeOther (τ 0 0) ∷ executeOther (τ 1 1) ∷ commit ∷ commit ∷ issue ∷ issue
     ∷ executeStore (τ 3 3) 5 7 ∷ executeLoad (τ 0 4) 5 ∷ [])
     (named (τ 0 0) ∷ named (τ 1 1) ∷ named (τ 2 2) ∷ named (τ 3 3)
-    ∷ executed 0 none ∷ executed 0 none ∷ named (τ 0 0) ∷ named (τ 1 1) ∷ named (τ 0 4) ∷ named (τ 1 5)
-    ∷ executed 0 none ∷ executed 7 none ∷ [])
+    ∷ executed 0 0 none ∷ executed 0 0 none ∷ named (τ 0 0) ∷ named (τ 1 1) ∷ named (τ 0 4) ∷ named (τ 1 5)
+    ∷ executed 0 0 none ∷ executed 7 1 none ∷ [])
     -- Not starred in 01, from here on.
 
     -- A store of the same word squashes too.
     ∷ usual
     (issue ∷ issue ∷ executeLoad (τ 1 1) 100 ∷ executeStore (τ 0 0) 100 140 ∷ [])
-    (named (τ 0 0) ∷ named (τ 1 1) ∷ executed 140 none ∷ executed 0 (some (τ 1 1)) ∷ [])
+    (named (τ 0 0) ∷ named (τ 1 1) ∷ executed 140 0 none ∷ executed 0 0 (some (τ 1 1)) ∷ [])
     -- A store at W forwards to a load there; its commit is refusal 13.
     ∷ usual
     (issue ∷ issue ∷ executeStore (τ 0 0) 200 7 ∷ executeLoad (τ 1 1) 200 ∷ commit ∷ [])
-    (named (τ 0 0) ∷ named (τ 1 1) ∷ executed 0 none ∷ executed 7 none ∷ refused 13 ∷ [])
+    (named (τ 0 0) ∷ named (τ 1 1) ∷ executed 0 0 none ∷ executed 7 1 none ∷ refused 13 ∷ [])
     -- A load at W went before an older store there: squash from the load.
     ∷ usual
     (issue ∷ issue ∷ executeLoad (τ 1 1) 200 ∷ executeStore (τ 0 0) 200 7 ∷ [])
-    (named (τ 0 0) ∷ named (τ 1 1) ∷ executed 0 none ∷ executed 0 (some (τ 1 1)) ∷ [])
+    (named (τ 0 0) ∷ named (τ 1 1) ∷ executed 0 0 none ∷ executed 0 0 (some (τ 1 1)) ∷ [])
     -- Commit two, issue two; a squash from position 1 also drops positions 2 and 3, past the last stage.
     ∷ usual
     (issue ∷ issue ∷ issue ∷ issue
     ∷ executeOther (τ 0 0) ∷ executeOther (τ 1 1) ∷ commit ∷ commit ∷ issue ∷ issue
     ∷ squash (τ 3 3) ∷ executeOther (τ 0 4) ∷ executeOther (τ 1 5) ∷ [])
     (named (τ 0 0) ∷ named (τ 1 1) ∷ named (τ 2 2) ∷ named (τ 3 3)
-    ∷ executed 0 none ∷ executed 0 none ∷ named (τ 0 0) ∷ named (τ 1 1) ∷ named (τ 0 4) ∷ named (τ 1 5)
+    ∷ executed 0 0 none ∷ executed 0 0 none ∷ named (τ 0 0) ∷ named (τ 1 1) ∷ named (τ 0 4) ∷ named (τ 1 5)
     ∷ done ∷ refused 7 ∷ refused 7 ∷ [])
     -- R 1: 0 and 2 load 5, then 1 loads 6: refusal 10, for the row holds one older mark.
     ∷ sized 1 1
     (issue ∷ issue ∷ issue ∷ executeLoad (τ 0 0) 5 ∷ executeLoad (τ 2 2) 5 ∷ executeLoad (τ 1 1) 6 ∷ [])
-    (named (τ 0 0) ∷ named (τ 1 1) ∷ named (τ 2 2) ∷ executed 0 none ∷ executed 0 none ∷ refused 10 ∷ [])
+    (named (τ 0 0) ∷ named (τ 1 1) ∷ named (τ 2 2) ∷ executed 0 0 none ∷ executed 0 0 none ∷ refused 10 ∷ [])
     -- B 2, R 1: 0 loads 5, then 1 loads 6: in the other bank a row is free.
     ∷ sized 2 1
     (issue ∷ issue ∷ executeLoad (τ 0 0) 5 ∷ executeLoad (τ 1 1) 6 ∷ [])
-    (named (τ 0 0) ∷ named (τ 1 1) ∷ executed 0 none ∷ executed 0 none ∷ [])
+    (named (τ 0 0) ∷ named (τ 1 1) ∷ executed 0 0 none ∷ executed 0 0 none ∷ [])
     ∷ []

@@ -7,5 +7,6 @@ pub mod Life
 pub mod Examples
 pub mod Edges
 pub mod PartStores
+pub mod Distances
 pub mod Damaged
 pub mod computed

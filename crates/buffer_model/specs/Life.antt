@@ -31,8 +31,8 @@ abbrev pub isTicket : Answer → Bool
 isTicket (refused k) = false
 isTicket done = false
 isTicket (named τ) = true
-isTicket (executed v s) = false
-isTicket (committed i c r v) = false
+isTicket (executed v d s) = false
+isTicket (committed i c r v d) = false
 isTicket (finished k) = false
 
 -- one more issue, where the call is one that was not refused

@@ -20,10 +20,10 @@ pub enum TicketAnswer {
     Named(Ticket),
 }
 
-// The answer of the executes: the value (of a load, else 0), and what was squashed.
+// The answer of the executes: the value and the distance (of a load, else 0), and what was squashed.
 pub enum ExecuteAnswer {
     Refused(u32),
-    Executed(u32, Squashed),
+    Executed(u32, u32, Squashed),
 }
 
 pub struct DoneResult {

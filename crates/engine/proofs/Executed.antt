@@ -1,7 +1,8 @@
 -- What an execution at a position leaves: one law whatever is executed. The effect that the code finds says how many
--- references stay (effect-left), in which row the mark is set (effect-bounds) and what a load takes (effect-value); the table
--- with that effect applied has the references that stay, the executing one with its fate, and keeps the rules (effect-view,
--- effect-rules). By what is executed: a value alone is noted, an access is marked in the row found in the table that is left.
+-- references stay (effect-left), in which row the mark is set (effect-bounds), what a load takes (effect-value) and how far it
+-- came (effect-distance); the table with that effect applied has the references that stay, the executing one with its fate,
+-- and keeps the rules (effect-view, effect-rules). By what is executed: a value alone is noted, an access is marked in the row
+-- found in the table that is left.
 -- Assumes nothing.
 use mathlib.Core.Path.{_≡_, refl, sym, ap, ap₂, subst, _∙_}
 use mathlib.Core.Bool.{Bool, true, false, cond, _||_}
@@ -27,10 +28,10 @@ use Rattle.engine.proofs.Lengths.{Lengths}
 use Rattle.engine.proofs.Narrowing.{cut-rules, cut-view, cut-lengths, cut-row}
 use Rattle.engine.proofs.Marking.{access-rules, access-view, noted-rules, noted-view}
 use Rattle.lookup.specs.declared.Place.{Place}
-use Rattle.lookup.specs.Forwarding.{forwarded}
+use Rattle.lookup.specs.Forwarding.{forwarded, distance}
 use Rattle.lookup.specs.computed.Search.{forward}
 use Rattle.lookup.specs.Outcome.{survivors, executes}
-use Rattle.lookup.proofs.Forwards.{forward-seen}
+use Rattle.lookup.proofs.Forwards.{forward-seen, forward-distance}
 use Rattle.lookup.proofs.Places.{placeAt, storeAt, Placed, place-left, placed, store-left, store-placed}
 use Rattle.engine.specs.declared.Action.{Action}
 use Rattle.engine.specs.declared.Action.the-variants.{Compute, LoadAt, StoreAt, PartAt}
@@ -68,7 +69,8 @@ module _ (t : Table) (rules : Rules t) (p : ℕ) (live : p < t .live) (w : List 
 
   -- the word found in the row is the one that a load takes
   taken : (a : ℕ) (found : Place) → Placed t a p found
-      → forward (t .oldest) (t .stages) (t .stores) (t .values) (found .row) p (getD w a 0) ≡ forwarded (view t) w p a
+      → forward (t .oldest) (t .stages) (t .stores) (t .values) (found .row) p (getD w a 0) .word
+      ≡ forwarded (view t) w p a
   taken a found q =
       forward-seen t rules a (found .row) p _ (le-of-lt live)
       (row-for-less t a (found .row) (found .left) p (le-of-lt (q .after)) (q .owned))
@@ -79,6 +81,16 @@ module _ (t : Table) (rules : Rules t) (p : ℕ) (live : p < t .live) (w : List 
   effect-value (LoadAt a) stays = taken a (placeAt t a p) (placed t rules a p live stays)
   effect-value (StoreAt a x) stays = refl
   effect-value (PartAt part b x) stays = refl
+
+  pub effect-distance : (act : Action) → (effectAt t p w act .left ≡ 0 → ⊥)
+      → effectAt t p w act .distance ≡ answerOf (distance (view t .refs) p) act
+  effect-distance (Compute x) stays = refl
+  effect-distance (LoadAt a) stays =
+      let q = placed t rules a p live stays in
+      forward-distance t rules a (placeAt t a p .row) p (le-of-lt live)
+      (row-for-less t a (placeAt t a p .row) (placeAt t a p .left) p (le-of-lt (q .after)) (q .owned))
+  effect-distance (StoreAt a x) stays = refl
+  effect-distance (PartAt part b x) stays = refl
 
   -- what a part's store stores
   pub part-value : (part : Part) (b x : ℕ) → (effectAt t p w (PartAt part b x) .left ≡ 0 → ⊥)

@@ -16,12 +16,13 @@ fateBy μ (LoadAt a) = loaded a
 fateBy μ (StoreAt a v) = stored a v
 fateBy μ (PartAt part b v) = merged (wordOf b) (whole part b (μ (wordOf b)) v)
 
--- the value that its execution answers: of a load the word that it takes, else 0
+-- The number that its execution answers: of a load what f says of its address, else 0. For the value f is the memory as seen,
+-- for the distance how far a word of it came.
 abbrev pub answerOf : (ℕ → ℕ) → Action → ℕ
-answerOf μ (Compute v) = 0
-answerOf μ (LoadAt a) = μ a
-answerOf μ (StoreAt a v) = 0
-answerOf μ (PartAt part b v) = 0
+answerOf f (Compute v) = 0
+answerOf f (LoadAt a) = f a
+answerOf f (StoreAt a v) = 0
+answerOf f (PartAt part b v) = 0
 
 -- memory with a store's word at address a, if there is one
 abbrev pub writtenAt : List ℕ → ℕ → Side → List ℕ

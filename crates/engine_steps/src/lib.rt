@@ -105,6 +105,7 @@ pub fn effect_of<'a>(
             left: live,
             value: v,
             address: 0,
+            distance: 0,
         },
         Action::LoadAt(a) => {
             let place = lookup_rows::place_of(
@@ -120,7 +121,7 @@ pub fn effect_of<'a>(
                 p,
             );
             let r = place.row;
-            let v = lookup_marks::forwarded(
+            let taken = lookup_marks::forwarded(
                 oldest,
                 stages,
                 stores,
@@ -135,8 +136,9 @@ pub fn effect_of<'a>(
                 row: r,
                 word: a,
                 left: place.left,
-                value: v,
+                value: taken.word,
                 address: a,
+                distance: taken.distance,
             }
         }
         Action::StoreAt(a, v) => {
@@ -171,6 +173,7 @@ pub fn effect_of<'a>(
                 left,
                 value: v,
                 address: a,
+                distance: 0,
             }
         }
         Action::PartAt(part, b, v) => {
@@ -188,7 +191,7 @@ pub fn effect_of<'a>(
                 p,
             );
             let r = place.row;
-            let w = lookup_marks::forwarded(
+            let taken = lookup_marks::forwarded(
                 oldest,
                 stages,
                 stores,
@@ -213,8 +216,9 @@ pub fn effect_of<'a>(
                 row: r,
                 word: a,
                 left,
-                value: merge(part, b, w, v),
+                value: merge(part, b, taken.word, v),
                 address: b,
+                distance: 0,
             }
         }
     }

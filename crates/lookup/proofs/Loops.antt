@@ -7,9 +7,9 @@ use Prim.Native.Nat.{ℕ, zero, suc, _+_, _-_, _≤_, _<_, suc-le-suc}
 use native.Mathlib.Nat.{le-refl, le-suc, le-step}
 use native.Mathlib.Numerals.{add-one}
 use native.Mathlib.Omega.{arith}
-use lib.Dec.{ltb}
-use borrow.Author.Tests.{lt-ltb, le-ltb}
-use Rattle.lookup.specs.computed.Search.{find, seek, chosen}
+use lib.Dec.{ltb, eqb·suc-zero}
+use borrow.Author.Tests.{ne-eqb, lt-ltb, le-ltb}
+use Rattle.lookup.specs.computed.Search.{find, below, seek, chosen}
 
 find-clause : (f : ℕ → Bool) (n : ℕ) → find f (suc n) ≡ cond (f n) (suc n) (find f n)
 unfolding find
@@ -46,6 +46,16 @@ module _ {f : ℕ → Bool} {n q : ℕ} (finding : Finding f n q) where
   pub finding-none : q ≤ 0 → (0 ≤ n) × (0 ≡ find f n)
   finding-none h = (omega arith, sym (finding .same ∙ find-none f q h))
 
+  -- how far below n it has come
+  pub below-hit : 0 < q → f (q - 1) ≡ true → n - (q - 1) ≡ below n (find f n)
+  below-hit h e =
+      let hit = finding-hit h e in
+      let away : n - (q - 1) ≡ suc n - q = omega (arith, hit .0) in
+      rw (← hit .1, ne-eqb q 0 (λ z. omega arith)) away
+
+  pub below-none : q ≤ 0 → 0 ≡ below n (find f n)
+  below-none h = rw (← finding-none h .1)
+
 pub find-le : (f : ℕ → Bool) (n : ℕ) → find f n ≤ n
 unfolding find
 find-le f zero = le-refl 0
@@ -54,6 +64,10 @@ find-le f (suc n) = go (f n) (find-le f n)
     go : (t : Bool) → find f n ≤ n → cond t (suc n) (find f n) ≤ suc n
     go true l = le-refl (suc n)
     go false l = le-step l
+
+pub below-le : (n k : ℕ) → below n k ≤ n
+below-le n zero = omega arith
+below-le n (suc k) = rw (eqb·suc-zero k) (omega arith)
 
 seek-turn : (f : ℕ → Bool) (live q : ℕ) → q < live
     → seek f (live - q) q ≡ cond (f q) q (seek f (live - (q + 1)) (q + 1))

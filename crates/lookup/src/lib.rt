@@ -7,6 +7,12 @@ pub struct Place {
     pub left: usize,
 }
 
+// What a load takes: the word, and how many positions older the store is that it came from; 0: it came from memory.
+pub struct Taken {
+    pub word: u32,
+    pub distance: u32,
+}
+
 // What the marks of a stage say: none, a load of an address, a store at an address of a word.
 pub enum Mark {
     Absent,

@@ -2,6 +2,7 @@
 //
 // Inner crate: helpers on lent arrays. Positions are of the window of `stages` stages from stage `oldest` on.
 use lookup::Mark;
+use lookup::Taken;
 use table::ROWS;
 use table::SLOTS;
 use table::STAGES;
@@ -19,7 +20,7 @@ pub fn word(memory: &[u32], address: u32) -> u32
     if at < memory.len() { memory[at] } else { 0 }
 }
 
-// One more than the position of the nearest mark of `stores` older than position `p`, or 0.
+// How many positions older than position `p` the nearest mark of `stores` is, or 0.
 pub fn nearest_store(oldest: usize, stages: usize, stores: u32, p: usize) -> usize
     requires { ⌜ (oldest < stages) × (p ≤ stages) × (stages ≤ stagesMost) ⌝ }
     ensures { λ r. ⌜ r ≡ nearest oldest stages stores p ⌝ }
@@ -27,14 +28,14 @@ pub fn nearest_store(oldest: usize, stages: usize, stores: u32, p: usize) -> usi
     let mut q = p;
     while 0 < q {
         if marks::contains(stores, marks::stage_at(oldest, stages, q - 1)) {
-            return q;
+            return p - (q - 1);
         }
         q -= 1;
     }
     0
 }
 
-// The word that a load at position `p` takes from row `r`: the nearest older store's, else `memory`.
+// What a load at position `p` takes from row `r`: the nearest older store's word, else `memory`.
 pub fn forwarded<'a>(
     oldest: usize,
     stages: usize,
@@ -43,16 +44,23 @@ pub fn forwarded<'a>(
     r: usize,
     p: usize,
     memory: u32,
-) -> u32
+) -> Taken
     requires { ⌜ (oldest < stages) × (p ≤ stages) × (stages ≤ stagesMost) × (r < slots) ⌝ }
     requires { ⌜ (length (now stores) ≡ slots) × (length (now values) ≡ stagesMost) ⌝ }
-    ensures { λ w. ⌜ w ≡ forward oldest stages (now (stores .entry)) (now (values .entry)) r p memory ⌝ }
+    ensures { λ t. ⌜ t ≡ forward oldest stages (now (stores .entry)) (now (values .entry)) r p memory ⌝ }
 {
-    let q = nearest_store(oldest, stages, stores[r], p);
-    if q == 0 {
-        return memory;
+    let d = nearest_store(oldest, stages, stores[r], p);
+    if d == 0 {
+        return Taken {
+            word: memory,
+            distance: 0,
+        };
     }
-    values[marks::stage_at(oldest, stages, q - 1)]
+    let word = values[marks::stage_at(oldest, stages, p - d)];
+    Taken {
+        word,
+        distance: d as u32,
+    }
 }
 
 // The first position from `from` on, below `live`, that is marked in `set`; `live` where none is.

@@ -80,6 +80,7 @@ pub fn commit(mut m: Machine, program: &[u32], memory: &mut [u32]) -> CommitResu
             machine_isa::code_of(i),
             machine_isa::target_of(e),
             v,
+            machine_isa::distance_of(e),
         ),
         machine: m,
     }

@@ -106,12 +106,14 @@ pub fn execute(mut m: Machine, program: &[u32], p: usize, memory: &[u32]) -> Exe
         instruction,
         index: e.index,
         fate: Fate::Executed(v, a),
+        distance: effect.distance,
     };
     let f = window[marks::stage_at(oldest, stages, left)];
     m.next = machine_steps::next_after(f.index, live, left, m.next);
     ExecuteResult {
         answer: ExecuteAnswer::Executed(
             engine_steps::answered(effect.load, effect.store, v),
+            effect.distance,
             machine_steps::squashed_at(live, left),
         ),
         machine: m,

@@ -4,11 +4,12 @@ use machine_model::Fate;
 use machine_model::FinishAnswer;
 use machine_model::FinishResult;
 use machine_model::Machine;
+use machine_model::PER_COMMIT;
 ghost use Rattle.machine_model.specs.Calls.{finish};
 ghost use Rattle.machine_model.specs.Contract.{finishSays, Meets};
 
-// Takes the oldest to its commit again and again, until `k` commits, fewer than four places left in the list, the end of the
-// program, or a fault. Each commit's four numbers go to the list.
+// Takes the oldest to its commit again and again, until `k` commits, fewer places left in the list than a commit takes, the end
+// of the program, or a fault. Each commit's numbers go to the list.
 //
 // The steps of `issue`, `execute` and `commit` at the oldest stand here once more, in place: a function for each would copy
 // the machine.
@@ -48,7 +49,7 @@ pub fn finish(
     let limit = k as usize;
     let mut n: usize = 0;
     while n < limit {
-        if list.len() - n * 4 < 4 {
+        if list.len() - n * PER_COMMIT < PER_COMMIT {
             return FinishResult {
                 answer: FinishAnswer::Finished(n),
                 machine: m,
@@ -73,6 +74,7 @@ pub fn finish(
                 instruction: machine_isa::instruction_at(program, next as usize),
                 index: next,
                 fate: Fate::Waiting,
+                distance: 0,
             };
             m.next = next + 1;
         }
@@ -120,6 +122,7 @@ pub fn finish(
                 instruction,
                 index: e.index,
                 fate: Fate::Executed(v, a),
+                distance: effect.distance,
             };
             m.next = machine_steps::next_after(f.index, live, left, m.next);
         }
@@ -152,13 +155,14 @@ pub fn finish(
         engine_steps::keep(&mut m.table.loads, banks, stay);
         engine_steps::keep(&mut m.table.stores, banks, stay);
         machine_steps::write_register(&mut m.registers, i, v);
-        machine_isa::put_four(
+        machine_isa::put_commit(
             list,
-            n * 4,
+            n * PER_COMMIT,
             done.index,
             machine_isa::code_of(i),
             machine_isa::target_of(done),
             v,
+            machine_isa::distance_of(done),
         );
         n += 1;
     }

@@ -15,7 +15,7 @@ ghost use Rattle.machine_model.specs.Program.{decoded, instructionAt, wellForme
 ghost use Rattle.machine_model.specs.Program.{kind, destination};
 ghost use Rattle.machine_model.specs.Contract.{kindOf, placeOf};
 ghost use Rattle.machine_model.specs.Window.{addressBy, misaligned, reference};
-ghost use Rattle.machine_model.specs.Calls.{waits, valueBy, target};
+ghost use Rattle.machine_model.specs.Calls.{waits, valueBy, answerBy, target, perCommit};
 ghost use Rattle.machine_model.specs.computed.Parts.{registerNumber, kindBy, placeBy, likeBy, actionOf, second};
 
 // The four numbers of an instruction.
@@ -46,17 +46,47 @@ fn numbers_of(i: Instruction) -> Numbers
     ensures { λ r. ⌜ (r .code ≡ codeOf i) × (r .d ≡ dOf i) × (r .s ≡ sOf i) × (r .imm ≡ immOf i) ⌝ }
 {
     match i {
-        Instruction::Add(d, s, imm) => Numbers { code: 1, d, s, imm },
-        Instruction::Sum(d, s, imm) => Numbers { code: 2, d, s, imm },
-        Instruction::Load(d, s, imm) => Numbers { code: 3, d, s, imm },
-        Instruction::Store(d, s, imm) => Numbers { code: 4, d, s, imm },
-        Instruction::Byte(d, s, imm) => Numbers { code: 5, d, s, imm },
-        Instruction::Half(d, s, imm) => Numbers { code: 6, d, s, imm },
+        Instruction::Add(d, s, imm) => Numbers {
+            code: 1,
+            d: d as u32,
+            s: s as u32,
+            imm,
+        },
+        Instruction::Sum(d, s, imm) => Numbers {
+            code: 2,
+            d: d as u32,
+            s: s as u32,
+            imm,
+        },
+        Instruction::Load(d, s, imm) => Numbers {
+            code: 3,
+            d: d as u32,
+            s: s as u32,
+            imm,
+        },
+        Instruction::Store(d, s, imm) => Numbers {
+            code: 4,
+            d: d as u32,
+            s: s as u32,
+            imm,
+        },
+        Instruction::Byte(d, s, imm) => Numbers {
+            code: 5,
+            d: d as u32,
+            s: s as u32,
+            imm,
+        },
+        Instruction::Half(d, s, imm) => Numbers {
+            code: 6,
+            d: d as u32,
+            s: s as u32,
+            imm,
+        },
     }
 }
 
 // The instruction with these four numbers.
-fn decode(code: u32, d: u32, s: u32, imm: u32) -> Instruction
+fn decode(code: u32, d: u8, s: u8, imm: u32) -> Instruction
     ensures { λ r. ⌜ r ≡ decoded code d s imm ⌝ }
 {
     if code == 1 {
@@ -79,11 +109,17 @@ fn decode(code: u32, d: u32, s: u32, imm: u32) -> Instruction
 
 // The instruction at index `i` of the program.
 pub fn instruction_at(program: &[u32], i: usize) -> Instruction
-    requires { ⌜ i * 4 + 3 < length (now program) ⌝ }
+    requires { ⌜ (i * 4 + 3 < length (now program)) × (getD (now program) (i * 4 + 1) 0 < 8) × (getD (now program) (i * 4 + 2) 0 <
+        8) ⌝ }
     ensures { λ r. ⌜ r ≡ instructionAt (now (program .entry)) i ⌝ }
 {
     let k = i * 4;
-    decode(program[k], program[k + 1], program[k + 2], program[k + 3])
+    decode(
+        program[k],
+        program[k + 1] as u8,
+        program[k + 2] as u8,
+        program[k + 3],
+    )
 }
 
 // Whether these four numbers are an instruction.
@@ -229,12 +265,12 @@ pub fn second_of(i: Instruction) -> u32
     ensures { λ r. ⌜ r ≡ second i ⌝ }
 {
     match i {
-        Instruction::Add(_, s, _) => s,
+        Instruction::Add(_, s, _) => s as u32,
         Instruction::Sum(_, _, r) => r,
-        Instruction::Load(_, s, _) => s,
-        Instruction::Store(d, _, _) => d,
-        Instruction::Byte(d, _, _) => d,
-        Instruction::Half(d, _, _) => d,
+        Instruction::Load(_, s, _) => s as u32,
+        Instruction::Store(d, _, _) => d as u32,
+        Instruction::Byte(d, _, _) => d as u32,
+        Instruction::Half(d, _, _) => d as u32,
     }
 }
 
@@ -311,6 +347,20 @@ pub fn is_misaligned(e: Entry) -> bool
     (code_of(i) == 6) & (address_of(e) % 2 == 1)
 }
 
+// The fifth number of a commit: how far a load's word came, else 0.
+pub fn distance_of(e: Entry) -> u32
+    ensures { λ r. ⌜ r ≡ answerBy (kind (e .instruction)) (e .distance) ⌝ }
+{
+    let i = e.instruction;
+    let kind = kind_of(i);
+    match kind {
+        Kind::Computing => 0,
+        Kind::Loading => e.distance,
+        Kind::Storing => 0,
+        Kind::Merging => 0,
+    }
+}
+
 // Four numbers from place `at` of the list on.
 pub fn put_four(list: &mut [u32], at: usize, i: u32, c: u32, r: u32, v: u32)
     requires { ⌜ at + 4 ≤ length (now list) ⌝ }
@@ -320,4 +370,13 @@ pub fn put_four(list: &mut [u32], at: usize, i: u32, c: u32, r: u32, v: u32)
     list[at + 1] = c;
     list[at + 2] = r;
     list[at + 3] = v;
+}
+
+// A commit's numbers from place `at` of the list on.
+pub fn put_commit(list: &mut [u32], at: usize, i: u32, c: u32, r: u32, v: u32, d: u32)
+    requires { ⌜ at + perCommit ≤ length (now list) ⌝ }
+    ensures { λ x. ⌜ now (list .exit) ≡ sets (now (list .entry)) at (i ∷ c ∷ r ∷ v ∷ d ∷ []) ⌝ }
+{
+    put_four(list, at, i, c, r, v);
+    list[at + 4] = d;
 }

@@ -29,6 +29,7 @@ fn empty(table: Table, count: u32) -> Machine
             instruction: Instruction::Add(0, 0, 0),
             index: 0,
             fate: Fate::Waiting,
+            distance: 0,
         }; STAGES],
         registers: [0; REGISTERS],
         count,
@@ -130,6 +131,7 @@ pub fn issue(mut m: Machine, program: &[u32]) -> IssueResult
         instruction: machine_isa::instruction_at(program, next as usize),
         index: next,
         fate: Fate::Waiting,
+        distance: 0,
     };
     m.next = next + 1;
     IssueResult {

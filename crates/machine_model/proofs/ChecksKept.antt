@@ -40,6 +40,7 @@ use Rattle.machine_model.specs.Calls.{
   evaluated,
   known,
   survivorsOf,
+  loadDistance,
   executions,
   commitChecks,
   commits,
@@ -169,7 +170,8 @@ module _ (program : List ℕ) (lent : ℕ) (X : Plain) (w : List ℕ) (fit : Fit
   execute-fits : (p : ℕ) → Fitting program lent (executions program X w p .state)
   execute-fits p =
       let g = matchesProgram program (X .count) in
-      let e = entryWith (entryAt (X .entries) p) (known (evaluated X w p)) in
+      let f = known (evaluated X w p) in
+      let e = entryWith (entryAt (X .entries) p) f (loadDistance X p f) in
       judged-fits (refusal (executeChecks program X w p)) _
       (λ _.
       record {
@@ -177,7 +179,7 @@ module _ (program : List ℕ) (lent : ℕ) (X : Plain) (w : List ℕ) (fit : Fit
         counted = fit .counted;
         alike =
             all-take g (set (X .entries) p e) (all-set g (X .entries) (fit .alike) p e (fit .alike p))
-            (survivorsOf X p (known (evaluated X w p)));
+            (survivorsOf X p f);
       })
 
   commit-fits : Fitting program lent (commits program X w .state)

@@ -28,9 +28,9 @@ use Rattle.engine.proofs.Meeting.{judged-refused}
 use Rattle.engine.proofs.Fated.{stored-word, told-written}
 use Rattle.machine_model.specs.declared.Entry.{Entry}
 use Rattle.machine_model.specs.declared.Machine.{Machine}
-use Rattle.machine_model.specs.Program.{codeOf}
+use Rattle.machine_model.specs.Program.{codeOf, kind}
 use Rattle.machine_model.specs.Window.{blankEntry, entryAt, addressBy, misaligned, reference}
-use Rattle.machine_model.specs.Calls.{commit, waits, valueBy, registersAfter, target, committedSays, committing}
+use Rattle.machine_model.specs.Calls.{commit, waits, valueBy, answerBy, registersAfter, target, committedSays, committing}
 use Rattle.machine_model.specs.Calls.{respond}
 use Rattle.machine_model.specs.Contract.{plain, agree, Meets}
 use Rattle.machine_model.specs.computed.Parts.{entriesOf, markWith}
@@ -146,13 +146,14 @@ module _ (program : List ℕ) (m : Machine) (w : List ℕ) (passed : Passed m pr
         -- stages that stay, the two mark words, the registers.
         pub commit-meets : faults (m .table .words) (markedFate mark) ≡ false → misaligned own ≡ false
             → let t = m .table in
-            (o rest code place v : ℕ) (loads stores registers memory : List ℕ)
+            (o rest code place v d : ℕ) (loads stores registers memory : List ℕ)
             → o ≡ stageOf t 1 → rest ≡ firsts o (t .stages) (t .live - 1) → loads ≡ within (rowsIn (t .banks)) (t .loads) rest
             → stores ≡ within (rowsIn (t .banks)) (t .stores) rest → code ≡ codeOf (own .instruction)
             → place ≡ target (own .instruction) (addressBy (own .fate)) → v ≡ valueBy (own .fate)
+            → d ≡ answerBy (kind (own .instruction)) (own .distance)
             → registers ≡ registersAfter (m .registers) (own .instruction) v → memory ≡ written w (markedFate mark)
-            → Meets program m commit w (committed (own .index) code place v) (retiredBy m o loads stores registers) memory []
-        commit-meets fine even o rest code place v loads stores registers memory ho hs hl hr hc hp hv hg hw =
+            → Meets program m commit w (committed (own .index) code place v d) (retiredBy m o loads stores registers) memory []
+        commit-meets fine even o rest code place v d loads stores registers memory ho hs hl hr hc hp hv hd hg hw =
             let t = m .table in
             let rules = passed .sound .rules in
             let refs = view t .refs in
@@ -179,7 +180,7 @@ module _ (program : List ℕ) (m : Machine) (w : List ℕ) (passed : Passed m pr
             })
             entries (sym oldest-entry) in
             let none : number ≡ 0 = number-is ∙ rw (done, sym faults-same ∙ fine, even) in
-            rw (hw, hg, hv, hp, hc, hr, hl, hs, ho)
+            rw (hw, hg, hd, hv, hp, hc, hr, hl, hs, ho)
             (accepted-meets program m commit w u (written w (markedFate mark)) []
             (committedSays own) (committing (plain m) w) (passed .sound)
             (commit-responds ∙ ap (λ (k : ℕ). judged k (plain m) w [] (committing (plain m) w)) none)

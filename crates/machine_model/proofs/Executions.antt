@@ -24,7 +24,7 @@ use Rattle.table.proofs.Sizes.{sizes}
 use Rattle.table.proofs.Lists.{tabulate-take, tabulate-set}
 use Rattle.table.proofs.Fates.{length-refs}
 use Rattle.engine.proofs.Lengths.{Lengths}
-use Rattle.lookup.specs.Forwarding.{forwarded}
+use Rattle.lookup.specs.Forwarding.{forwarded, distance}
 use Rattle.lookup.specs.Outcome.{survivors, executes}
 use Rattle.engine.specs.declared.Action.{Action}
 use Rattle.engine.specs.declared.Action.the-variants.{Compute, LoadAt, StoreAt, PartAt}
@@ -35,7 +35,7 @@ use Rattle.engine.specs.Execution.{fateBy, answerOf}
 use Rattle.engine.specs.computed.Effect.{effectAt, answered, applyEffect}
 use Rattle.engine.proofs.Meeting.{judged-refused}
 use Rattle.engine.proofs.Fated.{executed-at}
-use Rattle.engine.proofs.Executed.{effect-left, effect-bounds, effect-value, part-value, effect-view, effect-rules}
+use Rattle.engine.proofs.Executed.{effect-left, effect-bounds, effect-value, effect-distance, part-value, effect-view, effect-rules}
 use Rattle.machine_model.specs.declared.Instruction.{Instruction}
 use Rattle.machine_model.specs.declared.Fate.{Fate}
 use Rattle.machine_model.specs.declared.Fate.the-variants.{Waiting, Executed}
@@ -43,11 +43,12 @@ use Rattle.machine_model.specs.declared.Entry.{Entry}
 use Rattle.machine_model.specs.declared.Machine.{Machine}
 use Rattle.machine_model.specs.declared.Squashed.{Squashed}
 use Rattle.machine_model.specs.declared.Squashed.the-variants as squashed
-use Rattle.machine_model.specs.Program.{sOf}
+use Rattle.machine_model.specs.Program.{sOf, kind}
 use Rattle.machine_model.specs.Window.{
   blankEntry,
   entryAt,
   entryWith,
+  addressBy,
   registerSeen,
   referenceBy,
   reference,
@@ -66,12 +67,13 @@ use Rattle.machine_model.specs.Calls.{
   refetchIndex,
   executing,
 }
-use Rattle.machine_model.specs.Calls.{survivorsOf, respond}
+use Rattle.machine_model.specs.Calls.{survivorsOf, answerBy, loadDistance, respond}
 use Rattle.machine_model.specs.Contract.{squashSays, entryOf, plain, agree, Sound, Meets}
 use Rattle.machine_model.specs.computed.Parts.{actionOf, second}
 use Rattle.machine_model.proofs.Comparing.{agree-same, agree-waiting}
 use Rattle.machine_model.proofs.Sounding.{length-entries, entry-at}
 use Rattle.machine_model.proofs.Operands.{fateAfter, outcome-unready, outcome-ready, reference-ready, value-ready}
+use Rattle.machine_model.proofs.Operands.{distance-ready}
 use Rattle.machine_model.proofs.Answering.{Passed, passed-lent, refused-meets, accepted-meets}
 
 -- ---- fates
@@ -192,9 +194,12 @@ module _ (m : Machine) (program w : List ℕ) (p : ℕ) (passed : Passed m progr
           (number-unready absent done (unknown (evaluated now w p)) (stuck (evaluated now w p)) is-live still (ap unknown out))
 
       module _ (act : Action) (ready : asked ≡ some act) where
-        -- the value answered, the entry's fate, and how many stay
+        -- the value and the distance answered, the entry's fate, and how many stay
         abbrev value : ℕ
         value = answerOf memorySeen act
+
+        abbrev far : ℕ
+        far = answerOf (distance (view (m .table) .refs) p) act
 
         abbrev fate : Fate
         fate = fateAfter memorySeen act
@@ -215,6 +220,12 @@ module _ (m : Machine) (program w : List ℕ) (p : ℕ) (passed : Passed m progr
             ap (λ (x : Entry). loadValue (x .instruction) fate) here
             ∙ value-ready (own .instruction) (registersSeen (sOf (own .instruction)))
             (registersSeen (second (own .instruction))) act memorySeen ready
+
+        distance-at : loadDistance now p fate ≡ far
+        distance-at =
+            ap (λ (x : Entry). answerBy (kind (x .instruction)) (distance (view (m .table) .refs) p (addressBy fate))) here
+            ∙ distance-ready (own .instruction) (registersSeen (sOf (own .instruction)))
+            (registersSeen (second (own .instruction))) act memorySeen (distance (view (m .table) .refs) p) ready
 
         -- the definition refuses only a stall
         responds :
@@ -277,12 +288,16 @@ module _ (m : Machine) (program w : List ℕ) (p : ℕ) (passed : Passed m progr
               let b = effect-bounds (m .table) (passed .sound .rules) p live w act stays in
               (omega (arith, live-is, b .0), omega (arith, live-is, b .1))
 
+          distance-is : effect .distance ≡ loadDistance now p fate
+          distance-is =
+              effect-distance (m .table) (passed .sound .rules) p live w act stays ∙ sym distance-at
+
           -- the machine after it
           abbrev next : Machine
           next =
               record {
                 table = after;
-                window = set (m .window) (stageOf (m .table) p) (entryWith own fate);
+                window = set (m .window) (stageOf (m .table) p) (entryWith own fate (effect .distance));
                 registers = m .registers;
                 count = m .count;
                 next = cond (ltb (effect .left) (m .table .live)) (entryOf m (effect .left) .index) (m .next);
@@ -302,12 +317,13 @@ module _ (m : Machine) (program w : List ℕ) (p : ℕ) (passed : Passed m progr
                 sizes (t .banks) (t .rows) (t .stages) (t .words) (passed .sound .rules .sizes) .stages,
               )
 
-          entry-here : entryOf next p ≡ entryWith own fate
-          entry-here = getD-set-same (m .window) (stageOf (m .table) p) (entryWith own fate) blankEntry stage-small
+          entry-here : entryOf next p ≡ entryWith own fate (effect .distance)
+          entry-here =
+              getD-set-same (m .window) (stageOf (m .table) p) (entryWith own fate (effect .distance)) blankEntry stage-small
 
           entry-there : (q : ℕ) → q < m .table .live → (q ≡ p → ⊥) → entryOf next q ≡ entryOf m q
           entry-there q h differ =
-              getD-set-other (m .window) (stageOf (m .table) p) (stageOf (m .table) q) (entryWith own fate) blankEntry
+              getD-set-other (m .window) (stageOf (m .table) p) (stageOf (m .table) q) (entryWith own fate (effect .distance)) blankEntry
               (λ e.
               differ
               (stage-injective (m .table .oldest) (m .table .stages) start q p (omega (arith, room)) (omega (arith, room))
@@ -319,8 +335,8 @@ module _ (m : Machine) (program w : List ℕ) (p : ℕ) (passed : Passed m progr
               ∙ sym (tabulate-take (entryOf next) (m .table .live) left (bounds .1))
               ∙ ap (take left)
               (sym
-              (tabulate-set (entryOf m) (entryOf next) (m .table .live) p (entryWith own fate) live entry-here entry-there))
-              ∙ ap (λ (x : Entry). take left (set (now .entries) p (entryWith x fate))) (sym here)
+              (tabulate-set (entryOf m) (entryOf next) (m .table .live) p (entryWith own fate (effect .distance)) live entry-here entry-there))
+              ∙ ap₂ (λ (x : Entry) (d : ℕ). take left (set (now .entries) p (entryWith x fate d))) (sym here) distance-is
 
           new-next : next .next ≡ refetchIndex now left
           new-next =
@@ -342,11 +358,16 @@ module _ (m : Machine) (program w : List ℕ) (p : ℕ) (passed : Passed m progr
               ∙ ap₂ (built (executing now w p fate left .state .buffer)) new-entries new-next
 
           new-said :
-              executed (answered (effect .load) (effect .store) (effect .value))
+              executed (answered (effect .load) (effect .store) (effect .value)) (effect .distance)
               (squashSays (cond (ltb (effect .left) (m .table .live)) (squashed.From (effect .left)) squashed.Nothing))
               ≡ executing now w p fate left .answer
           new-said =
-              ap₂ executed (effect-value (m .table) (passed .sound .rules) p live w act stays ∙ sym value-at)
+              let squash =
+              squashSays (cond (ltb (effect .left) (m .table .live)) (squashed.From (effect .left)) squashed.Nothing) in
+              ap₂ (λ (v d : ℕ). executed v d squash)
+              (effect-value (m .table) (passed .sound .rules) p live w act stays ∙ sym value-at)
+              distance-is
+              ∙ ap (executed (loadValue (entryAt (now .entries) p .instruction) fate) (loadDistance now p fate))
               (ap₂ (λ (k n : ℕ). squashSays (cond (ltb k n) (squashed.From k) squashed.Nothing)) live-is
               (sym (length-entries m))
               ∙ squash-said (ltb left (length (now .entries))) left)
@@ -375,7 +396,7 @@ module _ (m : Machine) (program w : List ℕ) (p : ℕ) (passed : Passed m progr
 
           accepted :
               Meets program m (execute p) w
-              (executed (answered (effect .load) (effect .store) (effect .value))
+              (executed (answered (effect .load) (effect .store) (effect .value)) (effect .distance)
               (squashSays (cond (ltb (effect .left) (m .table .live)) (squashed.From (effect .left)) squashed.Nothing)))
               next
               w
@@ -400,12 +421,12 @@ module _ (m : Machine) (program w : List ℕ) (p : ℕ) (passed : Passed m progr
               go (StoreAt a v) s = refl
               go (PartAt part b v) s = ap (λ (x : ℕ). Executed x b) (part-value (m .table) (passed .sound .rules) p live w part b v s)
 
-      -- the machine with this table, the entry at stage s with this fate, and this index to go on with
-      abbrev ended : Table → ℕ → Fate → ℕ → Machine
-      ended after s f n =
+      -- the machine with this table, the entry at stage s with this fate and distance, and this index to go on with
+      abbrev ended : Table → ℕ → Fate → ℕ → ℕ → Machine
+      ended after s f d n =
           record {
             table = after;
-            window = set (m .window) s (entryWith (getD (m .window) s blankEntry) f);
+            window = set (m .window) s (entryWith (getD (m .window) s blankEntry) f d);
             registers = m .registers;
             count = m .count;
             next = n;
@@ -417,8 +438,8 @@ module _ (m : Machine) (program w : List ℕ) (p : ℕ) (passed : Passed m progr
           → (after : Table) → after ≡ applyEffect (m .table) q s → (v : ℕ) → v ≡ answered (q .load) (q .store) (q .value)
           → (gone : Squashed) → gone ≡ cond (ltb (q .left) (m .table .live)) (squashed.From (q .left)) squashed.Nothing
           → (n : ℕ) → n ≡ cond (ltb (q .left) (m .table .live)) (entryOf m (q .left) .index) (m .next)
-          → Meets program m (execute p) w (executed v (squashSays gone))
-          (ended after s (Executed (q .value) (q .address)) n) w []
+          → Meets program m (execute p) w (executed v (q .distance) (squashSays gone))
+          (ended after s (Executed (q .value) (q .address)) (q .distance) n) w []
       execute-meets full lengths act ready s hs q hq stays after ha v hv gone hg n hn =
           let some-left : effectAt (m .table) p w act .left ≡ 0 → ⊥ =
           λ z. stays (ap (λ (k : Effect). k .left) hq ∙ z) in

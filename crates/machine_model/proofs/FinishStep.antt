@@ -28,7 +28,7 @@ use Rattle.engine.proofs.Lengths.{fits, oldest-small}
 use Rattle.engine.proofs.Reaching.{within-length}
 use Rattle.lookup.specs.declared.Mark.{Mark}
 use Rattle.lookup.specs.computed.Search.{markedFate}
-use Rattle.machine_model.specs.Program.{sOf, destination, instructionAt, codeOf}
+use Rattle.machine_model.specs.Program.{sOf, kind, destination, instructionAt, codeOf}
 use Rattle.engine.specs.Contract.{refused, named, executed, committed}
 use Rattle.engine.specs.declared.Action.{Action}
 use Rattle.engine.specs.Execution.{written, fateBy}
@@ -41,7 +41,7 @@ use Rattle.engine.specs.declared.Effect.{Effect}
 use Rattle.machine_model.specs.declared.Squashed.the-variants as squashed
 use Rattle.machine_model.specs.Window.{blankEntry, addressBy, misaligned, registerSeen, reference}
 use Rattle.machine_model.specs.Calls.{Plain, issue, execute, commit, matchesProgram, waits, valueBy, writing}
-use Rattle.machine_model.specs.Calls.{registersAfter, target, begun, ready}
+use Rattle.machine_model.specs.Calls.{answerBy, registersAfter, target, begun, ready}
 use Rattle.machine_model.specs.Contract.{squashSays, entryOf, plain, agree, Meets}
 use Rattle.machine_model.specs.computed.Parts.{actionOf, second, markWith}
 use Rattle.machine_model.proofs.Sounding.{validateOf}
@@ -75,7 +75,7 @@ issuedHere m number numbers i =
     let t = m .table in
     record {
       table = rebuilt t (t .oldest) 1 number 0 numbers (t .addresses) (t .loads) (t .stores) (t .values);
-      window = set (m .window) (t .oldest) (record { instruction = i; index = m .next; fate = Waiting });
+      window = set (m .window) (t .oldest) (record { instruction = i; index = m .next; fate = Waiting; distance = 0 });
       registers = m .registers;
       count = m .count;
       next = m .next + 1;
@@ -195,7 +195,12 @@ took b o q done addresses loads stores values next =
     record {
       table = remade t (t .oldest) (q .left) done addresses loads stores values;
       window = set (b .window) o
-          (record { instruction = e .instruction; index = e .index; fate = Executed (q .value) (q .address) });
+          (record {
+            instruction = e .instruction;
+            index = e .index;
+            fate = Executed (q .value) (q .address);
+            distance = q .distance;
+          });
       registers = b .registers;
       count = b .count;
       next = next;
@@ -323,7 +328,7 @@ module _ {program : List ℕ} {m : Machine} {w : List ℕ} {b : Machine}
 
       taken-meets :
           Meets program b (execute 0) w
-          (executed (answered (q .load) (q .store) (q .value))
+          (executed (answered (q .load) (q .store) (q .value)) (q .distance)
           (squashSays (cond (ltb (q .left) (t .live)) (squashed.From (q .left)) squashed.Nothing)))
           taken
           w
@@ -417,15 +422,16 @@ module _ {program : List ℕ} {m : Machine} {w : List ℕ} {u : Machine} (prepar
       pub turn-clean : faults (length w) (markedFate mark) ≡ false
       turn-clean = ap (λ (k : ℕ). faults k (markedFate mark)) (passed-now .words) ∙ clean
 
-      module _ {first stay code place v : ℕ} {loads stores registers : List ℕ}
+      module _ {first stay code place v d : ℕ} {loads stores registers : List ℕ}
           (hf : first ≡ stage (m .table .oldest) (m .table .stages) 1)
           (hs : stay ≡ firsts first (m .table .stages) (u .table .live - 1)) (kl : loads ≡ within (rowsIn (u .table .banks)) (u
           .table .loads) stay)
           (ks : stores ≡ within (rowsIn (u .table .banks)) (u .table .stores) stay) (hc : code ≡ codeOf (last .instruction))
           (hp : place ≡ target (last .instruction) (addressBy (last .fate))) (hv : v ≡ valueBy (last .fate))
+          (hd : d ≡ answerBy (kind (last .instruction)) (last .distance))
           (hr : registers ≡ registersAfter (u .registers) (last .instruction) v) where
         pub turn-commits : (memory : List ℕ) → memory ≡ written w (markedFate mark)
-            → Meets program u commit w (committed (last .index) code place v) (retiredBy u first loads stores registers)
+            → Meets program u commit w (committed (last .index) code place v d) (retiredBy u first loads stores registers)
             memory
             []
         turn-commits memory hm =
@@ -441,6 +447,7 @@ module _ {program : List ℕ} {m : Machine} {w : List ℕ} {u : Machine} (prepar
             code
             place
             v
+            d
             loads
             stores
             registers
@@ -452,6 +459,7 @@ module _ {program : List ℕ} {m : Machine} {w : List ℕ} {u : Machine} (prepar
             (hc ∙ ap (λ (x : Entry). codeOf (x .instruction)) same)
             (hp ∙ ap (λ (x : Entry). target (x .instruction) (addressBy (x .fate))) same)
             (hv ∙ ap (λ (x : Entry). valueBy (x .fate)) same)
+            (hd ∙ ap (λ (x : Entry). answerBy (kind (x .instruction)) (x .distance)) same)
             (hr ∙ ap (λ (x : Entry). registersAfter (u .registers) (x .instruction) v) same)
             hm)
 

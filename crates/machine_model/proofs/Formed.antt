@@ -1,5 +1,5 @@
--- An entry that is like an instruction of a well-formed program names registers 0 to 7: its numbers are the
--- program's (told), of which d and s are at most 7, and imm too where the code is 2 (formed). Assumes nothing.
+-- The instructions of a well-formed program name registers 0 to 7 (program-small), and so does an entry that is like one: its
+-- numbers are the program's (told), of which d and s are at most 7, and imm too where the code is 2 (formed). Assumes nothing.
 use mathlib.Core.Bool.{Bool, true, false, cond, not, _&&_, _||_, and-eq-true-iff}
 use mathlib.Core.List.{List}
 use mathlib.Core.Path.{_≡_, refl}
@@ -104,18 +104,30 @@ alike-small i j code d s imm t small h = go j (third .1) (second-pair .1) (first
     go (Byte e r n) a b f g = (s-low r b, d-low e f)
     go (Half e r n) a b f g = (s-low r b, d-low e f)
 
+formed-at : (program : List ℕ) (count i : ℕ) → programFits program ≡ true → length program ≡ 4 * count → i < count
+    → Small (getD program (i * 4) 0) (getD program (i * 4 + 1) 0) (getD program (i * 4 + 2) 0) (getD program (i * 4 + 3) 0)
+unfolding programFits
+formed-at program count i fits counted low =
+    let whole = and-eq-true-iff (eqb (length program % 4) 0) (every (wellFormedAt program) (length program / 4)) .0 fits in
+    formed (getD program (i * 4) 0) (getD program (i * 4 + 1) 0) (getD program (i * 4 + 2) 0) (getD program (i * 4 + 3) 0)
+    (every-at (wellFormedAt program) (length program / 4) (whole .1) i (omega arith))
+
+-- what reading the instruction at index i asks for
+pub program-small : (program : List ℕ) (count i : ℕ) → programFits program ≡ true → length program ≡ 4 * count → i < count
+    → (i * 4 + 3 < length program) × (getD program (i * 4 + 1) 0 < 8) × (getD program (i * 4 + 2) 0 < 8)
+program-small program count i fits counted low =
+    let small = formed-at program count i fits counted low in
+    (omega arith, small .low-d, small .low-s)
+
 pub like-small : (program : List ℕ) (count : ℕ) (e : Entry) → programFits program ≡ true → length program ≡ 4 * count
     → matchesProgram program count e ≡ true → (sOf (e .instruction) < 8) × (second (e .instruction) < 8)
-unfolding programFits
 like-small program count e fits counted h =
     let i = e .index in
     let both = and-eq-true-iff (ltb i count) (same (instructionAt program i) (e .instruction)) .0 h in
-    let whole = and-eq-true-iff (eqb (length program % 4) 0) (every (wellFormedAt program) (length program / 4)) .0 fits in
-    let low : i < length program / 4 = omega (arith, ltb-true i count (both .0)) in
     let code = getD program (i * 4) 0 in
     let d = getD program (i * 4 + 1) 0 in
     let s = getD program (i * 4 + 2) 0 in
     let imm = getD program (i * 4 + 3) 0 in
     alike-small (instructionAt program i) (e .instruction) code d s imm (told code d s imm)
-    (formed code d s imm (every-at (wellFormedAt program) (length program / 4) (whole .1) i low))
+    (formed-at program count i fits counted (ltb-true i count (both .0)))
     (both .1)

@@ -22,7 +22,7 @@ use Rattle.machine_model.specs.declared.Instruction.the-variants.{Add, S
 use Rattle.machine_model.specs.declared.Fate.{Fate}
 use Rattle.machine_model.specs.declared.Fate.the-variants.{Executed}
 use Rattle.machine_model.specs.declared.Entry.{Entry}
-use Rattle.machine_model.specs.Program.{sOf, destination}
+use Rattle.machine_model.specs.Program.{sOf, kind, destination}
 use Rattle.engine.specs.declared.Action.the-variants.{Compute, LoadAt, StoreAt, PartAt}
 use Rattle.engine.specs.declared.Action.{Action}
 use Rattle.machine_model.specs.Window.{
@@ -30,13 +30,14 @@ use Rattle.machine_model.specs.Window.{
   isRegister,
   writesTo,
   valueOf,
+  addressBy,
   registerSeen,
   referenceBy,
   with₂,
   partStored,
   evaluate,
 }
-use Rattle.machine_model.specs.Calls.{loadValue}
+use Rattle.machine_model.specs.Calls.{answerBy, loadValue}
 use Rattle.machine_model.specs.computed.Parts.{registerNumber, destinationAt, writer, entriesOf, actionOf, second}
 
 -- the entry's fate after it, where the memory is seen as μ
@@ -190,3 +191,19 @@ pub value-ready : (i : Instruction) (x y : Option ℕ) (act : Action) (μ : ℕ 
 value-ready i x y act μ e =
     let n = ready-numbers x y (actionOf i) act e in
     rw (n .2) at (value-after i (n .0) (n .1) μ)
+
+distance-after : (i : Instruction) (x y : ℕ) (μ δ : ℕ → ℕ)
+    → answerBy (kind i) (δ (addressBy (fateAfter μ (actionOf i x y)))) ≡ answerOf δ (actionOf i x y)
+distance-after (Add d s imm) x y μ δ = refl
+distance-after (Sum d s r) x y μ δ = refl
+distance-after (Load d s imm) x y μ δ = refl
+distance-after (Store d s imm) x y μ δ = refl
+distance-after (Byte d s imm) x y μ δ = refl
+distance-after (Half d s imm) x y μ δ = refl
+
+-- the distance that it answers is that of the address read
+pub distance-ready : (i : Instruction) (x y : Option ℕ) (act : Action) (μ δ : ℕ → ℕ)
+    → with₂ x y (actionOf i) ≡ some act → answerBy (kind i) (δ (addressBy (fateAfter μ act))) ≡ answerOf δ act
+distance-ready i x y act μ δ e =
+    let n = ready-numbers x y (actionOf i) act e in
+    rw (n .2) at (distance-after i (n .0) (n .1) μ δ)

@@ -1,6 +1,7 @@
 -- 01's sentences of an operand and of refusal 9, shown of the definitions `registerSeen` in specs/Window and `evaluated` in
 -- specs/Calls: "nearest", "older" by positions of the list. Induction on the reader's position: one more older entry decides if
--- it writes the register (register-next), else the entries before it do. Assumes nothing.
+-- it writes the register (register-next), else the entries before it do. And 02's of the distance that an executed load answers
+-- and a commit records, from the law of the list in lookup. Assumes nothing.
 use mathlib.Core.Bool.{Bool, true, false, cond}
 use mathlib.Core.List.{List}
 use mathlib.Core.Logic.{_⊎_, inl, inr, ⊎-elim}
@@ -11,13 +12,17 @@ use native.Mathlib.Nat.{eq-or-lt-of-le, le-of-suc-le-suc, not-suc-le-zero, le-re
 use native.Mathlib.Omega.{arith}
 use lib.ListN.{length, getD, take}
 use lib.Seq.{take-suc}
+use Rattle.table.specs.Reference.{accessed, holds, ref, at}
+use Rattle.lookup.specs.Forwarding.{seen, distance}
+use Rattle.lookup.proofs.Sentences.{CameFrom, distance-memory, distance-store, seen-none}
 use Rattle.machine_model.specs.declared.Instruction.{Instruction}
 use Rattle.machine_model.specs.declared.Instruction.the-variants.{Add, Sum, Load, Store, Byte, Half}
 use Rattle.machine_model.specs.declared.Fate.{Fate}
 use Rattle.machine_model.specs.declared.Fate.the-variants.{Waiting, Executed}
 use Rattle.machine_model.specs.declared.Entry.{Entry}
 use Rattle.machine_model.specs.Window.{blankEntry, entryAt, writesTo, valueOf, registerSeen, with₂, evaluate}
-use Rattle.machine_model.specs.Calls.{Plain, waits, evaluated, unknown}
+use Rattle.machine_model.specs.Program.{codeOf, kind, sum}
+use Rattle.machine_model.specs.Calls.{Plain, waits, evaluated, unknown, answerBy, loadDistance}
 use Rattle.machine_model.proofs.Operands.{register-snoc}
 
 -- one more older entry
@@ -182,3 +187,55 @@ module _ (X : Plain) (memory : List ℕ) (p : ℕ) (inside : p ≤ length (X .en
 
   pub waits-nine : (k : ℕ) → Needs own k → WriterWaits (X .entries) p k → unknown (evaluated X memory p) ≡ true
   waits-nine k n w = lacking _ _ own k n (waits-unknown (X .entries) p k (getD (X .registers) k 0) inside w)
+
+-- ---- how far the word came
+
+-- "a fifth number, 0 for other codes": of L, whose code is 3, it is the distance
+pub distance-told : (i : Instruction) (d : ℕ) → (codeOf i ≡ 3 → answerBy (kind i) d ≡ d) × ((codeOf i ≡ 3 → ⊥) → answerBy (kind i) d ≡ 0)
+distance-told (Add r s imm) d = (λ e. absurd (omega arith), λ other. refl)
+distance-told (Sum r s k) d = (λ e. absurd (omega arith), λ other. refl)
+distance-told (Load r s imm) d = (λ e. refl, λ other. absurd (other refl))
+distance-told (Store r s imm) d = (λ e. absurd (omega arith), λ other. refl)
+distance-told (Byte r s imm) d = (λ e. absurd (omega arith), λ other. refl)
+distance-told (Half r s imm) d = (λ e. absurd (omega arith), λ other. refl)
+
+-- A load at position p that executes to value v and address a, and the distance that it answers and its entry keeps: with 0 no
+-- older live reference is an executed store to this word, and the value is memory's; else the value is the word of the store so
+-- many positions older, and none between stores there.
+module _ (X : Plain) (memory : List ℕ) (p r s imm v a : ℕ) (load : entryAt (X .entries) p .instruction ≡ Load r s imm)
+    (executes : evaluated X memory p ≡ some (Executed v a)) (inside : p ≤ length (X .buffer .refs)) where
+  takes : seen (take p (X .buffer .refs)) a (getD memory a 0) ≡ v
+  takes =
+      let μ : ℕ → ℕ = λ b. seen (take p (X .buffer .refs)) b (getD memory b 0) in
+      go (registerSeen (take p (X .entries)) s (some (getD (X .registers) s 0)))
+      (ap
+      (λ (i : Instruction).
+      evaluate i (λ (k : ℕ). registerSeen (take p (X .entries)) k (some (getD (X .registers) k 0))) μ)
+      (sym load)
+      ∙ executes)
+    where
+      go : (x : Option ℕ)
+          → let μ : ℕ → ℕ = λ b. seen (take p (X .buffer .refs)) b (getD memory b 0) in
+          with₂ x (some imm) (λ (y z : ℕ). Executed (μ (sum y z)) (sum y z)) ≡ some (Executed v a)
+          → seen (take p (X .buffer .refs)) a (getD memory a 0) ≡ v
+      go none e = absurd (let z : _≡_ {A = ℕ} 0 1 = cc in omega arith)
+      go (some y) e =
+          let address : sum y imm ≡ a = cc in
+          let word : seen (take p (X .buffer .refs)) (sum y imm) (getD memory (sum y imm) 0) ≡ v = cc in
+          ap (λ (b : ℕ). seen (take p (X .buffer .refs)) b (getD memory b 0)) (sym address) ∙ word
+
+  far : loadDistance X p (Executed v a) ≡ distance (X .buffer .refs) p a
+  far = ap (λ (i : Instruction). answerBy (kind i) (distance (X .buffer .refs) p a)) load
+
+  pub from-memory : loadDistance X p (Executed v a) ≡ 0
+      → (v ≡ getD memory a 0)
+      × ((k m u : ℕ) (l : Bool) → k < p → at (X .buffer .refs) k ≡ ref m (accessed a l (holds u)) → ⊥)
+  from-memory e =
+      let none = distance-memory (X .buffer .refs) p a (sym far ∙ e) in
+      (sym takes ∙ seen-none (X .buffer .refs) p a (getD memory a 0) inside none, none)
+
+  pub from-store : (d : ℕ) → loadDistance X p (Executed v a) ≡ suc d
+      → (from : CameFrom (X .buffer .refs) p (suc d) a (getD memory a 0)) × (v ≡ from .word)
+  from-store d e =
+      let from = distance-store (X .buffer .refs) p d a (getD memory a 0) inside (sym far ∙ e) in
+      (from, sym takes ∙ from .taken)

@@ -6,14 +6,14 @@ use mathlib.Core.List.{List, [], _∷_, map}
 use Rattle.marks.specs.Counting.{every, count, last}
 use Rattle.table.specs.Bank.{home, bank}
 use Rattle.table.specs.Limits.{sizesFit}
-use Rattle.lookup.specs.Forwarding.{seen}
+use Rattle.lookup.specs.Forwarding.{seen, distance}
 use Rattle.lookup.specs.Violation.{keptYounger}
 use Rattle.lookup.specs.Rows.{touched}
 use Rattle.machine_model.specs.Program.{programFits}
 use Rattle.machine_model.specs.Window.{registerSeen}
 use Rattle.machine_model.specs.Calls.{finishes, respond}
 use Rattle.machine_model.specs.Examples.{Example, toldBy, seenOf, AllShown, told, played, examples}
-use Rattle.machine_model.specs.Examples.{openings, refusals, unlikes, runs, parts}
+use Rattle.machine_model.specs.Examples.{openings, refusals, unlikes, runs, parts, distances}
 
 -- an equation of lists is one of each row
 each : (rows : List Example) → map seenOf rows ≡ map toldBy rows → AllShown rows
@@ -21,6 +21,6 @@ each [] h = tt
 each (e ∷ rows) h = (cc, each rows cc)
 
 pub shown : AllShown examples
-unfolding openings refusals unlikes runs parts told played respond finishes seen keptYounger touched every count last home bank
-    sizesFit programFits registerSeen
+unfolding openings refusals unlikes runs parts distances told played respond finishes seen distance keptYounger touched every
+    count last home bank sizesFit programFits registerSeen
 shown = each examples refl

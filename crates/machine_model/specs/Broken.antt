@@ -66,7 +66,7 @@ machine B R n W oldest live executed addresses loads stores window =
     }
 
 abbrev pub entry : Instruction → ℕ → Fate → Entry
-entry i index f = record { instruction = i; index = index; fate = f }
+entry i index f = record { instruction = i; index = index; fate = f; distance = 0 }
 
 -- Four stages, four live: a store at 3, a load of 3, an instruction without memory, and one that waits. Stages 0, 1 and 2 have
 -- executed (7); one row has address 3, a load mark at stage 1 (2) and a store mark at stage 0 (1).

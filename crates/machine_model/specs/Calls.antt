@@ -12,7 +12,7 @@ use Rattle.marks.specs.Counting.{every}
 use Rattle.table.specs.Limits.{sizesFit}
 use Rattle.table.specs.Reference.{State, fateOf, at}
 use Rattle.table.specs.Moves.{issued, squashTo, retire}
-use Rattle.lookup.specs.Forwarding.{seen}
+use Rattle.lookup.specs.Forwarding.{seen, distance}
 use Rattle.lookup.specs.Outcome.{survivors, executes}
 use Rattle.engine.specs.Conditions.{Check, when, refusal, wrongLength, faults}
 use Rattle.engine.specs.Contract
@@ -143,7 +143,7 @@ unlessRefused program c X memory r = judged (refusal (checksOf program c X memor
 
 -- the entry that it adds
 abbrev pub newEntry : List ℕ → ℕ → Entry
-newEntry program next = record { instruction = instructionAt program next; index = next; fate = Waiting }
+newEntry program next = record { instruction = instructionAt program next; index = next; fate = Waiting; distance = 0 }
 
 abbrev pub issuing : List ℕ → Plain → List ℕ → Result
 issuing program X memory =
@@ -170,7 +170,7 @@ abbrev pub valueBy : Fate → ℕ
 valueBy Waiting = 0
 valueBy (Executed v a) = v
 
--- the value that an execute answers: a load's
+-- the number that is answered of an instruction of this kind: a load's, else 0
 abbrev pub answerBy : Kind → ℕ → ℕ
 answerBy Computing v = 0
 answerBy Loading v = v
@@ -179,6 +179,10 @@ answerBy Merging v = 0
 
 abbrev pub loadValue : Instruction → Fate → ℕ
 loadValue i f = answerBy (kind i) (valueBy f)
+
+-- how many positions older the store is that the word of the entry at position p came from, which executes to fate f
+abbrev pub loadDistance : Plain → ℕ → Fate → ℕ
+loadDistance X p f = answerBy (kind (entryAt (X .entries) p .instruction)) (distance (X .buffer .refs) p (addressBy f))
 
 -- the first `left` entries stay: after a squash the next issue is the first squashed instruction
 abbrev pub refetch : List Entry → ℕ → ℕ → ℕ
@@ -191,11 +195,12 @@ refetchIndex X left = refetch (X .entries) left (X .next)
 abbrev pub executing : Plain → List ℕ → ℕ → Fate → ℕ → Result
 executing X memory p f left =
     record {
-      answer = executed (loadValue (entryAt (X .entries) p .instruction) f) (cond (ltb left (length (X .entries))) (some left)
-          none);
+      answer =
+          executed (loadValue (entryAt (X .entries) p .instruction) f) (loadDistance X p f)
+          (cond (ltb left (length (X .entries))) (some left) none);
       state = record {
         buffer = executes (X .buffer) p (referenceBy (entryAt (X .entries) p .instruction) f);
-        entries = take left (set (X .entries) p (entryWith (entryAt (X .entries) p) f));
+        entries = take left (set (X .entries) p (entryWith (entryAt (X .entries) p) f (loadDistance X p f)));
         registers = X .registers;
         count = X .count;
         next = refetchIndex X left;
@@ -247,10 +252,11 @@ orAddress (some d) a = d
 abbrev pub target : Instruction → ℕ → ℕ
 target i a = orAddress (destination i) a
 
--- what a commit of this entry answers: index, code, register (for S, B and H the address) and value
+-- what a commit of this entry answers: index, code, register (for S, B and H the address), value, and a load's distance
 abbrev pub committedSays : Entry → Answer
 committedSays e =
     committed (e .index) (codeOf (e .instruction)) (target (e .instruction) (addressBy (e .fate))) (valueBy (e .fate))
+    (answerBy (kind (e .instruction)) (e .distance))
 
 abbrev pub committing : Plain → List ℕ → Result
 committing X memory =
@@ -293,32 +299,36 @@ pub record Drain : Type 0 where
   pub numbers : List ℕ
   pub commits : ℕ
 
--- one more commit, with these four numbers, before the others
-abbrev pub afterCommit : ℕ → ℕ → ℕ → ℕ → Drain → Drain
-afterCommit i c r v w =
-    record { state = w .state; memory = w .memory; numbers = i ∷ c ∷ r ∷ v ∷ w .numbers; commits = suc (w .commits) }
+-- the places that a commit takes
+abbrev pub perCommit : ℕ
+perCommit = 5
+
+-- one more commit, with these numbers, before the others
+abbrev pub afterCommit : ℕ → ℕ → ℕ → ℕ → ℕ → Drain → Drain
+afterCommit i c r v d w =
+    record { state = w .state; memory = w .memory; numbers = i ∷ c ∷ r ∷ v ∷ d ∷ w .numbers; commits = suc (w .commits) }
 
 -- after the answer to a commit: a commit goes on, a refusal (a fault) stops here
 abbrev pub continueOn : Answer → Drain → Drain → Drain
 continueOn (refused k) here rest = here
 continueOn done here rest = here
 continueOn (named p) here rest = here
-continueOn (executed v s) here rest = here
-continueOn (committed i c r v) here rest = afterCommit i c r v rest
+continueOn (executed v d s) here rest = here
+continueOn (committed i c r v d) here rest = afterCommit i c r v d rest
 continueOn (finished n) here rest = here
 
 abbrev pub drainStopped : Plain → List ℕ → Drain
 drainStopped X memory = record { state = X; memory = memory; numbers = []; commits = 0 }
 
--- The oldest is taken to its commit again and again, until k commits, fewer than four places left, the end of the program, or
--- a fault.
+-- The oldest is taken to its commit again and again, until k commits, fewer places left than a commit takes, the end of the
+-- program, or a fault.
 unfoldable pub finishes : List ℕ → ℕ → ℕ → Plain → List ℕ → Drain
 finishes program zero places X memory = drainStopped X memory
 finishes program (suc k) places X memory =
-    cond (ltb places 4 || programDone X) (drainStopped X memory)
+    cond (ltb places perCommit || programDone X) (drainStopped X memory)
     (let Y = ready program X memory in
     let r = commits program Y memory in
-    continueOn (r .answer) (drainStopped Y memory) (finishes program k (places - 4) (r .state) (r .memory)))
+    continueOn (r .answer) (drainStopped Y memory) (finishes program k (places - perCommit) (r .state) (r .memory)))
 
 -- what a finish comes to that ended so: the numbers stand at the list's start, and the rest of the list is left
 abbrev pub drained : List ℕ → Drain → Result

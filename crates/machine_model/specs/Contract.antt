@@ -49,11 +49,11 @@ squashSays (squashed.From p) = some p
 
 abbrev pub executeSays : ExecuteAnswer → Answer
 executeSays (execute-answer.Refused k) = refused k
-executeSays (execute-answer.Executed v s) = executed v (squashSays s)
+executeSays (execute-answer.Executed v d s) = executed v d (squashSays s)
 
 abbrev pub commitSays : CommitAnswer → Answer
 commitSays (commit-answer.Refused k) = refused k
-commitSays (commit-answer.Committed i c r v) = committed i c r v
+commitSays (commit-answer.Committed i c r v d) = committed i c r v d
 
 abbrev pub finishSays : FinishAnswer → Answer
 finishSays (finish-answer.Refused k) = refused k

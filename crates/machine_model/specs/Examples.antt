@@ -167,7 +167,7 @@ four steps = three (asks issue (named 3) ∷ steps)
 abbrev pub refuse : ℕ → ℕ → List Step → List Step
 refuse k j steps =
     asks issue (refused j) ∷ asks (execute 0) (refused k) ∷ asks (squash 0) (refused j) ∷ asks commit (refused k)
-    ∷ asks (finish 1 (replicate 4 7)) (refused k)
+    ∷ asks (finish 1 (replicate 5 7)) (refused k)
     ∷ steps
 
 -- ---- openings
@@ -214,9 +214,9 @@ refusals =
     -- 3: a memory one word short or long. Issue and squash are lent none.
     ∷ usual script
     (asks issue (named 0) ∷ lend script (replicate 7 0)
-    ∷ asks (execute 0) (refused 3) ∷ asks commit (refused 3) ∷ asks (finish 1 (replicate 4 7)) (refused 3)
+    ∷ asks (execute 0) (refused 3) ∷ asks commit (refused 3) ∷ asks (finish 1 (replicate 5 7)) (refused 3)
     ∷ lend script (replicate 9 0)
-    ∷ asks (execute 0) (refused 3) ∷ asks commit (refused 3) ∷ asks (finish 1 (replicate 4 7)) (refused 3)
+    ∷ asks (execute 0) (refused 3) ∷ asks commit (refused 3) ∷ asks (finish 1 (replicate 5 7)) (refused 3)
     ∷ asks (squash 0) done ∷ asks issue (named 0) ∷ [])
     -- 4: the program is one instruction short or long, no multiple of 4, or has a code, a register or P's imm out of range
     ∷ usual script (asks issue (named 0) ∷ lend (A 1 0 5 ++ S 1 0 3) eight ∷ refuse 4 4 [])
@@ -229,7 +229,7 @@ refusals =
     ∷ usual script (asks issue (named 0) ∷ lend (A 1 0 6 ++ S 1 0 3 ++ L 2 0 3) eight ∷ refuse 4 4 [])
     ∷ usual script
     (asks issue (named 0) ∷ lend (A 1 0 5 ++ L 4 0 6 ++ L 2 0 3) eight ∷ asks issue (named 1)
-    ∷ asks (execute 1) (executed 16 none) ∷ [])
+    ∷ asks (execute 1) (executed 16 0 none) ∷ [])
     -- 3 with 4; 3 and 4 with 7, 10, 11 and 12 (nothing is live); 4 with 5, 6, 8 and 13
     ∷ usual script (asks issue (named 0) ∷ lend (A 1 0 6) (replicate 7 0) ∷ refuse 3 4 [])
     ∷ usual script
@@ -237,7 +237,7 @@ refusals =
     ∷ refuse 3 4 (lend script [] ∷ asks (execute 0) (refused 3) ∷ asks commit (refused 3) ∷ []))
     ∷ usual script (lend (A 1 0 6) eight ∷ refuse 4 4 [])
     ∷ row 1 1 1 8 (L 1 0 8) eight done
-    (asks issue (named 0) ∷ asks (execute 0) (executed 0 none) ∷ lend (L 1 0 9) eight ∷ refuse 4 4 [])
+    (asks issue (named 0) ∷ asks (execute 0) (executed 0 0 none) ∷ lend (L 1 0 9) eight ∷ refuse 4 4 [])
     -- 7: no such position; with 10, nothing is live; with 9, a live entry that waits writes register 0
     ∷ usual script
     (asks (execute 0) (refused 7) ∷ asks (squash 0) (refused 7) ∷ asks issue (named 0)
@@ -245,48 +245,48 @@ refusals =
     ∷ asks (execute 4294967295) (refused 7) ∷ asks (squash 4294967295) (refused 7) ∷ [])
     ∷ usual (A 0 0 5) (asks issue (named 0) ∷ asks (execute 1) (refused 7) ∷ [])
     -- 8; with 9 and with 10, of entries that only a damaged machine has
-    ∷ usual script (asks issue (named 0) ∷ asks (execute 0) (executed 0 none) ∷ asks (execute 0) (refused 8) ∷ [])
+    ∷ usual script (asks issue (named 0) ∷ asks (execute 0) (executed 0 0 none) ∷ asks (execute 0) (refused 8) ∷ [])
     ∷ usual (A 1 0 5 ++ A 2 1 0)
-    (two (spoil 1 (record { instruction = Add 2 1 0; index = 1; fate = Executed 0 0 }) ∷ asks (execute 1) (refused 8) ∷ []))
+    (two (spoil 1 (record { instruction = Add 2 1 0; index = 1; fate = Executed 0 0; distance = 0 }) ∷ asks (execute 1) (refused 8) ∷ []))
     ∷ tight (L 1 0 5 ++ L 2 0 6)
-    (two (asks (execute 0) (executed 15 none)
-    ∷ spoil 1 (record { instruction = Load 2 0 6; index = 1; fate = Executed 0 5 }) ∷ asks (execute 1) (refused 8) ∷ []))
+    (two (asks (execute 0) (executed 15 0 none)
+    ∷ spoil 1 (record { instruction = Load 2 0 6; index = 1; fate = Executed 0 5; distance = 0 }) ∷ asks (execute 1) (refused 8) ∷ []))
     -- 9: the writer of s, of P's imm and of S's d waits
-    ∷ usual (A 1 0 5 ++ A 2 1 0) (two (asks (execute 1) (refused 9) ∷ asks (execute 0) (executed 0 none)
-    ∷ asks (execute 1) (executed 0 none) ∷ []))
+    ∷ usual (A 1 0 5 ++ A 2 1 0) (two (asks (execute 1) (refused 9) ∷ asks (execute 0) (executed 0 0 none)
+    ∷ asks (execute 1) (executed 0 0 none) ∷ []))
     ∷ usual (A 1 0 5 ++ P 2 1 0) (two (asks (execute 1) (refused 9) ∷ []))
     ∷ usual (A 1 0 5 ++ P 2 0 1) (two (asks (execute 1) (refused 9) ∷ []))
     ∷ usual (A 1 0 5 ++ L 2 1 0) (two (asks (execute 1) (refused 9) ∷ []))
     ∷ usual (A 1 0 5 ++ S 0 1 0) (two (asks (execute 1) (refused 9) ∷ []))
     ∷ usual (A 1 0 5 ++ S 1 0 0) (two (asks (execute 1) (refused 9) ∷ []))
     -- imm is a register of P only, d of S only among these; S is nobody's writer, and so is a younger entry
-    ∷ usual (A 1 0 5 ++ A 2 0 1) (two (asks (execute 1) (executed 0 none) ∷ []))
-    ∷ usual (A 1 0 5 ++ L 1 0 1) (two (asks (execute 1) (executed 11 none) ∷ []))
-    ∷ usual (A 1 0 5 ++ S 2 0 1) (two (asks (execute 1) (executed 0 none) ∷ []))
-    ∷ usual (S 1 0 3 ++ A 2 1 0) (two (asks (execute 1) (executed 0 none) ∷ []))
-    ∷ usual (A 2 1 0 ++ A 1 0 5) (two (asks (execute 0) (executed 0 none) ∷ []))
+    ∷ usual (A 1 0 5 ++ A 2 0 1) (two (asks (execute 1) (executed 0 0 none) ∷ []))
+    ∷ usual (A 1 0 5 ++ L 1 0 1) (two (asks (execute 1) (executed 11 0 none) ∷ []))
+    ∷ usual (A 1 0 5 ++ S 2 0 1) (two (asks (execute 1) (executed 0 0 none) ∷ []))
+    ∷ usual (S 1 0 3 ++ A 2 1 0) (two (asks (execute 1) (executed 0 0 none) ∷ []))
+    ∷ usual (A 2 1 0 ++ A 1 0 5) (two (asks (execute 0) (executed 0 0 none) ∷ []))
     -- the nearest writer decides: it waits though an older one has executed, and the other way round
     ∷ usual (A 1 0 5 ++ A 1 0 6 ++ A 2 1 0)
-    (three (asks (execute 0) (executed 0 none) ∷ asks (execute 2) (refused 9) ∷ asks (execute 1) (executed 0 none)
-    ∷ asks (execute 2) (executed 0 none) ∷ asks commit (committed 0 1 1 5) ∷ asks commit (committed 1 1 1 6)
-    ∷ asks commit (committed 2 1 2 6) ∷ []))
+    (three (asks (execute 0) (executed 0 0 none) ∷ asks (execute 2) (refused 9) ∷ asks (execute 1) (executed 0 0 none)
+    ∷ asks (execute 2) (executed 0 0 none) ∷ asks commit (committed 0 1 1 5 0) ∷ asks commit (committed 1 1 1 6 0)
+    ∷ asks commit (committed 2 1 2 6 0) ∷ []))
     ∷ usual (A 1 0 5 ++ A 1 0 6 ++ A 2 1 0)
-    (three (asks (execute 1) (executed 0 none) ∷ asks (execute 2) (executed 0 none) ∷ []))
+    (three (asks (execute 1) (executed 0 0 none) ∷ asks (execute 2) (executed 0 0 none) ∷ []))
     -- 10, and none where the address has a row or the other bank a free one (where 9 holds no row is asked for yet)
-    ∷ tight (L 1 0 5 ++ L 2 0 6) (two (asks (execute 0) (executed 15 none) ∷ asks (execute 1) (refused 10) ∷ []))
-    ∷ tight (L 1 0 5 ++ L 2 0 5) (two (asks (execute 0) (executed 15 none) ∷ asks (execute 1) (executed 15 none) ∷ []))
+    ∷ tight (L 1 0 5 ++ L 2 0 6) (two (asks (execute 0) (executed 15 0 none) ∷ asks (execute 1) (refused 10) ∷ []))
+    ∷ tight (L 1 0 5 ++ L 2 0 5) (two (asks (execute 0) (executed 15 0 none) ∷ asks (execute 1) (executed 15 0 none) ∷ []))
     ∷ row 2 1 4 8 (L 1 0 5 ++ L 2 0 6) eight done
-    (two (asks (execute 0) (executed 15 none) ∷ asks (execute 1) (executed 16 none) ∷ []))
+    (two (asks (execute 0) (executed 15 0 none) ∷ asks (execute 1) (executed 16 0 none) ∷ []))
     -- 11 (with 12: where nothing is live nothing has executed); 12
     ∷ usual script (asks commit (refused 11) ∷ asks issue (named 0) ∷ asks commit (refused 12) ∷ [])
     -- 13 at W, of a load (which takes 0) and of a store; the last word commits
-    ∷ usual (L 1 0 8) (asks issue (named 0) ∷ asks (execute 0) (executed 0 none) ∷ asks commit (refused 13) ∷ [])
-    ∷ usual (S 1 0 8) (asks issue (named 0) ∷ asks (execute 0) (executed 0 none) ∷ asks commit (refused 13) ∷ [])
-    ∷ usual (L 1 0 7) (asks issue (named 0) ∷ asks (execute 0) (executed 17 none) ∷ asks commit (committed 0 3 1 17) ∷ [])
-    ∷ usual (S 1 0 7) (asks issue (named 0) ∷ asks (execute 0) (executed 0 none) ∷ asks commit (committed 0 4 7 0) ∷ [])
+    ∷ usual (L 1 0 8) (asks issue (named 0) ∷ asks (execute 0) (executed 0 0 none) ∷ asks commit (refused 13) ∷ [])
+    ∷ usual (S 1 0 8) (asks issue (named 0) ∷ asks (execute 0) (executed 0 0 none) ∷ asks commit (refused 13) ∷ [])
+    ∷ usual (L 1 0 7) (asks issue (named 0) ∷ asks (execute 0) (executed 17 0 none) ∷ asks commit (committed 0 3 1 17 0) ∷ [])
+    ∷ usual (S 1 0 7) (asks issue (named 0) ∷ asks (execute 0) (executed 0 0 none) ∷ asks commit (committed 0 4 7 0 0) ∷ [])
     -- 3 with 13
     ∷ usual (L 1 0 8)
-    (asks issue (named 0) ∷ asks (execute 0) (executed 0 none) ∷ lend (L 1 0 8) (replicate 9 0) ∷ asks commit (refused 3) ∷ [])
+    (asks issue (named 0) ∷ asks (execute 0) (executed 0 0 none) ∷ lend (L 1 0 8) (replicate 9 0) ∷ asks commit (refused 3) ∷ [])
     ∷ []
 
 -- ---- 4: a live entry unlike the program's instruction at its index
@@ -295,12 +295,12 @@ refusals =
 abbrev pub unlike : ℕ → Instruction → ℕ → Example
 unlike p i index =
     usual (A 1 2 3 ++ P 1 2 3 ++ L 1 2 3 ++ S 1 2 3)
-    (four (spoil p (record { instruction = i; index = index; fate = Waiting }) ∷ refuse 4 4 []))
+    (four (spoil p (record { instruction = i; index = index; fate = Waiting; distance = 0 }) ∷ refuse 4 4 []))
 
 -- the same of B and H
 abbrev pub unlikePart : ℕ → Instruction → ℕ → Example
 unlikePart p i index =
-    usual (B 1 2 3 ++ H 1 2 3) (two (spoil p (record { instruction = i; index = index; fate = Waiting }) ∷ refuse 4 4 []))
+    usual (B 1 2 3 ++ H 1 2 3) (two (spoil p (record { instruction = i; index = index; fate = Waiting; distance = 0 }) ∷ refuse 4 4 []))
 
 unfoldable pub unlikes : List Example
 unlikes =
@@ -316,85 +316,92 @@ unlikes =
     ∷ unlikePart 0 (Store 1 2 3) 0
     -- an equal instruction at another index is like it
     ∷ usual (A 1 2 3 ++ A 1 2 3)
-    (asks issue (named 0) ∷ spoil 0 (record { instruction = Add 1 2 3; index = 1; fate = Waiting }) ∷ asks issue (named 1) ∷ [])
+    (asks issue (named 0) ∷ spoil 0 (record { instruction = Add 1 2 3; index = 1; fate = Waiting; distance = 0 }) ∷ asks issue (named 1) ∷ [])
     ∷ []
 
 -- ---- what accepted calls come to
 unfoldable pub runs : List Example
 runs =
-    -- a commit's four numbers of each code, and what it leaves
+    -- a commit's five numbers of each code, and what it leaves
     usual (A 1 0 5 ++ P 2 1 1 ++ S 2 0 3 ++ L 4 1 0)
-    (four (asks (execute 0) (executed 0 none) ∷ asks (execute 1) (executed 0 none) ∷ asks (execute 2) (executed 0 none)
-    ∷ asks (execute 3) (executed 15 none)
+    (four (asks (execute 0) (executed 0 0 none) ∷ asks (execute 1) (executed 0 0 none) ∷ asks (execute 2) (executed 0 0 none)
+    ∷ asks (execute 3) (executed 15 0 none)
     ∷ looks (replicate 8 0) eight
-    ∷ asks commit (committed 0 1 1 5) ∷ asks commit (committed 1 2 2 10)
+    ∷ asks commit (committed 0 1 1 5 0) ∷ asks commit (committed 1 2 2 10 0)
     ∷ looks (0 ∷ 5 ∷ 10 ∷ 0 ∷ 0 ∷ 0 ∷ 0 ∷ 0 ∷ []) eight
-    ∷ asks commit (committed 2 4 3 10) ∷ asks commit (committed 3 3 4 15)
+    ∷ asks commit (committed 2 4 3 10 0) ∷ asks commit (committed 3 3 4 15 0)
     ∷ looks (0 ∷ 5 ∷ 10 ∷ 0 ∷ 15 ∷ 0 ∷ 0 ∷ 0 ∷ []) (10 ∷ 11 ∷ 12 ∷ 10 ∷ 14 ∷ 15 ∷ 16 ∷ 17 ∷ []) ∷ []))
     -- register 0 is an ordinary one; a register is its own operand
-    ∷ usual (A 0 0 5 ++ P 0 0 0) (drains 2 (replicate 8 7) (finished 2) (0 ∷ 1 ∷ 0 ∷ 5 ∷ 1 ∷ 2 ∷ 0 ∷ 10 ∷ []) ∷ [])
+    ∷ usual (A 0 0 5 ++ P 0 0 0) (drains 2 (replicate 10 7) (finished 2)
+    (0 ∷ 1 ∷ 0 ∷ 5 ∷ 0 ∷ 1 ∷ 2 ∷ 0 ∷ 10 ∷ 0 ∷ []) ∷ [])
     -- sums are modulo 2 ^ 32, of values and of addresses
     ∷ usual (A 1 0 4294967295 ++ A 2 1 1 ++ A 2 1 2 ++ P 3 1 1 ++ L 4 1 4 ++ S 3 1 5)
-    (drains 6 (replicate 24 7) (finished 6)
-    (0 ∷ 1 ∷ 1 ∷ 4294967295 ∷ 1 ∷ 1 ∷ 2 ∷ 0 ∷ 2 ∷ 1 ∷ 2 ∷ 1 ∷ 3 ∷ 2 ∷ 3 ∷ 4294967294
-    ∷ 4 ∷ 3 ∷ 4 ∷ 13 ∷ 5 ∷ 4 ∷ 4 ∷ 4294967294 ∷ [])
+    (drains 6 (replicate 30 7) (finished 6)
+    (0 ∷ 1 ∷ 1 ∷ 4294967295 ∷ 0 ∷ 1 ∷ 1 ∷ 2 ∷ 0 ∷ 0 ∷ 2 ∷ 1 ∷ 2 ∷ 1 ∷ 0 ∷ 3 ∷ 2 ∷ 3 ∷ 4294967294 ∷ 0 ∷ 4 ∷ 3 ∷ 4 ∷ 13 ∷ 0 ∷ 5 ∷ 4 ∷ 4 ∷ 4294967294 ∷ 0 ∷ [])
     ∷ looks (0 ∷ 4294967295 ∷ 1 ∷ 4294967294 ∷ 13 ∷ 0 ∷ 0 ∷ 0 ∷ [])
     (10 ∷ 11 ∷ 12 ∷ 13 ∷ 4294967294 ∷ 15 ∷ 16 ∷ 17 ∷ []) ∷ [])
     -- a load takes the word of the nearest older store, which is not in memory yet
     ∷ usual (A 1 0 5 ++ S 1 0 3 ++ L 2 0 3)
-    (three (asks (execute 0) (executed 0 none) ∷ asks (execute 1) (executed 0 none) ∷ asks (execute 2) (executed 5 none)
+    (three (asks (execute 0) (executed 0 0 none) ∷ asks (execute 1) (executed 0 0 none) ∷ asks (execute 2) (executed 5 1 none)
     ∷ looks (replicate 8 0) eight ∷ []))
     -- The load went before the store: squashed from position 2. The next issue is that instruction, and then the one after it.
     ∷ usual (A 1 0 5 ++ S 1 0 3 ++ L 2 0 3 ++ A 3 2 1)
-    (four (asks (execute 2) (executed 13 none) ∷ asks (execute 3) (executed 0 none) ∷ asks (execute 0) (executed 0 none)
-    ∷ asks (execute 1) (executed 0 (some 2)) ∷ asks (execute 2) (refused 7) ∷ asks issue (named 2) ∷ asks issue (named 3)
+    (four (asks (execute 2) (executed 13 0 none) ∷ asks (execute 3) (executed 0 0 none) ∷ asks (execute 0) (executed 0 0 none)
+    ∷ asks (execute 1) (executed 0 0 (some 2)) ∷ asks (execute 2) (refused 7) ∷ asks issue (named 2) ∷ asks issue (named 3)
     ∷ asks issue (refused 5)
-    ∷ asks (execute 3) (refused 9) ∷ asks (execute 2) (executed 5 none) ∷ asks (execute 3) (executed 0 none)
-    ∷ asks commit (committed 0 1 1 5) ∷ asks commit (committed 1 4 3 5) ∷ asks commit (committed 2 3 2 5)
-    ∷ asks commit (committed 3 1 3 6) ∷ asks issue (refused 6) ∷ asks commit (refused 11) ∷ []))
+    ∷ asks (execute 3) (refused 9) ∷ asks (execute 2) (executed 5 1 none) ∷ asks (execute 3) (executed 0 0 none)
+    ∷ asks commit (committed 0 1 1 5 0) ∷ asks commit (committed 1 4 3 5 0) ∷ asks commit (committed 2 3 2 5 1)
+    ∷ asks commit (committed 3 1 3 6 0) ∷ asks issue (refused 6) ∷ asks commit (refused 11) ∷ []))
     -- R 1: the row whose marks are all younger is evicted, and squashed from position 1
     ∷ tight (L 1 0 5 ++ L 2 0 6 ++ L 3 0 6)
-    (three (asks (execute 2) (executed 16 none) ∷ asks (execute 1) (executed 16 none) ∷ asks (execute 0) (executed 15 (some 1))
-    ∷ asks commit (committed 0 3 1 15) ∷ asks issue (named 0) ∷ asks (execute 0) (executed 16 none)
-    ∷ asks commit (committed 1 3 2 16) ∷ []))
+    (three (asks (execute 2) (executed 16 0 none) ∷ asks (execute 1) (executed 16 0 none) ∷ asks (execute 0) (executed 15 0 (some 1))
+    ∷ asks commit (committed 0 3 1 15 0) ∷ asks issue (named 0) ∷ asks (execute 0) (executed 16 0 none)
+    ∷ asks commit (committed 1 3 2 16 0) ∷ []))
     -- a squash, and the issues after it; the first entry stays as it was
     ∷ usual (A 1 0 5 ++ A 2 0 6 ++ A 3 0 7 ++ A 4 0 8)
-    (four (asks (execute 0) (executed 0 none) ∷ asks (execute 1) (executed 0 none) ∷ asks (squash 1) done
-    ∷ asks (execute 0) (refused 8) ∷ asks (execute 1) (refused 7) ∷ asks issue (named 1) ∷ asks (execute 1) (executed 0 none)
-    ∷ asks commit (committed 0 1 1 5) ∷ asks commit (committed 1 1 2 6) ∷ asks issue (named 0) ∷ asks (squash 0) done
-    ∷ asks issue (named 0) ∷ asks (execute 0) (executed 0 none) ∷ asks commit (committed 2 1 3 7) ∷ []))
-    -- finish stops at its limit; with fewer than four places left; at the program's end. The rest of the list is left.
+    (four (asks (execute 0) (executed 0 0 none) ∷ asks (execute 1) (executed 0 0 none) ∷ asks (squash 1) done
+    ∷ asks (execute 0) (refused 8) ∷ asks (execute 1) (refused 7) ∷ asks issue (named 1) ∷ asks (execute 1) (executed 0 0 none)
+    ∷ asks commit (committed 0 1 1 5 0) ∷ asks commit (committed 1 1 2 6 0) ∷ asks issue (named 0) ∷ asks (squash 0) done
+    ∷ asks issue (named 0) ∷ asks (execute 0) (executed 0 0 none) ∷ asks commit (committed 2 1 3 7 0) ∷ []))
+    -- finish stops at its limit; with fewer than five places left; at the program's end. The rest of the list is left.
     ∷ usual script
-    (drains 0 (replicate 4 7) (finished 0) (replicate 4 7) ∷ asks commit (refused 11)
-    ∷ drains 2 (replicate 14 7) (finished 2) (0 ∷ 1 ∷ 1 ∷ 5 ∷ 1 ∷ 4 ∷ 3 ∷ 5 ∷ 7 ∷ 7 ∷ 7 ∷ 7 ∷ 7 ∷ 7 ∷ [])
+    (drains 0 (replicate 5 7) (finished 0) (replicate 5 7) ∷ asks commit (refused 11)
+    ∷ drains 2 (replicate 16 7) (finished 2)
+    (0 ∷ 1 ∷ 1 ∷ 5 ∷ 0 ∷ 1 ∷ 4 ∷ 3 ∷ 5 ∷ 0 ∷ 7 ∷ 7 ∷ 7 ∷ 7 ∷ 7 ∷ 7 ∷ [])
     ∷ asks commit (refused 11) ∷ asks issue (named 0)
     ∷ looks (0 ∷ 5 ∷ 0 ∷ 0 ∷ 0 ∷ 0 ∷ 0 ∷ 0 ∷ []) (10 ∷ 11 ∷ 12 ∷ 5 ∷ 14 ∷ 15 ∷ 16 ∷ 17 ∷ []) ∷ [])
     ∷ usual script
-    (drains 9 (7 ∷ 7 ∷ 7 ∷ []) (finished 0) (7 ∷ 7 ∷ 7 ∷ []) ∷ asks commit (refused 11)
-    ∷ drains 9 (replicate 4 7) (finished 1) (0 ∷ 1 ∷ 1 ∷ 5 ∷ []) ∷ asks commit (refused 11)
-    ∷ drains 9 (replicate 7 7) (finished 1) (1 ∷ 4 ∷ 3 ∷ 5 ∷ 7 ∷ 7 ∷ 7 ∷ []) ∷ asks commit (refused 11) ∷ [])
+    (drains 9 (replicate 4 7) (finished 0) (replicate 4 7) ∷ asks commit (refused 11)
+    ∷ drains 9 (replicate 5 7) (finished 1)
+    (0 ∷ 1 ∷ 1 ∷ 5 ∷ 0 ∷ []) ∷ asks commit (refused 11)
+    ∷ drains 9 (replicate 9 7) (finished 1)
+    (1 ∷ 4 ∷ 3 ∷ 5 ∷ 0 ∷ 7 ∷ 7 ∷ 7 ∷ 7 ∷ []) ∷ asks commit (refused 11) ∷ [])
     ∷ usual script
-    (drains 9 (replicate 14 7) (finished 3) (0 ∷ 1 ∷ 1 ∷ 5 ∷ 1 ∷ 4 ∷ 3 ∷ 5 ∷ 2 ∷ 3 ∷ 2 ∷ 5 ∷ 7 ∷ 7 ∷ [])
+    (drains 9 (replicate 17 7) (finished 3)
+    (0 ∷ 1 ∷ 1 ∷ 5 ∷ 0 ∷ 1 ∷ 4 ∷ 3 ∷ 5 ∷ 0 ∷ 2 ∷ 3 ∷ 2 ∷ 5 ∷ 0 ∷ 7 ∷ 7 ∷ [])
     ∷ drains 1 (replicate 5 7) (finished 0) (replicate 5 7) ∷ asks issue (refused 6) ∷ asks commit (refused 11) ∷ [])
     ∷ usual [] (drains 1 (replicate 5 7) (finished 0) (replicate 5 7) ∷ [])
     -- the first three stops do nothing for the oldest, which waits on
     ∷ usual script
-    (asks issue (named 0) ∷ drains 0 (replicate 4 7) (finished 0) (replicate 4 7)
-    ∷ drains 1 (7 ∷ 7 ∷ 7 ∷ []) (finished 0) (7 ∷ 7 ∷ 7 ∷ []) ∷ asks commit (refused 12) ∷ [])
+    (asks issue (named 0) ∷ drains 0 (replicate 5 7) (finished 0) (replicate 5 7)
+    ∷ drains 1 (replicate 4 7) (finished 0) (replicate 4 7) ∷ asks commit (refused 12) ∷ [])
     -- a fault, of a store and of a load: the oldest stays, executed
     ∷ usual (A 1 0 5 ++ S 1 0 8 ++ A 2 0 1)
-    (drains 9 (replicate 9 7) (finished 1) (0 ∷ 1 ∷ 1 ∷ 5 ∷ 7 ∷ 7 ∷ 7 ∷ 7 ∷ 7 ∷ [])
+    (drains 9 (replicate 10 7) (finished 1)
+    (0 ∷ 1 ∷ 1 ∷ 5 ∷ 0 ∷ 7 ∷ 7 ∷ 7 ∷ 7 ∷ 7 ∷ [])
     ∷ asks (execute 0) (refused 8) ∷ asks commit (refused 13) ∷ looks (0 ∷ 5 ∷ 0 ∷ 0 ∷ 0 ∷ 0 ∷ 0 ∷ 0 ∷ []) eight
     ∷ drains 9 (replicate 5 7) (finished 0) (replicate 5 7) ∷ asks issue (named 1) ∷ [])
     ∷ usual (L 1 0 8)
     (drains 9 (replicate 5 7) (finished 0) (replicate 5 7) ∷ asks (execute 0) (refused 8) ∷ asks commit (refused 13) ∷ [])
     -- Younger entries are live: one that went too early is squashed and issued again. Those that stay keep what they are.
     ∷ usual script
-    (three (asks (execute 2) (executed 13 none)
-    ∷ drains 9 (replicate 14 7) (finished 3) (0 ∷ 1 ∷ 1 ∷ 5 ∷ 1 ∷ 4 ∷ 3 ∷ 5 ∷ 2 ∷ 3 ∷ 2 ∷ 5 ∷ 7 ∷ 7 ∷ []) ∷ []))
+    (three (asks (execute 2) (executed 13 0 none)
+    ∷ drains 9 (replicate 17 7) (finished 3)
+    (0 ∷ 1 ∷ 1 ∷ 5 ∷ 0 ∷ 1 ∷ 4 ∷ 3 ∷ 5 ∷ 0 ∷ 2 ∷ 3 ∷ 2 ∷ 5 ∷ 0 ∷ 7 ∷ 7 ∷ []) ∷ []))
     ∷ usual (A 1 0 5 ++ A 2 0 6 ++ A 3 0 7)
-    (three (asks (execute 1) (executed 0 none) ∷ drains 1 (replicate 6 7) (finished 1) (0 ∷ 1 ∷ 1 ∷ 5 ∷ 7 ∷ 7 ∷ [])
-    ∷ asks (execute 0) (refused 8) ∷ asks (execute 2) (refused 7) ∷ asks commit (committed 1 1 2 6) ∷ asks commit (refused 12)
+    (three (asks (execute 1) (executed 0 0 none) ∷ drains 1 (replicate 7 7) (finished 1)
+    (0 ∷ 1 ∷ 1 ∷ 5 ∷ 0 ∷ 7 ∷ 7 ∷ [])
+    ∷ asks (execute 0) (refused 8) ∷ asks (execute 2) (refused 7) ∷ asks commit (committed 1 1 2 6 0) ∷ asks commit (refused 12)
     ∷ []))
     ∷ []
 
@@ -403,11 +410,11 @@ runs =
 -- an instruction alone: it executes, and its commit answers this
 abbrev pub lone : List ℕ → Answer → Example
 lone program answer =
-    usual program (asks issue (named 0) ∷ asks (execute 0) (executed 0 none) ∷ asks commit answer ∷ [])
+    usual program (asks issue (named 0) ∷ asks (execute 0) (executed 0 0 none) ∷ asks commit answer ∷ [])
 
 -- of two instructions the younger executes first, with this value; then the older squashes so
 abbrev pub early : List ℕ → ℕ → Answer → Example
-early program v answer = usual program (two (asks (execute 1) (executed v none) ∷ asks (execute 0) answer ∷ []))
+early program v answer = usual program (two (asks (execute 1) (executed v 0 none) ∷ asks (execute 0) answer ∷ []))
 
 unfoldable pub parts : List Example
 parts =
@@ -415,68 +422,130 @@ parts =
     -- word are recorded, and the word is written.
     usual
     (A 1 0 4042322160 ++ B 1 0 0 ++ B 1 0 1 ++ B 1 0 2 ++ B 1 0 3 ++ A 1 0 67305985 ++ B 1 0 0 ++ B 1 0 3 ++ H 1 0 4 ++ H 1 0 6)
-    (drains 10 (replicate 40 7) (finished 10)
-    (0 ∷ 1 ∷ 1 ∷ 4042322160 ∷ 1 ∷ 5 ∷ 0 ∷ 240 ∷ 2 ∷ 5 ∷ 1 ∷ 61680 ∷ 3 ∷ 5 ∷ 2 ∷ 15790320 ∷ 4 ∷ 5 ∷ 3 ∷ 4042322160
-    ∷ 5 ∷ 1 ∷ 1 ∷ 67305985 ∷ 6 ∷ 5 ∷ 0 ∷ 4042321921 ∷ 7 ∷ 5 ∷ 3 ∷ 32567297 ∷ 8 ∷ 6 ∷ 4 ∷ 513 ∷ 9 ∷ 6 ∷ 6 ∷ 33620481 ∷ [])
+    (drains 10 (replicate 50 7) (finished 10)
+    (0 ∷ 1 ∷ 1 ∷ 4042322160 ∷ 0 ∷ 1 ∷ 5 ∷ 0 ∷ 240 ∷ 0 ∷ 2 ∷ 5 ∷ 1 ∷ 61680 ∷ 0 ∷ 3 ∷ 5 ∷ 2 ∷ 15790320 ∷ 0 ∷ 4 ∷ 5 ∷ 3 ∷ 4042322160 ∷ 0 ∷ 5 ∷ 1 ∷ 1 ∷ 67305985 ∷ 0 ∷ 6 ∷ 5 ∷ 0 ∷ 4042321921 ∷ 0 ∷ 7 ∷ 5 ∷ 3 ∷ 32567297 ∷ 0 ∷ 8 ∷ 6 ∷ 4 ∷ 513 ∷ 0 ∷ 9 ∷ 6 ∷ 6 ∷ 33620481 ∷ 0 ∷ [])
     ∷ looks (0 ∷ 67305985 ∷ 0 ∷ 0 ∷ 0 ∷ 0 ∷ 0 ∷ 0 ∷ []) (32567297 ∷ 33620481 ∷ 12 ∷ 13 ∷ 14 ∷ 15 ∷ 16 ∷ 17 ∷ []) ∷ [])
     -- the byte number is modulo 2 ^ 32
     ∷ usual (A 1 0 4294967295 ++ B 1 1 6)
-    (drains 2 (replicate 8 7) (finished 2) (0 ∷ 1 ∷ 1 ∷ 4294967295 ∷ 1 ∷ 5 ∷ 5 ∷ 65291 ∷ []) ∷ [])
+    (drains 2 (replicate 10 7) (finished 2)
+    (0 ∷ 1 ∷ 1 ∷ 4294967295 ∷ 0 ∷ 1 ∷ 5 ∷ 5 ∷ 65291 ∷ 0 ∷ []) ∷ [])
     -- It reads the word as a load does, here an older store's that is not in memory yet, and a younger load takes the whole
     -- word. Its executed answer's value is 0.
     ∷ usual (A 1 0 511 ++ S 0 0 2 ++ B 1 0 9 ++ L 2 0 2)
-    (four (asks (execute 0) (executed 0 none) ∷ asks (execute 1) (executed 0 none) ∷ asks (execute 2) (executed 0 none)
-    ∷ asks (execute 3) (executed 65280 none) ∷ looks (replicate 8 0) eight
-    ∷ asks commit (committed 0 1 1 511) ∷ asks commit (committed 1 4 2 0) ∷ asks commit (committed 2 5 9 65280)
-    ∷ asks commit (committed 3 3 2 65280)
+    (four (asks (execute 0) (executed 0 0 none) ∷ asks (execute 1) (executed 0 0 none) ∷ asks (execute 2) (executed 0 0 none)
+    ∷ asks (execute 3) (executed 65280 1 none) ∷ looks (replicate 8 0) eight
+    ∷ asks commit (committed 0 1 1 511 0) ∷ asks commit (committed 1 4 2 0 0) ∷ asks commit (committed 2 5 9 65280 0)
+    ∷ asks commit (committed 3 3 2 65280 1)
     ∷ looks (0 ∷ 511 ∷ 65280 ∷ 0 ∷ 0 ∷ 0 ∷ 0 ∷ 0 ∷ []) (10 ∷ 11 ∷ 65280 ∷ 13 ∷ 14 ∷ 15 ∷ 16 ∷ 17 ∷ []) ∷ []))
     -- two side by side in one word, the younger after the older
     ∷ usual (A 1 0 511 ++ H 1 0 8 ++ H 1 0 10)
-    (three (asks (execute 0) (executed 0 none) ∷ asks (execute 1) (executed 0 none) ∷ asks (execute 2) (executed 0 none)
-    ∷ asks commit (committed 0 1 1 511) ∷ asks commit (committed 1 6 8 511) ∷ asks commit (committed 2 6 10 33489407) ∷ []))
+    (three (asks (execute 0) (executed 0 0 none) ∷ asks (execute 1) (executed 0 0 none) ∷ asks (execute 2) (executed 0 0 none)
+    ∷ asks commit (committed 0 1 1 511 0) ∷ asks commit (committed 1 6 8 511 0) ∷ asks commit (committed 2 6 10 33489407 0) ∷ []))
     -- One that went before an older store of its word is squashed, and so is a load that went before one of these.
-    ∷ early (S 0 0 2 ++ B 0 0 9) 0 (executed 0 (some 1)) ∷ early (S 0 0 2 ++ H 0 0 10) 0 (executed 0 (some 1))
-    ∷ early (B 0 0 8 ++ B 0 0 9) 0 (executed 0 (some 1)) ∷ early (B 0 0 8 ++ H 0 0 8) 0 (executed 0 (some 1))
-    ∷ early (H 0 0 8 ++ B 0 0 11) 0 (executed 0 (some 1)) ∷ early (H 0 0 8 ++ H 0 0 10) 0 (executed 0 (some 1))
-    ∷ early (B 0 0 9 ++ L 1 0 2) 12 (executed 0 (some 1)) ∷ early (H 0 0 10 ++ L 1 0 2) 12 (executed 0 (some 1))
+    ∷ early (S 0 0 2 ++ B 0 0 9) 0 (executed 0 0 (some 1)) ∷ early (S 0 0 2 ++ H 0 0 10) 0 (executed 0 0 (some 1))
+    ∷ early (B 0 0 8 ++ B 0 0 9) 0 (executed 0 0 (some 1)) ∷ early (B 0 0 8 ++ H 0 0 8) 0 (executed 0 0 (some 1))
+    ∷ early (H 0 0 8 ++ B 0 0 11) 0 (executed 0 0 (some 1)) ∷ early (H 0 0 8 ++ H 0 0 10) 0 (executed 0 0 (some 1))
+    ∷ early (B 0 0 9 ++ L 1 0 2) 12 (executed 0 0 (some 1)) ∷ early (H 0 0 10 ++ L 1 0 2) 12 (executed 0 0 (some 1))
     -- not by the next word's, nor by a load; a store that is met first ends the walk
-    ∷ early (S 0 0 1 ++ B 0 0 8) 0 (executed 0 none) ∷ early (B 0 0 7 ++ B 0 0 8) 0 (executed 0 none)
-    ∷ early (L 1 0 2 ++ B 0 0 8) 0 (executed 12 none) ∷ early (B 0 0 8 ++ S 0 0 2) 0 (executed 0 none)
+    ∷ early (S 0 0 1 ++ B 0 0 8) 0 (executed 0 0 none) ∷ early (B 0 0 7 ++ B 0 0 8) 0 (executed 0 0 none)
+    ∷ early (L 1 0 2 ++ B 0 0 8) 0 (executed 12 0 none) ∷ early (B 0 0 8 ++ S 0 0 2) 0 (executed 0 0 none)
     ∷ usual (B 0 0 9 ++ S 0 0 2 ++ L 1 0 2)
-    (three (asks (execute 1) (executed 0 none) ∷ asks (execute 2) (executed 0 none) ∷ asks (execute 0) (executed 0 none) ∷ []))
+    (three (asks (execute 1) (executed 0 0 none) ∷ asks (execute 2) (executed 0 1 none) ∷ asks (execute 0) (executed 0 0 none) ∷ []))
     -- 9: the writer of s and of d waits; they are nobody's writer
     ∷ usual (A 1 0 5 ++ B 0 1 0) (two (asks (execute 1) (refused 9) ∷ [])) ∷ usual (A 1 0 5 ++ B 1 0 0) (two (asks (execute 1) (refused 9) ∷ []))
     ∷ usual (A 1 0 5 ++ H 0 1 0) (two (asks (execute 1) (refused 9) ∷ [])) ∷ usual (A 1 0 5 ++ H 1 0 0) (two (asks (execute 1) (refused 9) ∷ []))
-    ∷ usual (B 1 0 3 ++ A 2 1 0) (two (asks (execute 1) (executed 0 none) ∷ []))
-    ∷ usual (H 1 0 3 ++ A 2 1 0) (two (asks (execute 1) (executed 0 none) ∷ []))
+    ∷ usual (B 1 0 3 ++ A 2 1 0) (two (asks (execute 1) (executed 0 0 none) ∷ []))
+    ∷ usual (H 1 0 3 ++ A 2 1 0) (two (asks (execute 1) (executed 0 0 none) ∷ []))
     -- rows go by the word: 10 at another word, none in the same one, and an eviction
-    ∷ tight (B 0 0 20 ++ B 0 0 24) (two (asks (execute 0) (executed 0 none) ∷ asks (execute 1) (refused 10) ∷ []))
-    ∷ tight (B 0 0 20 ++ H 0 0 22) (two (asks (execute 0) (executed 0 none) ∷ asks (execute 1) (executed 0 none) ∷ []))
-    ∷ tight (B 0 0 21 ++ L 1 0 5) (two (asks (execute 0) (executed 0 none) ∷ asks (execute 1) (executed 15 none) ∷ []))
-    ∷ tight (H 0 0 20 ++ L 1 0 6) (two (asks (execute 1) (executed 16 none) ∷ asks (execute 0) (executed 0 (some 1)) ∷ []))
-    ∷ tight (L 1 0 6 ++ B 0 0 20) (two (asks (execute 1) (executed 0 none) ∷ asks (execute 0) (executed 16 (some 1)) ∷ []))
+    ∷ tight (B 0 0 20 ++ B 0 0 24) (two (asks (execute 0) (executed 0 0 none) ∷ asks (execute 1) (refused 10) ∷ []))
+    ∷ tight (B 0 0 20 ++ H 0 0 22) (two (asks (execute 0) (executed 0 0 none) ∷ asks (execute 1) (executed 0 0 none) ∷ []))
+    ∷ tight (B 0 0 21 ++ L 1 0 5) (two (asks (execute 0) (executed 0 0 none) ∷ asks (execute 1) (executed 15 1 none) ∷ []))
+    ∷ tight (H 0 0 20 ++ L 1 0 6) (two (asks (execute 1) (executed 16 0 none) ∷ asks (execute 0) (executed 0 0 (some 1)) ∷ []))
+    ∷ tight (L 1 0 6 ++ B 0 0 20) (two (asks (execute 1) (executed 0 0 none) ∷ asks (execute 0) (executed 16 0 (some 1)) ∷ []))
     -- "A fault is a word number of W or more": byte 31 is of the last of eight words, byte 32 is past it
-    ∷ lone (B 1 0 31) (committed 0 5 31 17) ∷ lone (H 1 0 30) (committed 0 6 30 17)
+    ∷ lone (B 1 0 31) (committed 0 5 31 17 0) ∷ lone (H 1 0 30) (committed 0 6 30 17 0)
     ∷ lone (B 1 0 32) (refused 13) ∷ lone (H 1 0 32) (refused 13)
     -- 14: an H at an odd byte number; 13 comes first; an odd B is fine
     ∷ lone (H 1 0 1) (refused 14) ∷ lone (H 1 0 3) (refused 14) ∷ lone (H 1 0 31) (refused 14) ∷ lone (H 1 0 33) (refused 13)
-    ∷ lone (B 1 0 1) (committed 0 5 1 10)
+    ∷ lone (B 1 0 1) (committed 0 5 1 10 0)
     -- "executes as at the byte below": a younger load takes the word so made; finish stops there and leaves it executed
     ∷ usual (A 1 0 511 ++ H 1 0 5 ++ L 2 0 1)
-    (three (asks (execute 0) (executed 0 none) ∷ asks (execute 1) (executed 0 none) ∷ asks (execute 2) (executed 511 none)
-    ∷ drains 9 (replicate 9 7) (finished 1) (0 ∷ 1 ∷ 1 ∷ 511 ∷ 7 ∷ 7 ∷ 7 ∷ 7 ∷ 7 ∷ [])
+    (three (asks (execute 0) (executed 0 0 none) ∷ asks (execute 1) (executed 0 0 none) ∷ asks (execute 2) (executed 511 1 none)
+    ∷ drains 9 (replicate 10 7) (finished 1)
+    (0 ∷ 1 ∷ 1 ∷ 511 ∷ 0 ∷ 7 ∷ 7 ∷ 7 ∷ 7 ∷ 7 ∷ [])
     ∷ asks commit (refused 14) ∷ looks (0 ∷ 511 ∷ 0 ∷ 0 ∷ 0 ∷ 0 ∷ 0 ∷ 0 ∷ []) eight ∷ []))
     ∷ usual (A 1 0 511 ++ H 1 0 7 ++ L 2 0 1)
-    (drains 9 (replicate 9 7) (finished 1) (0 ∷ 1 ∷ 1 ∷ 511 ∷ 7 ∷ 7 ∷ 7 ∷ 7 ∷ 7 ∷ [])
+    (drains 9 (replicate 10 7) (finished 1)
+    (0 ∷ 1 ∷ 1 ∷ 511 ∷ 0 ∷ 7 ∷ 7 ∷ 7 ∷ 7 ∷ 7 ∷ [])
     ∷ asks (execute 0) (refused 8) ∷ asks commit (refused 14) ∷ asks issue (named 1)
-    ∷ asks (execute 1) (executed 33488907 none) ∷ drains 9 (replicate 5 7) (finished 0) (replicate 5 7) ∷ [])
+    ∷ asks (execute 1) (executed 33488907 1 none) ∷ drains 9 (replicate 5 7) (finished 0) (replicate 5 7) ∷ [])
     -- 3 with 14, 4 with 14
     ∷ usual (H 1 0 1)
-    (asks issue (named 0) ∷ asks (execute 0) (executed 0 none) ∷ lend (H 1 0 1) (replicate 9 0) ∷ asks commit (refused 3) ∷ [])
+    (asks issue (named 0) ∷ asks (execute 0) (executed 0 0 none) ∷ lend (H 1 0 1) (replicate 9 0) ∷ asks commit (refused 3) ∷ [])
     ∷ row 1 1 1 8 (H 1 0 1) eight done
-    (asks issue (named 0) ∷ asks (execute 0) (executed 0 none) ∷ lend (B 1 0 1) eight ∷ refuse 4 4 [])
+    (asks issue (named 0) ∷ asks (execute 0) (executed 0 0 none) ∷ lend (B 1 0 1) eight ∷ refuse 4 4 [])
+    ∷ []
+
+-- ---- how far the word came
+
+-- six instructions in eight stages
+abbrev pub six : List ℕ → List Step → Example
+six program steps =
+    row 1 4 8 8 program eight done (four (asks issue (named 4) ∷ asks issue (named 5) ∷ steps))
+
+unfoldable pub distances : List Example
+distances =
+    -- 02's example: two stores to a word, and a load of each of two words
+    six (A 1 0 5 ++ S 1 0 3 ++ A 2 0 6 ++ S 2 0 3 ++ L 3 0 3 ++ L 4 0 4)
+    (asks (execute 0) (executed 0 0 none) ∷ asks (execute 1) (executed 0 0 none) ∷ asks (execute 2) (executed 0 0 none)
+    ∷ asks (execute 3) (executed 0 0 none) ∷ asks (execute 4) (executed 6 1 none) ∷ asks (execute 5) (executed 14 0 none)
+    ∷ drains 9 (replicate 30 7) (finished 6)
+    (0 ∷ 1 ∷ 1 ∷ 5 ∷ 0 ∷ 1 ∷ 4 ∷ 3 ∷ 5 ∷ 0 ∷ 2 ∷ 1 ∷ 2 ∷ 6 ∷ 0 ∷ 3 ∷ 4 ∷ 3 ∷ 6 ∷ 0 ∷ 4 ∷ 3 ∷ 3 ∷ 6 ∷ 1 ∷ 5 ∷ 3 ∷ 4 ∷ 14 ∷ 0
+    ∷ []) ∷ [])
+    -- Every instruction counts: those without memory, those that wait, a load of the word, a store to another. The distance
+    -- stays when the store commits.
+    ∷ six (S 0 0 3 ++ A 1 0 1 ++ A 2 0 1 ++ L 3 0 3 ++ S 1 0 4 ++ L 4 0 3)
+    (asks (execute 0) (executed 0 0 none) ∷ asks (execute 1) (executed 0 0 none) ∷ asks (execute 3) (executed 0 3 none)
+    ∷ asks (execute 4) (executed 0 0 none) ∷ asks (execute 5) (executed 0 5 none) ∷ asks commit (committed 0 4 3 0 0)
+    ∷ asks commit (committed 1 1 1 1 0) ∷ asks (execute 0) (executed 0 0 none) ∷ asks commit (committed 2 1 2 1 0)
+    ∷ asks commit (committed 3 3 3 0 3) ∷ asks commit (committed 4 4 4 1 0) ∷ asks commit (committed 5 3 4 0 5) ∷ [])
+    -- A store that waits is none: the older one's word is taken. Once it executes, the load is squashed and comes again, and its
+    -- word is nearer.
+    ∷ usual (A 1 0 5 ++ S 0 0 3 ++ S 1 0 3 ++ L 2 0 3)
+    (four (asks (execute 1) (executed 0 0 none) ∷ asks (execute 3) (executed 0 2 none) ∷ asks (execute 0) (executed 0 0 none)
+    ∷ asks (execute 2) (executed 0 0 (some 3)) ∷ asks issue (named 3) ∷ asks (execute 3) (executed 5 1 none)
+    ∷ asks commit (committed 0 1 1 5 0) ∷ asks commit (committed 1 4 3 0 0) ∷ asks commit (committed 2 4 3 5 0)
+    ∷ asks commit (committed 3 3 2 5 1) ∷ []))
+    -- A younger store is none. A load that executes when its store has committed takes memory's word.
+    ∷ usual (A 1 0 5 ++ S 1 0 3 ++ L 2 0 3 ++ S 0 0 3)
+    (four (asks (execute 0) (executed 0 0 none) ∷ asks (execute 1) (executed 0 0 none) ∷ asks (execute 3) (executed 0 0 none)
+    ∷ asks commit (committed 0 1 1 5 0) ∷ asks commit (committed 1 4 3 5 0) ∷ asks (execute 0) (executed 5 0 none)
+    ∷ asks commit (committed 2 3 2 5 0) ∷ []))
+    -- Positions, not stages: in three stages the fourth instruction has the first one's stage. Finish commits what executed
+    -- before it with its distance, and executes the rest as the oldest.
+    ∷ row 1 4 3 8 (A 1 0 5 ++ A 2 0 6 ++ S 1 0 3 ++ L 3 0 3 ++ L 4 0 3) eight done
+    (drains 2 (replicate 10 7) (finished 2) (0 ∷ 1 ∷ 1 ∷ 5 ∷ 0 ∷ 1 ∷ 1 ∷ 2 ∷ 6 ∷ 0 ∷ [])
+    ∷ three (asks (execute 0) (executed 0 0 none) ∷ asks (execute 2) (executed 5 2 none) ∷ asks (execute 1) (executed 5 1 none)
+    ∷ asks (squash 2) done
+    ∷ drains 9 (replicate 15 7) (finished 3) (2 ∷ 4 ∷ 3 ∷ 5 ∷ 0 ∷ 3 ∷ 3 ∷ 3 ∷ 5 ∷ 1 ∷ 4 ∷ 3 ∷ 4 ∷ 5 ∷ 0 ∷ []) ∷ []))
+    -- a store of a part counts, by its word; of a part's own search nothing is answered or recorded
+    ∷ usual (A 1 0 5 ++ B 1 0 12 ++ L 2 0 3 ++ H 1 0 14)
+    (four (asks (execute 0) (executed 0 0 none) ∷ asks (execute 1) (executed 0 0 none) ∷ asks (execute 2) (executed 5 1 none)
+    ∷ asks (execute 3) (executed 0 0 none) ∷ asks commit (committed 0 1 1 5 0) ∷ asks commit (committed 1 5 12 5 0)
+    ∷ asks commit (committed 2 3 2 5 1) ∷ asks commit (committed 3 6 14 327685 0) ∷ []))
+    -- a word number of W or more: 0 without an older store, else its distance; neither commits
+    ∷ usual (S 1 0 8 ++ L 2 0 8 ++ L 3 0 9)
+    (three (asks (execute 0) (executed 0 0 none) ∷ asks (execute 1) (executed 0 1 none) ∷ asks (execute 2) (executed 0 0 none)
+    ∷ asks commit (refused 13) ∷ []))
+    -- whatever an entry holds, only a load commits with a distance
+    ∷ usual (A 1 0 5) (asks issue (named 0)
+    ∷ spoil 0 (record { instruction = Add 1 0 5; index = 0; fate = Executed 5 0; distance = 3 })
+    ∷ asks commit (committed 0 1 1 5 0) ∷ [])
+    ∷ usual (L 1 0 5) (asks issue (named 0)
+    ∷ spoil 0 (record { instruction = Load 1 0 5; index = 0; fate = Executed 5 5; distance = 3 })
+    ∷ asks commit (committed 0 3 1 5 3) ∷ [])
     ∷ []
 
 -- the whole table
 abbrev pub examples : List Example
-examples = openings ++ refusals ++ unlikes ++ runs ++ parts
+examples = openings ++ refusals ++ unlikes ++ runs ++ parts ++ distances

@@ -22,14 +22,14 @@ use Rattle.machine_model.specs.Program.{codeOf, kind, destination, sum}
 
 -- an entry that stands where none is
 abbrev pub blankEntry : Entry
-blankEntry = record { instruction = Add 0 0 0; index = 0; fate = Waiting }
+blankEntry = record { instruction = Add 0 0 0; index = 0; fate = Waiting; distance = 0 }
 
 abbrev pub entryAt : List Entry → ℕ → Entry
 entryAt es p = getD es p blankEntry
 
--- the entry with another fate
-abbrev pub entryWith : Entry → Fate → Entry
-entryWith e f = record { instruction = e .instruction; index = e .index; fate = f }
+-- the entry with another fate and distance
+abbrev pub entryWith : Entry → Fate → ℕ → Entry
+entryWith e f d = record { instruction = e .instruction; index = e .index; fate = f; distance = d }
 
 -- the index that an entry leads to: the following instruction
 abbrev pub successor : Entry → ℕ

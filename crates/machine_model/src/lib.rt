@@ -10,14 +10,18 @@ pub const REGISTERS: usize = 8;
 
 pub const PROGRAM: usize = 1024;
 
-// An instruction: codes 1 (A), 2 (P), 3 (L), 4 (S), 5 (B) and 6 (H), each with d, s and imm.
+// The places of a finish's list that a commit takes.
+pub const PER_COMMIT: usize = 5;
+
+// An instruction: codes 1 (A), 2 (P), 3 (L), 4 (S), 5 (B) and 6 (H), each with d, s and imm. Registers are bytes: so a window of
+// sixteen entries is copied in few moves.
 pub enum Instruction {
-    Add(u32, u32, u32),
-    Sum(u32, u32, u32),
-    Load(u32, u32, u32),
-    Store(u32, u32, u32),
-    Byte(u32, u32, u32),
-    Half(u32, u32, u32),
+    Add(u8, u8, u32),
+    Sum(u8, u8, u32),
+    Load(u8, u8, u32),
+    Store(u8, u8, u32),
+    Byte(u8, u8, u32),
+    Half(u8, u8, u32),
 }
 
 // What an instruction does: a register becomes a number, a register becomes a word of memory, a word becomes a register, a
@@ -35,11 +39,13 @@ pub enum Fate {
     Executed(u32, u32),
 }
 
-// A window entry: the instruction, its index in the program, and what became of it.
+// A window entry: the instruction, its index in the program, what became of it, and how many positions older the store is that
+// the word of an executed load came from; 0 for memory, and of all others.
 pub struct Entry {
     pub instruction: Instruction,
     pub index: u32,
     pub fate: Fate,
+    pub distance: u32,
 }
 
 // Entries stand at their stages. `count` is the number of instructions opened, `next` the index of the next to issue.
@@ -69,16 +75,16 @@ pub enum IssueAnswer {
     Issued(usize),
 }
 
-// The answer of `execute`: the value (of a load, else 0), and what was squashed.
+// The answer of `execute`: the value and the distance (of a load, else 0), and what was squashed.
 pub enum ExecuteAnswer {
     Refused(u32),
-    Executed(u32, Squashed),
+    Executed(u32, u32, Squashed),
 }
 
-// The answer of `commit`: index, code, register (for S, B and H the address) and value.
+// The answer of `commit`: index, code, register (for S, B and H the address), value and distance (of L, else 0).
 pub enum CommitAnswer {
     Refused(u32),
-    Committed(u32, u32, u32, u32),
+    Committed(u32, u32, u32, u32, u32),
 }
 
 // The answer of `finish`: the number of commits.

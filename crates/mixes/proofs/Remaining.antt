@@ -44,7 +44,8 @@ told-list n (a ∷ []) t = rw (t .count, t .first)
 told-list n (a ∷ b ∷ []) t = rw (t .count, t .first, t .second)
 told-list n (a ∷ b ∷ c ∷ []) t = rw (t .count, t .first, t .second, t .third)
 told-list n (a ∷ b ∷ c ∷ d ∷ []) t = rw (t .count, t .first, t .second, t .third, t .fourth)
-told-list n (a ∷ b ∷ c ∷ d ∷ e ∷ l) t = absurd (omega (arith, leb-true (length (a ∷ b ∷ c ∷ d ∷ e ∷ l)) 4 (t .few)))
+told-list n (a ∷ b ∷ c ∷ d ∷ e ∷ []) t = rw (t .count, t .first, t .second, t .third, t .fourth, t .fifth)
+told-list n (a ∷ b ∷ c ∷ d ∷ e ∷ f ∷ l) t = absurd (omega (arith, leb-true (length (a ∷ b ∷ c ∷ d ∷ e ∷ f ∷ l)) 5 (t .few)))
 
 -- the checksum with an answer, by the numbers that were made of it
 pub tallied : {N : Type 0} (name : N → List ℕ) (said : Answer N) {n : Tally} (sum : ℕ) {s : ℕ}
@@ -105,7 +106,7 @@ module _
         }
 
     -- an opening before them, and every turn made
-    pub mixed : {Opens : Answer N → S → Type 0} {n : Tally} (said : Answer N)
+    unfoldable pub mixed : {Opens : Answer N → S → Type 0} {n : Tally} (said : Answer N)
         → left ≡ 0 → Opens said t₀ → Tallies n (numbersIn name said) → sum₀ ≡ summed 0 (listed n)
         → Mixed name Opens Does when turns memory₀ m sum
     mixed said ended opens told counted =

@@ -42,8 +42,8 @@ pub fn with(sum: u64, x: u64) -> u64
     std::num::wrapping_add_u64(turned, x)
 }
 
-// The numbers of an answer: how many, at most four, and they.
-pub struct Tally(pub usize, pub u64, pub u64, pub u64, pub u64);
+// The numbers of an answer: how many, at most five, and they.
+pub struct Tally(pub usize, pub u64, pub u64, pub u64, pub u64, pub u64);
 
 // The checksum with the numbers of an answer.
 pub fn with_all(sum: u64, tally: Tally) -> u64
@@ -65,7 +65,11 @@ pub fn with_all(sum: u64, tally: Tally) -> u64
     if count == 3 {
         return three;
     }
-    with(three, tally.4)
+    let four = with(three, tally.4);
+    if count == 4 {
+        return four;
+    }
+    with(four, tally.5)
 }
 
 // One of sixteen addresses, spread over the banks; half of the draws give one of three.

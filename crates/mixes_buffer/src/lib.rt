@@ -15,8 +15,8 @@ fn done_tally(answer: buffer::DoneAnswer) -> Tally
     ensures { λ r. ⌜ Tallies r (numbersIn ticketed (buffer.doneSays answer)) ⌝ }
 {
     match answer {
-        buffer::DoneAnswer::Refused(k) => Tally(1, k as u64, 0, 0, 0),
-        buffer::DoneAnswer::Done => Tally(1, 100, 0, 0, 0),
+        buffer::DoneAnswer::Refused(k) => Tally(1, k as u64, 0, 0, 0, 0),
+        buffer::DoneAnswer::Done => Tally(1, 100, 0, 0, 0, 0),
     }
 }
 
@@ -24,8 +24,8 @@ fn named_tally(answer: buffer::TicketAnswer) -> Tally
     ensures { λ r. ⌜ Tallies r (numbersIn ticketed (buffer.ticketSays answer)) ⌝ }
 {
     match answer {
-        buffer::TicketAnswer::Refused(k) => Tally(1, k as u64, 0, 0, 0),
-        buffer::TicketAnswer::Named(at) => Tally(3, 100, at.stage as u64, at.number as u64, 0),
+        buffer::TicketAnswer::Refused(k) => Tally(1, k as u64, 0, 0, 0, 0),
+        buffer::TicketAnswer::Named(at) => Tally(3, 100, at.stage as u64, at.number as u64, 0, 0),
     }
 }
 
@@ -33,12 +33,17 @@ fn executed_tally(answer: buffer::ExecuteAnswer) -> Tally
     ensures { λ r. ⌜ Tallies r (numbersIn ticketed (buffer.executeSays answer)) ⌝ }
 {
     match answer {
-        buffer::ExecuteAnswer::Refused(k) => Tally(1, k as u64, 0, 0, 0),
-        buffer::ExecuteAnswer::Executed(v, squashed) => match squashed {
-            buffer::Squashed::Nothing => Tally(2, 100, v as u64, 0, 0),
-            buffer::Squashed::From(at) => {
-                Tally(4, 100, v as u64, at.stage as u64, at.number as u64)
-            }
+        buffer::ExecuteAnswer::Refused(k) => Tally(1, k as u64, 0, 0, 0, 0),
+        buffer::ExecuteAnswer::Executed(v, d, squashed) => match squashed {
+            buffer::Squashed::Nothing => Tally(3, 100, v as u64, d as u64, 0, 0),
+            buffer::Squashed::From(at) => Tally(
+                5,
+                100,
+                v as u64,
+                d as u64,
+                at.stage as u64,
+                at.number as u64,
+            ),
         },
     }
 }
@@ -112,7 +117,7 @@ pub extern "C" fn mixes_buffer(
         let kind = drawn % 32;
         let tally = if left == when {
             t = mixes::spoil(t, part, by);
-            Tally(0, 0, 0, 0, 0)
+            Tally(0, 0, 0, 0, 0, 0)
         } else if kind < 12 {
             let issued = buffer::issue(t);
             let said = issued.answer;

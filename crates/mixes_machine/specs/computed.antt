@@ -1,2 +1,2 @@
--- Turns: what the checksums of the machine's mixes are of.
+-- Turns: what the checksum of the machine's mix is of.
 pub mod Turns

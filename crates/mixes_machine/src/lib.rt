@@ -1,22 +1,22 @@
-// Long fixed mixes of calls of the machine, for the benchmark: calls of every kind, and finishes.
+// A long fixed mix of calls of the machine, for the benchmark: calls of every kind, and a finish of what they leave.
 //
-// Each returns a checksum of every answer. benchmarks/inplace.c has the same mixes over the same calls in C, so
-// only numbers and lent slices cross the boundary. What is promised is that the checksum is that of the answers
-// of as many calls, each of which met its contract (specs/computed/Turns.antt).
+// It returns a checksum of every answer. benchmarks/inplace.c has the same mix over the same calls in C, so only
+// numbers and lent slices cross the boundary. What is promised is that the checksum is that of the answers of as
+// many calls, each of which met its contract (specs/computed/Turns.antt).
 use machine::Machine;
 use mixes::Tally;
 use table::STAGES;
 ghost use Rattle.machine_model.specs.Contract as machine;
 ghost use Rattle.mixes.specs.computed.Turns.{Tallies, numbersIn};
-ghost use Rattle.mixes_machine.specs.computed.Turns.{placed, MachineTurns, Runs};
+ghost use Rattle.mixes_machine.specs.computed.Turns.{placed, MachineTurns};
 
-// The numbers of an answer: a refusal's number, or 100 and what the answer carries; of a commit its four.
+// The numbers of an answer: a refusal's number, or 100 and what the answer carries; of a commit its five.
 fn done_tally(answer: machine::DoneAnswer) -> Tally
     ensures { λ r. ⌜ Tallies r (numbersIn placed (machine.doneSays answer)) ⌝ }
 {
     match answer {
-        machine::DoneAnswer::Refused(k) => Tally(1, k as u64, 0, 0, 0),
-        machine::DoneAnswer::Done => Tally(1, 100, 0, 0, 0),
+        machine::DoneAnswer::Refused(k) => Tally(1, k as u64, 0, 0, 0, 0),
+        machine::DoneAnswer::Done => Tally(1, 100, 0, 0, 0, 0),
     }
 }
 
@@ -24,8 +24,8 @@ fn issued_tally(answer: machine::IssueAnswer) -> Tally
     ensures { λ r. ⌜ Tallies r (numbersIn placed (machine.issueSays answer)) ⌝ }
 {
     match answer {
-        machine::IssueAnswer::Refused(k) => Tally(1, k as u64, 0, 0, 0),
-        machine::IssueAnswer::Issued(p) => Tally(2, 100, p as u64, 0, 0),
+        machine::IssueAnswer::Refused(k) => Tally(1, k as u64, 0, 0, 0, 0),
+        machine::IssueAnswer::Issued(p) => Tally(2, 100, p as u64, 0, 0, 0),
     }
 }
 
@@ -33,10 +33,10 @@ fn executed_tally(answer: machine::ExecuteAnswer) -> Tally
     ensures { λ r. ⌜ Tallies r (numbersIn placed (machine.executeSays answer)) ⌝ }
 {
     match answer {
-        machine::ExecuteAnswer::Refused(k) => Tally(1, k as u64, 0, 0, 0),
-        machine::ExecuteAnswer::Executed(v, squashed) => match squashed {
-            machine::Squashed::Nothing => Tally(2, 100, v as u64, 0, 0),
-            machine::Squashed::From(p) => Tally(3, 100, v as u64, p as u64, 0),
+        machine::ExecuteAnswer::Refused(k) => Tally(1, k as u64, 0, 0, 0, 0),
+        machine::ExecuteAnswer::Executed(v, d, squashed) => match squashed {
+            machine::Squashed::Nothing => Tally(3, 100, v as u64, d as u64, 0, 0),
+            machine::Squashed::From(p) => Tally(4, 100, v as u64, d as u64, p as u64, 0),
         },
     }
 }
@@ -45,9 +45,9 @@ fn committed_tally(answer: machine::CommitAnswer) -> Tally
     ensures { λ r. ⌜ Tallies r (numbersIn placed (machine.commitSays answer)) ⌝ }
 {
     match answer {
-        machine::CommitAnswer::Refused(k) => Tally(1, k as u64, 0, 0, 0),
-        machine::CommitAnswer::Committed(i, c, r, v) => {
-            Tally(4, i as u64, c as u64, r as u64, v as u64)
+        machine::CommitAnswer::Refused(k) => Tally(1, k as u64, 0, 0, 0, 0),
+        machine::CommitAnswer::Committed(i, c, r, v, d) => {
+            Tally(5, i as u64, c as u64, r as u64, v as u64, d as u64)
         }
     }
 }
@@ -56,8 +56,8 @@ fn finished_tally(answer: machine::FinishAnswer) -> Tally
     ensures { λ r. ⌜ Tallies r (numbersIn placed (machine.finishSays answer)) ⌝ }
 {
     match answer {
-        machine::FinishAnswer::Refused(k) => Tally(1, k as u64, 0, 0, 0),
-        machine::FinishAnswer::Finished(n) => Tally(2, 100, n as u64, 0, 0),
+        machine::FinishAnswer::Refused(k) => Tally(1, k as u64, 0, 0, 0, 0),
+        machine::FinishAnswer::Finished(n) => Tally(2, 100, n as u64, 0, 0, 0),
     }
 }
 
@@ -75,17 +75,19 @@ fn access(code: usize, address: u32) -> machine::Instruction {
     machine::Instruction::Half(2, 0, address)
 }
 
-// An entry with one part changed: its index, its fate, its instruction, or an executed one's value and address.
+// An entry with one part changed: its index, its fate, its instruction, its distance, or an executed one's value and address.
 fn spoil_entry(e: machine::Entry, what: usize, x: usize) -> machine::Entry {
     let instruction = e.instruction;
     let index = e.index;
     let fate = e.fate;
+    let distance = e.distance;
     let address = mixes::address_drawn(x);
     if what == 0 {
         return machine::Entry {
             instruction,
             index: std::num::wrapping_add_u32(index, 1),
             fate,
+            distance,
         };
     }
     if what == 1 {
@@ -93,6 +95,7 @@ fn spoil_entry(e: machine::Entry, what: usize, x: usize) -> machine::Entry {
             instruction,
             index,
             fate: machine::Fate::Waiting,
+            distance,
         };
     }
     if what == 2 {
@@ -100,6 +103,7 @@ fn spoil_entry(e: machine::Entry, what: usize, x: usize) -> machine::Entry {
             instruction,
             index,
             fate: machine::Fate::Executed(1, address),
+            distance,
         };
     }
     if what < 7 {
@@ -107,6 +111,15 @@ fn spoil_entry(e: machine::Entry, what: usize, x: usize) -> machine::Entry {
             instruction: access(what, address),
             index,
             fate,
+            distance,
+        };
+    }
+    if what == 11 {
+        return machine::Entry {
+            instruction,
+            index,
+            fate,
+            distance: (x % 32768 * 131073) as u32,
         };
     }
     match fate {
@@ -115,6 +128,7 @@ fn spoil_entry(e: machine::Entry, what: usize, x: usize) -> machine::Entry {
             instruction,
             index,
             fate: machine::Fate::Executed(1, a ^ (x / 8 % 8) as u32),
+            distance,
         },
     }
 }
@@ -141,13 +155,17 @@ fn spoil_machine(m: Machine, what: usize, x: usize) -> Machine {
     let t = m.table;
     let s = mixes::stage_drawn(t.oldest, t.stages, x / 128);
     let e = window[s];
-    n.window[s] = spoil_entry(e, 3 + x % 8, x);
+    if what == 13 {
+        n.window[s] = spoil_entry(e, 3 + x % 8, x);
+        return n;
+    }
+    n.window[s] = spoil_entry(e, 11, x);
     n
 }
 
 // `calls` turns of a machine with these sizes. Where its run is over it is opened anew; else of 32 turns 12
 // are an issue, 8 a commit, 11 an execution and 1 a squash. In the turn after which `when` are left, the
-// machine is spoiled instead.
+// machine is spoiled instead. Then the machine is finished, with at most `limit` commits.
 #[no_mangle]
 pub extern "C" fn mixes_machine(
     banks: usize,
@@ -159,11 +177,13 @@ pub extern "C" fn mixes_machine(
     when: u32,
     part: usize,
     by: usize,
+    limit: u32,
     program: &[u32],
     memory: &mut [u32],
+    list: &mut [u32],
 ) -> u64
-    ensures { λ r. ⌜ MachineTurns banks rows stages words (now (program .entry)) (now (memory .entry)) when calls
-        (now (memory .exit)) r ⌝ }
+    ensures { λ r. ⌜ MachineTurns banks rows stages words (now (program .entry)) when calls limit
+        (now (memory .entry), now (list .entry)) (now (memory .exit), now (list .exit)) r ⌝ }
 {
     let opened = machine::open(banks, rows, stages, words, program, memory);
     let said = opened.answer;
@@ -179,7 +199,7 @@ pub extern "C" fn mixes_machine(
         let t = m.table;
         let tally = if left == when {
             m = spoil_machine(m, part, by);
-            Tally(0, 0, 0, 0, 0)
+            Tally(0, 0, 0, 0, 0, 0)
         } else if (t.live == 0) & (m.count <= m.next) {
             let again = machine::open(banks, rows, stages, words, program, memory);
             let said = again.answer;
@@ -211,36 +231,7 @@ pub extern "C" fn mixes_machine(
         };
         sum = mixes::with_all(sum, tally);
     }
-    sum
-}
-
-// `runs` times: a machine is opened, and finished with at most `limit` commits.
-#[no_mangle]
-pub extern "C" fn mixes_finish(
-    banks: usize,
-    rows: usize,
-    stages: usize,
-    words: usize,
-    runs: u32,
-    limit: u32,
-    program: &[u32],
-    memory: &mut [u32],
-    list: &mut [u32],
-) -> u64
-    ensures { λ r. ⌜ Runs banks rows stages words (now (program .entry)) limit runs
-        (now (memory .entry), now (list .entry), 0) (now (memory .exit), now (list .exit), r) ⌝ }
-{
-    let mut sum: u64 = 0;
-    let mut left = runs;
-    while 0 < left {
-        left -= 1;
-        let opened = machine::open(banks, rows, stages, words, program, memory);
-        let m = opened.machine;
-        let said = opened.answer;
-        sum = mixes::with_all(sum, done_tally(said));
-        let finished = machine::finish(m, program, limit, memory, list);
-        let answer = finished.answer;
-        sum = mixes::with_all(sum, finished_tally(answer));
-    }
-    sum
+    let finished = machine::finish(m, program, limit, memory, list);
+    let said = finished.answer;
+    mixes::with_all(sum, finished_tally(said))
 }

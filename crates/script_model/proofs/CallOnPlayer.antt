@@ -1,6 +1,6 @@
 -- One call of the machine that a line asks for: issue, execute, squash or commit. Of a sound machine the call's answer, state,
--- memory and list are `respond`'s, so what `plays` records and counts is what the answer tells: nothing, or the four numbers of
--- one commit, whose line is printed.
+-- memory and list are `respond`'s, so what `plays` records and counts is what the answer tells: nothing, or the numbers of one
+-- commit, whose lines are printed.
 -- Assumes nothing.
 use mathlib.Core.Path.{_≡_, refl, sym, ap, subst, _∙_}
 use mathlib.Core.Bool.{Bool, true, false, cond}
@@ -14,11 +14,11 @@ use borrow.Author.Tests.{lt-ltb}
 use Rattle.engine.specs.Conditions.{refusal}
 use Rattle.engine.specs.Contract.{refused, named, executed, done, committed, finished}
 use Rattle.machine_model.specs.declared.Machine.{Machine}
-use Rattle.machine_model.specs.Calls.{Plain, Call, issue, execute, squash, commit, finish, Answer, Result, respond}
+use Rattle.machine_model.specs.Calls.{Plain, Call, issue, execute, squash, commit, finish, Answer, Result, perCommit, respond}
 use Rattle.machine_model.specs.Calls.{issueChecks, executeChecks, squashChecks, commitChecks}
 use Rattle.machine_model.specs.Contract.{plain, Sound, Meets}
 use Rattle.theorem.specs.Play.{recorded, commitsIn, plays}
-use Rattle.script_model.specs.Output.{commitLine, commitLines}
+use Rattle.script_model.specs.Output.{committedLines, commitLines}
 use Rattle.script_model.specs.Playing.{toldBy, countedBy}
 use Rattle.script_model.proofs.Invariant.{standing}
 
@@ -34,14 +34,14 @@ Single (finish k list) = ⊥
 abbrev Once : Answer → Type 0
 Once (refused k) = Unit {0}
 Once (named p) = Unit {0}
-Once (executed v s) = Unit {0}
+Once (executed v d s) = Unit {0}
 Once done = Unit {0}
-Once (committed i c r v) = Unit {0}
+Once (committed i c r v d) = Unit {0}
 Once (finished n) = ⊥
 
 -- what such an answer tells
 record Told (said : Answer) (n : ℕ) : Type 0 where
-  whole : length (recorded said []) % 4 ≡ 0
+  whole : length (recorded said []) % perCommit ≡ 0
   lines : commitLines (recorded said []) ≡ toldBy said []
   counted : n < 18446744073709551615 → n + commitsIn said ≡ countedBy said n
 
@@ -49,12 +49,12 @@ once-told : (said : Answer) (n : ℕ) → Once said → Told said n
 unfolding commitLines
 once-told (refused k) n h = record { whole = refl; lines = refl; counted = λ few. add-zero n }
 once-told (named p) n h = record { whole = refl; lines = refl; counted = λ few. add-zero n }
-once-told (executed v s) n h = record { whole = refl; lines = refl; counted = λ few. add-zero n }
+once-told (executed v d s) n h = record { whole = refl; lines = refl; counted = λ few. add-zero n }
 once-told done n h = record { whole = refl; lines = refl; counted = λ few. add-zero n }
-once-told (committed i c r v) n h =
+once-told (committed i c r v d) n h =
     record {
       whole = refl;
-      lines = append-nil (commitLine i c r v);
+      lines = append-nil (committedLines i c r v d);
       counted = λ few.
           add-one n ∙ ap (λ (b : Bool). cond b (suc n) n) (sym (lt-ltb n 18446744073709551615 few));
     }
@@ -90,7 +90,7 @@ answers-once program (finish k list) X memory h = absurd h
 pub record Does (program : List ℕ) (c : Call) (m : Machine) (memory : List ℕ) (n : ℕ) (u : Machine) (after : List ℕ)
     (said : Answer) (list : List ℕ) : Type 0 where
   pub numbers : List ℕ
-  pub whole : length numbers % 4 ≡ 0
+  pub whole : length numbers % perCommit ≡ 0
   pub lines : commitLines numbers ≡ toldBy said list
   pub does : plays program (standing m memory n) c
       ≡ record { state = plain u; memory = after; record′ = numbers; commits = countedBy said n }

@@ -1,6 +1,6 @@
 -- 01's sample script, byte for byte, computed: what is printed is what 01 shows. The load of 3 executes before the
--- older store to 3, which squashes it; it is issued and executed once more. Behind it the lines of B and H, and scripts with
--- them; the words are small, since large ones take long to compute.
+-- older store to 3, which squashes it; it is issued and executed once more. Behind it the lines of B and H and of distances, and
+-- scripts with them; the words are small, since large ones take long to compute.
 -- Assumes nothing.
 use mathlib.Core.Path.{_≡_, refl}
 use mathlib.Core.List.{List, [], _∷_}
@@ -12,7 +12,7 @@ use Rattle.text.specs.Lines.{linesFrom}
 use Rattle.marks.specs.Counting.{count, last, every}
 use Rattle.table.specs.Bank.{home, bank}
 use Rattle.table.specs.Limits.{sizesFit}
-use Rattle.lookup.specs.Forwarding.{seen}
+use Rattle.lookup.specs.Forwarding.{seen, distance}
 use Rattle.lookup.specs.Violation.{keptYounger}
 use Rattle.lookup.specs.Rows.{touched}
 use Rattle.machine_model.specs.Program.{programFits}
@@ -21,7 +21,7 @@ use Rattle.machine_model.specs.Calls.{respond, finishes}
 use Rattle.theorem.specs.Play.{play}
 use Rattle.script_model.specs.declared.Item.the-variants.{Operation}
 use Rattle.script_model.specs.Language.{codeFrom, parsedLine, steps, body}
-use Rattle.script_model.specs.Output.{commitLine, commitLines, wordLines, printed}
+use Rattle.script_model.specs.Output.{commitLine, committedLines, commitLines, wordLines, printed}
 use Rattle.script_model.specs.Message.{ascii}
 
 -- `N,1,2,4,8`, `A,1,0,5`, `S,1,0,3`, `L,2,0,3`, `i`, `i`, `i`, `e,2`, `e,0`, `e,1`, `c`, `c`, `i`, `e,0`, `c`
@@ -44,11 +44,12 @@ sample =
     ∷ 99 ∷ 10
     ∷ []
 
--- `0,A,1,5`, `1,S,3,5`, `2,L,2,5`, `m,3,5`, `end,done,3`
+-- `0,A,1,5`, `1,S,3,5`, `f,2,0`, `2,L,2,5`, `m,3,5`, `end,done,3`
 abbrev expected : List ℕ
 expected =
     48 ∷ 44 ∷ 65 ∷ 44 ∷ 49 ∷ 44 ∷ 53 ∷ 10
     ∷ 49 ∷ 44 ∷ 83 ∷ 44 ∷ 51 ∷ 44 ∷ 53 ∷ 10
+    ∷ 102 ∷ 44 ∷ 50 ∷ 44 ∷ 48 ∷ 10
     ∷ 50 ∷ 44 ∷ 76 ∷ 44 ∷ 50 ∷ 44 ∷ 53 ∷ 10
     ∷ 109 ∷ 44 ∷ 51 ∷ 44 ∷ 53 ∷ 10
     ∷ 101 ∷ 110 ∷ 100 ∷ 44 ∷ 100 ∷ 111 ∷ 110 ∷ 101 ∷ 44 ∷ 51 ∷ 10
@@ -56,7 +57,7 @@ expected =
 
 pub sample-printed : printed sample ≡ expected
 unfolding printed linesFrom codeFrom body steps bytes digits commitLines wordLines sizesFit
-    play respond every programFits seen keptYounger touched count last home bank registerSeen
+    play respond every programFits seen distance keptYounger touched count last home bank registerSeen
 sample-printed = refl
 
 byte-read : parsedLine (ascii "B,1,0,3") ≡ Operation 5 1 0 3
@@ -84,12 +85,27 @@ text prints out = printed (ascii text) ≡ ascii out
 -- waits nothing faults. Byte 3 lies in the one word, byte 4 behind it.
 parts-printed :
     ("N,1,1,4,2\nA,1,0,258\nH,1,0,4\nB,1,0,5\nL,2,0,1\nx,9\n"
-    prints "0,A,1,258\n1,H,4,258\n2,B,5,514\n3,L,2,514\nm,1,514\nend,done,4\n")
+    prints "0,A,1,258\n1,H,4,258\n2,B,5,514\nf,3,0\n3,L,2,514\nm,1,514\nend,done,4\n")
     × ("N,1,2,4,8\nA,1,0,1\nB,1,0,0\nB,1,0,1\ni\ni\ni\ne,0\ne,2\ne,1\nc\nc\nc\nx,1\n"
     prints "0,A,1,1\n1,B,0,1\n2,B,1,257\nm,0,257\nend,done,3\n")
     × ("N,1,1,2,2\nA,1,0,7\nH,1,0,5\nL,2,0,1\ni\ni\ne,0\nc\ni\ne,0\ne,1\nc\nc\nx,3\n" prints "0,A,1,7\nend,fault,1\n")
     × ("N,1,1,2,2\nH,1,0,5\ni\nc\n" prints "end,open,0\n")
     × ("N,1,1,2,1\nB,0,0,3\nB,0,0,4\nx,2\n" prints "0,B,3,0\nend,fault,1\n")
 unfolding ascii printed linesFrom codeFrom body steps bytes digits commitLines wordLines sizesFit
-    play respond every programFits seen keptYounger touched count last home bank registerSeen finishes
+    play respond every programFits seen distance keptYounger touched count last home bank registerSeen finishes
 parts-printed = (refl, refl, refl, refl, refl)
+
+-- Only an L has a distance line, just before its own, of a commit and of a finish alike: one store nearer than another to the
+-- word, and memory's word; a store of a part.
+distances-printed :
+    ("N,1,2,8,8\nA,1,0,5\nS,1,0,3\nA,2,0,6\nS,2,0,3\nL,3,0,3\nL,4,0,4\ni\ni\ni\ni\ni\ni\ne,0\ne,1\ne,2\ne,3\ne,4\ne,5\nx,9\n"
+    prints "0,A,1,5\n1,S,3,5\n2,A,2,6\n3,S,3,6\nf,4,1\n4,L,3,6\nf,5,0\n5,L,4,0\nm,3,6\nend,done,6\n")
+    × ("N,1,2,4,8\nA,1,0,5\nB,1,0,12\nL,2,0,3\ni\ni\ni\ne,0\ne,1\ne,2\nc\nc\nc\n"
+    prints "0,A,1,5\n1,B,12,5\nf,2,1\n2,L,2,5\nm,3,5\nend,done,3\n")
+unfolding ascii printed linesFrom codeFrom body steps bytes digits commitLines wordLines sizesFit
+    play respond every programFits seen distance keptYounger touched count last home bank registerSeen finishes
+distances-printed = (refl, refl)
+
+distance-printed : committedLines 255 3 7 771 15 ≡ ascii "f,255,15\n255,L,7,771\n"
+unfolding ascii digits
+distance-printed = refl

@@ -7,7 +7,7 @@ use mathlib.Core.List.{List, [], _++_}
 use Prim.Native.Nat.{ℕ, suc, _+_, _-_, _*_, _≤_}
 use lib.ListN.{length, replicate, drop}
 use Rattle.machine_model.specs.declared.Machine.{Machine}
-use Rattle.machine_model.specs.Calls.{finish}
+use Rattle.machine_model.specs.Calls.{finish, perCommit}
 use Rattle.machine_model.specs.Contract.{plain, Sound}
 use Rattle.theorem.specs.Play.{Played}
 use Rattle.theorem.specs.computed.Linked.{Linked}
@@ -27,7 +27,7 @@ abbrev pub leftIn : List ℕ → Phase → Steps → Played → List ℕ
 leftIn program Over more x = []
 leftIn program (Bad n) more x = badLine n
 leftIn program Stepping more x = transcript program x more
-leftIn program (Finishing k) more x = transcript program x (before (finish k (replicate (k * 4) 0)) more)
+leftIn program (Finishing k) more x = transcript program x (before (finish k (replicate (k * perCommit) 0)) more)
 leftIn program (Words a) more x = wordLines a (drop a (x .memory)) ++ endLine (ending (x .state)) (x .commits)
 
 abbrev pub left : List ℕ → List ℕ → Player → List ℕ → List ℕ

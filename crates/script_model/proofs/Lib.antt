@@ -11,8 +11,9 @@
 -- Beginnings: what `begin` hands back.
 -- Bad lines. Flaws: there is a reason exactly where a script prints its bad line, and for that line. Looking: how the reason is
 -- found. Messages: how it is written. MessageExamples: a script for each reason, and its message.
--- The theorems. Pieces: the pieces together are what the script prints. Truth: the commits printed are the sequential run's.
--- Examples: 01's sample and scripts with B and H, computed.
+-- The theorems. Pieces: the pieces together are what the script prints. Weaving: a record is what it is without its distances,
+-- woven with them. Truth: the commits printed are the sequential run's. Examples: 01's sample and scripts with B, H and
+-- distances, computed.
 pub mod Letters
 pub mod Items
 pub mod Heads
@@ -33,6 +34,7 @@ pub mod Ways
 pub mod Openings
 pub mod Beginnings
 pub mod Pieces
+pub mod Weaving
 pub mod Truth
 pub mod Examples
 pub mod Flaws

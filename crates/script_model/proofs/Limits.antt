@@ -1,6 +1,6 @@
 -- A finish of a script, with limit k and room for all its commits, as finishes with a list of one commit. Of the list
--- a turn asks only whether four places are left (Turn), so with four places the first turn is the same, and then the
--- list is full: no commit was made, and the whole finish stops there too (told-none), or one, and the whole finish goes
+-- a turn asks only whether a commit's places are left (Turn), so with those of one commit the first turn is the same, and then
+-- the list is full: no commit was made, and the whole finish stops there too (told-none), or one, and the whole finish goes
 -- on from there with limit k - 1 (told-one). A linked state is not refused (response), and the lines of a way with one
 -- commit more begin with that commit's (telling-onward). With the machine's contract these are the steps of a player
 -- that is finishing (limit-reached, finish-made).
@@ -30,6 +30,7 @@ use Rattle.machine_model.specs.Calls.{
   ready,
   programDone,
   Drain,
+  perCommit,
   afterCommit,
 }
 use Rattle.machine_model.specs.Calls.{continueOn, drainStopped, finishes, drained, respond}
@@ -42,21 +43,21 @@ use Rattle.theorem.proofs.Finishing.{respond-links}
 use Rattle.script_model.specs.declared.Phase.{Phase}
 use Rattle.script_model.specs.declared.Phase.the-variants.{Stepping, Finishing}
 use Rattle.script_model.specs.Language.{Steps, before}
-use Rattle.script_model.specs.Output.{commitLine, commitLines, transcript}
-use Rattle.script_model.specs.Playing.{firstLine, toldBy, countedBy, phaseAfter, oneMore}
+use Rattle.script_model.specs.Output.{committedLines, commitLines, transcript}
+use Rattle.script_model.specs.Playing.{firstLines, toldBy, countedBy, phaseAfter, oneMore}
 use Rattle.script_model.proofs.Invariant.{standing, leftIn, due, Usable, InUse, rank}
 use Rattle.script_model.proofs.Phases.{Goes}
 use Rattle.script_model.proofs.Telling.{told-before}
 
 -- ---- one turn
 
--- wherever four places are left, the first turn stops at the same state, or makes the same commit
+-- wherever the places of a commit are left, the first turn stops at the same state, or makes the same commit
 data Turn (program : List ℕ) (j : ℕ) (X : Plain) (w : List ℕ) : Type 0 where
-  stops : (Y : Plain) → ((places : ℕ) → 4 ≤ places → finishes program (suc j) places X w ≡ drainStopped Y w)
+  stops : (Y : Plain) → ((places : ℕ) → perCommit ≤ places → finishes program (suc j) places X w ≡ drainStopped Y w)
       → Turn program j X w
-  goes : (i c r v : ℕ) (Z : Plain) (z : List ℕ)
-      → ((places : ℕ) → 4 ≤ places
-      → finishes program (suc j) places X w ≡ afterCommit i c r v (finishes program j (places - 4) Z z))
+  goes : (i c r v d : ℕ) (Z : Plain) (z : List ℕ)
+      → ((places : ℕ) → perCommit ≤ places
+      → finishes program (suc j) places X w ≡ afterCommit i c r v d (finishes program j (places - perCommit) Z z))
       → Turn program j X w
 
 module _ (program : List ℕ) (j : ℕ) (X : Plain) (w : List ℕ) where
@@ -68,22 +69,22 @@ module _ (program : List ℕ) (j : ℕ) (X : Plain) (w : List ℕ) where
   turning t a places =
       let r = commits program (ready program X w) w in
       cond t (drainStopped X w)
-      (continueOn a (drainStopped (ready program X w) w) (finishes program j (places - 4) (r .state) (r .memory)))
+      (continueOn a (drainStopped (ready program X w) w) (finishes program j (places - perCommit) (r .state) (r .memory)))
 
-  unfolds : (places : ℕ) → 4 ≤ places
+  unfolds : (places : ℕ) → perCommit ≤ places
       → finishes program (suc j) places X w ≡ turning (programDone X) answer places
   unfolding finishes
   unfolds places room =
-      ap (λ (b : Bool). turning (b || programDone X) answer places) (le-ltb places 4 room)
+      ap (λ (b : Bool). turning (b || programDone X) answer places) (le-ltb places perCommit room)
 
   answered : (a : Answer)
-      → ((places : ℕ) → 4 ≤ places → finishes program (suc j) places X w ≡ turning false a places) → Turn program j X w
+      → ((places : ℕ) → perCommit ≤ places → finishes program (suc j) places X w ≡ turning false a places) → Turn program j X w
   answered (refused k) e = stops (ready program X w) e
   answered (named p) e = stops (ready program X w) e
-  answered (executed v s) e = stops (ready program X w) e
+  answered (executed v d s) e = stops (ready program X w) e
   answered done e = stops (ready program X w) e
-  answered (committed i c r v) e =
-      goes i c r v (commits program (ready program X w) w .state) (commits program (ready program X w) w .memory) e
+  answered (committed i c r v d) e =
+      goes i c r v d (commits program (ready program X w) w .state) (commits program (ready program X w) w .memory) e
   answered (finished n) e = stops (ready program X w) e
 
   turn : Turn program j X w
@@ -96,29 +97,29 @@ module _ (program : List ℕ) (j : ℕ) (X : Plain) (w : List ℕ) where
 
 -- ---- what a finish answers and records
 
--- the numbers are four a commit
-abbrev Four : Drain → Type 0
-Four W = length (W .numbers) ≡ W .commits * 4
+-- the numbers are those of whole commits
+abbrev Counted : Drain → Type 0
+Counted W = length (W .numbers) ≡ W .commits * perCommit
 
-fours : (program : List ℕ) (k places : ℕ) (X : Plain) (w : List ℕ)
-    → Four (finishes program k places X w)
-fours program zero places X w = subst Four (sym (finishes-limit program 0 places X w refl)) refl
-fours program (suc j) places X w =
-    by-places (ltb places 4) refl (λ Z z. fours program j (places - 4) Z z)
+all-counted : (program : List ℕ) (k places : ℕ) (X : Plain) (w : List ℕ)
+    → Counted (finishes program k places X w)
+all-counted program zero places X w = subst Counted (sym (finishes-limit program 0 places X w refl)) refl
+all-counted program (suc j) places X w =
+    by-places (ltb places perCommit) refl (λ Z z. all-counted program j (places - perCommit) Z z)
   where
-    by-turn : 4 ≤ places → Turn program j X w
-        → ((Z : Plain) (z : List ℕ) → Four (finishes program j (places - 4) Z z))
-        → Four (finishes program (suc j) places X w)
-    by-turn room (stops Y e) rest = subst Four (sym (e places room)) refl
-    by-turn room (goes i c r v Z z e) rest =
-        subst Four (sym (e places room)) (let h = rest Z z in omega arith)
+    by-turn : perCommit ≤ places → Turn program j X w
+        → ((Z : Plain) (z : List ℕ) → Counted (finishes program j (places - perCommit) Z z))
+        → Counted (finishes program (suc j) places X w)
+    by-turn room (stops Y e) rest = subst Counted (sym (e places room)) refl
+    by-turn room (goes i c r v d Z z e) rest =
+        subst Counted (sym (e places room)) (let h = rest Z z in omega arith)
 
-    by-places : (t : Bool) → ltb places 4 ≡ t
-        → ((Z : Plain) (z : List ℕ) → Four (finishes program j (places - 4) Z z))
-        → Four (finishes program (suc j) places X w)
+    by-places : (t : Bool) → ltb places perCommit ≡ t
+        → ((Z : Plain) (z : List ℕ) → Counted (finishes program j (places - perCommit) Z z))
+        → Counted (finishes program (suc j) places X w)
     by-places true e rest =
-        subst Four (sym (finishes-short program (suc j) places X w (ltb-true places 4 e))) refl
-    by-places false e rest = by-turn (ltb-false places 4 e) (turn program j X w) rest
+        subst Counted (sym (finishes-short program (suc j) places X w (ltb-true places perCommit e))) refl
+    by-places false e rest = by-turn (ltb-false places perCommit e) (turn program j X w) rest
 
 -- a linked state is not refused
 response : (program : List ℕ) (X : Plain) (w : List ℕ) → Linked program X w → (k : ℕ) (list : List ℕ)
@@ -136,18 +137,18 @@ at X w n = record { state = X; memory = w; record′ = []; commits = n }
 
 -- a finish as a script has it: with room for all of its commits
 abbrev whole : ℕ → Call
-whole k = finish k (replicate (k * 4) 0)
+whole k = finish k (replicate (k * perCommit) 0)
 
 -- the lines of a way's numbers, and what is told from its end
 abbrev telling : List ℕ → ℕ → Steps → Drain → List ℕ
 telling program n more W = commitLines (W .numbers) ++ transcript program (at (W .state) (W .memory) (n + W .commits)) more
 
 whole-told : (program : List ℕ) (X : Plain) (w : List ℕ) → Linked program X w → (k n : ℕ) (more : Steps)
-    → transcript program (at X w n) (before (whole k) more) ≡ telling program n more (finishes program k (k * 4) X w)
+    → transcript program (at X w n) (before (whole k) more) ≡ telling program n more (finishes program k (k * perCommit) X w)
 whole-told program X w linked k n more =
-    let list : List ℕ = replicate (k * 4) 0 in
+    let list : List ℕ = replicate (k * perCommit) 0 in
     let W = finishes program k (length list) X w in
-    let h : Four W = fours program k (length list) X w in
+    let h : Counted W = all-counted program k (length list) X w in
     told-before program (at X w n) (whole k) more (W .numbers) (W .state) (W .memory) (n + W .commits)
     (ap
     (λ (r : Result).
@@ -164,9 +165,9 @@ whole-told program X w linked k n more =
     (λ (l : List ℕ).
     let x : Played = record { state = W .state; memory = W .memory; record′ = l; commits = n + W .commits } in
     x)
-    (take-at (W .numbers) (drop (length (W .numbers)) list) (W .commits * 4) h))
+    (take-at (W .numbers) (drop (length (W .numbers)) list) (W .commits * perCommit) h))
     (omega arith)
-    ∙ ap (λ (places : ℕ). telling program n more (finishes program k places X w)) (length-replicate (k * 4) 0)
+    ∙ ap (λ (places : ℕ). telling program n more (finishes program k places X w)) (length-replicate (k * perCommit) 0)
 
 -- a way that stopped at once tells nothing
 telling-stopped : (program : List ℕ) (n : ℕ) (more : Steps) (Y : Plain) (w : List ℕ)
@@ -175,15 +176,15 @@ unfolding commitLines
 telling-stopped program n more Y w = rw (add-zero n)
 
 -- a way with one commit more tells that commit first
-telling-onward : (program : List ℕ) (n : ℕ) (more : Steps) (i c r v : ℕ) (W : Drain)
-    → telling program n more (afterCommit i c r v W) ≡ commitLine i c r v ++ telling program (suc n) more W
+telling-onward : (program : List ℕ) (n : ℕ) (more : Steps) (i c r v d : ℕ) (W : Drain)
+    → telling program n more (afterCommit i c r v d W) ≡ committedLines i c r v d ++ telling program (suc n) more W
 unfolding commitLines
-telling-onward program n more i c r v W =
-    append-assoc (commitLine i c r v) (commitLines (W .numbers))
+telling-onward program n more i c r v d W =
+    append-assoc (committedLines i c r v d) (commitLines (W .numbers))
     (transcript program (at (W .state) (W .memory) (n + suc (W .commits))) more)
     ∙ ap
     (λ (q : ℕ).
-    commitLine i c r v ++ (commitLines (W .numbers) ++ transcript program (at (W .state) (W .memory) q) more))
+    committedLines i c r v d ++ (commitLines (W .numbers) ++ transcript program (at (W .state) (W .memory) q) more))
     (let q : n + suc (W .commits) ≡ suc n + W .commits = omega arith in q)
 
 -- a limit of 0 does nothing
@@ -196,7 +197,7 @@ told-nothing program X w linked n more =
 
 -- a finish with a list of one commit, by its first turn
 module _ (program : List ℕ) (X : Plain) (w : List ℕ) (linked : Linked program X w) (j : ℕ) (list : List ℕ)
-    (four : length list ≡ 4) (n : ℕ) (more : Steps) where
+    (room : length list ≡ perCommit) (n : ℕ) (more : Steps) where
   abbrev short : Result
   short = respond program (finish (suc j) list) X w
 
@@ -206,27 +207,27 @@ module _ (program : List ℕ) (X : Plain) (w : List ℕ) (linked : Linked progra
   abbrev One : Result → Type 0
   One r =
       transcript program (at X w n) (before (whole (suc j)) more)
-      ≡ firstLine (r .list) ++ transcript program (at (r .state) (r .memory) (suc n)) (before (whole j) more)
+      ≡ firstLines (r .list) ++ transcript program (at (r .state) (r .memory) (suc n)) (before (whole j) more)
 
   -- the long finish, by its first turn
-  first-told : (W : Drain) → finishes program (suc j) (suc j * 4) X w ≡ W
+  first-told : (W : Drain) → finishes program (suc j) (suc j * perCommit) X w ≡ W
       → transcript program (at X w n) (before (whole (suc j)) more) ≡ telling program n more W
   first-told W e = whole-told program X w linked (suc j) n more ∙ ap (telling program n more) e
 
-  stops-short : (Y : Plain) → ((places : ℕ) → 4 ≤ places → finishes program (suc j) places X w ≡ drainStopped Y w)
+  stops-short : (Y : Plain) → ((places : ℕ) → perCommit ≤ places → finishes program (suc j) places X w ≡ drainStopped Y w)
       → short ≡ drained list (drainStopped Y w)
   stops-short Y e =
-      response program X w linked (suc j) list ∙ ap (drained list) (e (length list) (omega (arith, four)))
+      response program X w linked (suc j) list ∙ ap (drained list) (e (length list) (omega (arith, room)))
 
-  goes-short : (i c r v : ℕ) (Z : Plain) (z : List ℕ)
-      → ((places : ℕ) → 4 ≤ places
-      → finishes program (suc j) places X w ≡ afterCommit i c r v (finishes program j (places - 4) Z z))
-      → short ≡ drained list (afterCommit i c r v (drainStopped Z z))
-  goes-short i c r v Z z e =
+  goes-short : (i c r v d : ℕ) (Z : Plain) (z : List ℕ)
+      → ((places : ℕ) → perCommit ≤ places
+      → finishes program (suc j) places X w ≡ afterCommit i c r v d (finishes program j (places - perCommit) Z z))
+      → short ≡ drained list (afterCommit i c r v d (drainStopped Z z))
+  goes-short i c r v d Z z e =
       response program X w linked (suc j) list
       ∙ ap (drained list)
-      (e (length list) (omega (arith, four))
-      ∙ ap (afterCommit i c r v) (finishes-short program j (length list - 4) Z z (omega (arith, four))))
+      (e (length list) (omega (arith, room))
+      ∙ ap (afterCommit i c r v d) (finishes-short program j (length list - perCommit) Z z (omega (arith, room))))
 
   none-told : commitsIn (short .answer) ≡ 0 → None short
   none-told h = go (turn program j X w)
@@ -234,9 +235,9 @@ module _ (program : List ℕ) (X : Plain) (w : List ℕ) (linked : Linked progra
       go : Turn program j X w → None short
       go (stops Y e) =
           subst None (sym (stops-short Y e))
-          (first-told (drainStopped Y w) (e (suc j * 4) (omega arith)) ∙ telling-stopped program n more Y w)
-      go (goes i c r v Z z e) =
-          let made = ap (λ (r : Result). commitsIn (r .answer)) (goes-short i c r v Z z e) in
+          (first-told (drainStopped Y w) (e (suc j * perCommit) (omega arith)) ∙ telling-stopped program n more Y w)
+      go (goes i c r v d Z z e) =
+          let made = ap (λ (r : Result). commitsIn (r .answer)) (goes-short i c r v d Z z e) in
           absurd (let q : 1 ≡ 0 = sym made ∙ h in omega arith)
 
   one-told : (commitsIn (short .answer) ≡ 0 → ⊥) → One short
@@ -244,40 +245,40 @@ module _ (program : List ℕ) (X : Plain) (w : List ℕ) (linked : Linked progra
     where
       go : Turn program j X w → One short
       go (stops Y e) = absurd (h (ap (λ (r : Result). commitsIn (r .answer)) (stops-short Y e)))
-      go (goes i c r v Z z e) =
-          let is = goes-short i c r v Z z e in
+      go (goes i c r v d Z z e) =
+          let is = goes-short i c r v d Z z e in
           let again : Linked program Z z =
           subst (λ (r : Result). Linked program (r .state) (r .memory)) is
           (respond-links program (finish (suc j) list) X w linked .linked) in
           subst One (sym is)
-          (first-told (afterCommit i c r v (finishes program j (suc j * 4 - 4) Z z)) (e (suc j * 4) (omega arith))
-          ∙ telling-onward program n more i c r v (finishes program j (suc j * 4 - 4) Z z)
-          ∙ ap (λ (l : List ℕ). commitLine i c r v ++ l)
+          (first-told (afterCommit i c r v d (finishes program j (suc j * perCommit - perCommit) Z z)) (e (suc j * perCommit) (omega arith))
+          ∙ telling-onward program n more i c r v d (finishes program j (suc j * perCommit - perCommit) Z z)
+          ∙ ap (λ (l : List ℕ). committedLines i c r v d ++ l)
           (ap (λ (places : ℕ). telling program (suc n) more (finishes program j places Z z))
-          (let q : suc j * 4 - 4 ≡ j * 4 = omega arith in q)
+          (let q : suc j * perCommit - perCommit ≡ j * perCommit = omega arith in q)
           ∙ sym (whole-told program Z z again j (suc n) more)))
 
 -- The same by the limit k. No commit was made:
 pub told-none : (program : List ℕ) (X : Plain) (w : List ℕ) → Linked program X w → (k : ℕ) → (k ≡ 0 → ⊥)
-    → (list : List ℕ) → length list ≡ 4 → (n : ℕ) (more : Steps)
+    → (list : List ℕ) → length list ≡ perCommit → (n : ℕ) (more : Steps)
     → let r = respond program (finish k list) X w in
     commitsIn (r .answer) ≡ 0
     → transcript program (at X w n) (before (whole k) more) ≡ transcript program (at (r .state) (r .memory) n) more
-told-none program X w linked zero some list four n more h = absurd (some refl)
-told-none program X w linked (suc j) some list four n more h = none-told program X w linked j list four n more h
+told-none program X w linked zero some list room n more h = absurd (some refl)
+told-none program X w linked (suc j) some list room n more h = none-told program X w linked j list room n more h
 
 -- or one:
 pub told-one : (program : List ℕ) (X : Plain) (w : List ℕ) → Linked program X w → (k : ℕ) → (k ≡ 0 → ⊥)
-    → (list : List ℕ) → length list ≡ 4 → (n : ℕ) (more : Steps)
+    → (list : List ℕ) → length list ≡ perCommit → (n : ℕ) (more : Steps)
     → let r = respond program (finish k list) X w in
     (commitsIn (r .answer) ≡ 0 → ⊥)
     → transcript program (at X w n) (before (whole k) more)
-    ≡ firstLine (r .list) ++ transcript program (at (r .state) (r .memory) (suc n)) (before (whole (k - 1)) more)
-told-one program X w linked zero some list four n more h = absurd (some refl)
-told-one program X w linked (suc j) some list four n more h =
+    ≡ firstLines (r .list) ++ transcript program (at (r .state) (r .memory) (suc n)) (before (whole (k - 1)) more)
+told-one program X w linked zero some list room n more h = absurd (some refl)
+told-one program X w linked (suc j) some list room n more h =
     let r = respond program (finish (suc j) list) X w in
-    one-told program X w linked j list four n more h
-    ∙ ap (λ (q : ℕ). firstLine (r .list) ++ transcript program (at (r .state) (r .memory) (suc n)) (before (whole q) more))
+    one-told program X w linked j list room n more h
+    ∙ ap (λ (q : ℕ). firstLines (r .list) ++ transcript program (at (r .state) (r .memory) (suc n)) (before (whole q) more))
     (let q : j ≡ suc j - 1 = omega arith in q)
 
 -- ---- the player
@@ -301,7 +302,7 @@ limit-reached program m n k memory e =
 -- A finish with a list of one commit. No commit was made: the end of the program or a fault, so the whole finish ends here. Or
 -- one, which is printed: the finish goes on with one commit less.
 module _ (program : List ℕ) (m u : Machine) (n k : ℕ) (memory after list left : List ℕ) (said : Answer)
-    (some : k ≡ 0 → ⊥) (four : length list ≡ 4) (meets : Meets program m (finish k list) memory said u after left)
+    (some : k ≡ 0 → ⊥) (room : length list ≡ perCommit) (meets : Meets program m (finish k list) memory said u after left)
     (lent : length after ≡ length memory) where
   -- where the machine's finish left this machine and memory
   abbrev made : Result
@@ -339,9 +340,9 @@ module _ (program : List ℕ) (m u : Machine) (n k : ℕ) (memory after list lef
       let none : commitsIn said ≡ 0 = eqb-true (commitsIn said) 0 e in
       let silent : toldBy said left ≡ [] =
       ap (λ (a : Answer). toldBy a left) (x .1)
-      ∙ ap (λ (b : Bool). cond b [] (firstLine left)) (eq-eqb (x .0) 0 (sym (ap commitsIn (x .1)) ∙ none)) in (
+      ∙ ap (λ (b : Bool). cond b [] (firstLines left)) (eq-eqb (x .0) 0 (sym (ap commitsIn (x .1)) ∙ none)) in (
         λ more.
-            told-none program (plain m) memory (usable .linked) k some list four n more
+            told-none program (plain m) memory (usable .linked) k some list room n more
             (ap commitsIn (sym (meets .answer (usable .sound))) ∙ none)
             ∙ ap₂ (λ (X : Plain) (w : List ℕ). transcript program (at X w n) more)
             (sym (meets .state (usable .sound)))
@@ -354,20 +355,20 @@ module _ (program : List ℕ) (m u : Machine) (n k : ℕ) (memory after list lef
       let x = answers usable in
       let one : commitsIn said ≡ 0 → ⊥ = eqb-false (commitsIn said) 0 e in
       let next : suc n ≡ oneMore n = ap (λ (b : Bool). cond b (suc n) n) (sym (lt-ltb n 18446744073709551615 few)) in
-      let spoken : toldBy said left ≡ firstLine left =
+      let spoken : toldBy said left ≡ firstLines left =
       ap (λ (a : Answer). toldBy a left) (x .1)
-      ∙ ap (λ (b : Bool). cond b [] (firstLine left)) (ne-eqb (x .0) 0 (λ z. one (ap commitsIn (x .1) ∙ z))) in (
+      ∙ ap (λ (b : Bool). cond b [] (firstLines left)) (ne-eqb (x .0) 0 (λ z. one (ap commitsIn (x .1) ∙ z))) in (
         λ more.
-            told-one program (plain m) memory (usable .linked) k some list four n more
+            told-one program (plain m) memory (usable .linked) k some list room n more
             (λ z. one (ap commitsIn (meets .answer (usable .sound)) ∙ z))
             ∙ ap₂
             (λ (l : List ℕ) (q : ℕ).
-            firstLine l ++ transcript program (at (made .state) (made .memory) q) (before (whole (k - 1)) more))
+            firstLines l ++ transcript program (at (made .state) (made .memory) q) (before (whole (k - 1)) more))
             (sym (meets .list (usable .sound)))
             next
             ∙ ap₂
             (λ (X : Plain) (w : List ℕ).
-            firstLine left ++ transcript program (at X w (oneMore n)) (before (whole (k - 1)) more))
+            firstLines left ++ transcript program (at X w (oneMore n)) (before (whole (k - 1)) more))
             (sym (meets .state (usable .sound)))
             (sym (meets .memory (usable .sound)))
             ∙ ap (λ (l : List ℕ). l ++ transcript program (standing u after (oneMore n)) (before (whole (k - 1)) more))

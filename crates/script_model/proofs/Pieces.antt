@@ -6,7 +6,7 @@
 --
 -- At the beginning all is left and nothing is written. A fill moves a piece from the front of what is left to the end
 -- of what is written: the piece is the first `end` bytes of the buffer, as it was set there from place 0. A player
--- that is over has nothing left. That a player gets there is a law of StepContract: a call with a buffer of 80 bytes or
+-- that is over has nothing left. That a player gets there is a law of StepContract: a call with a buffer of 128 bytes or
 -- more on a player that is not over lowers `weight` (`fills-falls`). Assumes nothing.
 use mathlib.Core.Path.{_≡_, refl, sym, ap, ap₂, subst, _∙_}
 use mathlib.Core.Bool.{Bool, true, false, false≢true}

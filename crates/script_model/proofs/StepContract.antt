@@ -24,7 +24,7 @@ use Rattle.text.specs.computed.Reader.{largest}
 use Rattle.text.proofs.Splits.{line-is, line-end, line-unended, line-whole}
 use Rattle.text.proofs.Trip.{Within, written-fields}
 use Rattle.machine_model.specs.declared.Machine.{Machine}
-use Rattle.machine_model.specs.Calls.{Call, issue, execute, squash, commit, Answer}
+use Rattle.machine_model.specs.Calls.{Call, issue, execute, squash, commit, Answer, perCommit}
 use Rattle.machine_model.specs.Contract.{plain}
 use Rattle.theorem.specs.Play.{Played, commitsIn, play}
 use Rattle.theorem.specs.computed.Linked.{Linked}
@@ -428,7 +428,7 @@ step-in text program (Finishing k) cursor line n used m {memory} {after = after}
     let c = s .1 in
     called c
     (goes-on text cursor line used
-    (finish-made program m (c .machine) n k memory after (replicate 4 0) (c .list) (c .said) (s .0) refl (c .meets) (c .lent)))
+    (finish-made program m (c .machine) n k memory after (replicate perCommit 0) (c .list) (c .said) (s .0) refl (c .meets) (c .lent)))
 step-in text program (Words a) cursor line n used m {memory} (inl s) =
     quietly (s .1) (goes-on text cursor line used (word-goes program m n a memory (s .0)))
 step-in text program (Words a) cursor line n used m {memory} (inr s) =

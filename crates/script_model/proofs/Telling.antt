@@ -1,6 +1,6 @@
 -- What is told of a call and the steps after it: the lines of the call's commits, then what is told from where it led. A
 -- list of calls only adds to its record, so it may start from an empty one. The lines of a record are those of its parts
--- where the first part is whole commits of four numbers.
+-- where the first part is whole commits.
 -- Assumes nothing.
 use mathlib.Core.Path.{_≡_, refl, sym, ap, _∙_}
 use mathlib.Core.List.{List, [], _∷_, _++_, append-nil, append-assoc}
@@ -8,20 +8,21 @@ use mathlib.Core.Option.{Option, none, some}
 use Prim.Native.Nat.{ℕ, _+_, _%_}
 use native.Mathlib.Omega.{arith}
 use lib.ListN.{length}
-use Rattle.machine_model.specs.Calls.{Plain, Call, respond}
+use Rattle.machine_model.specs.Calls.{Plain, Call, perCommit, respond}
 use Rattle.theorem.specs.Play.{Played, recorded, commitsIn, plays, play}
 use Rattle.script_model.specs.Language.{Steps, before}
-use Rattle.script_model.specs.Output.{commitLine, commitLines, closing, transcript}
+use Rattle.script_model.specs.Output.{committedLines, commitLines, closing, transcript}
 
-pub commit-lines-append : (xs ys : List ℕ) → length xs % 4 ≡ 0 → commitLines (xs ++ ys) ≡ commitLines xs ++ commitLines ys
+pub commit-lines-append : (xs ys : List ℕ) → length xs % perCommit ≡ 0 → commitLines (xs ++ ys) ≡ commitLines xs ++ commitLines ys
 unfolding commitLines
 commit-lines-append [] ys h = refl
 commit-lines-append (i ∷ []) ys h = absurd (omega arith)
 commit-lines-append (i ∷ c ∷ []) ys h = absurd (omega arith)
 commit-lines-append (i ∷ c ∷ r ∷ []) ys h = absurd (omega arith)
-commit-lines-append (i ∷ c ∷ r ∷ v ∷ xs) ys h =
-    ap (λ (l : List ℕ). commitLine i c r v ++ l) (commit-lines-append xs ys (omega arith))
-    ∙ sym (append-assoc (commitLine i c r v) (commitLines xs) (commitLines ys))
+commit-lines-append (i ∷ c ∷ r ∷ v ∷ []) ys h = absurd (omega arith)
+commit-lines-append (i ∷ c ∷ r ∷ v ∷ d ∷ xs) ys h =
+    ap (λ (l : List ℕ). committedLines i c r v d ++ l) (commit-lines-append xs ys (omega arith))
+    ∙ sym (append-assoc (committedLines i c r v d) (commitLines xs) (commitLines ys))
 
 -- the same with these numbers recorded before
 abbrev after : List ℕ → Played → Played
@@ -52,7 +53,7 @@ closing-after numbers y (some n) = refl
 pub told-before : (program : List ℕ) (x : Played) (c : Call) (more : Steps) (numbers : List ℕ) (X : Plain)
     (memory : List ℕ) (n : ℕ)
     → plays program x c ≡ record { state = X; memory = memory; record′ = numbers; commits = n }
-    → length numbers % 4 ≡ 0
+    → length numbers % perCommit ≡ 0
     → transcript program x (before c more)
     ≡ commitLines numbers ++ transcript program (record { state = X; memory = memory; record′ = []; commits = n }) more
 unfolding play

@@ -1,12 +1,12 @@
 -- THE RECORD THEOREM OF A SCRIPT. Take any text of at most 65,536 bytes whose first line gives sizes within their
 -- limits. Open the machine with those sizes, the script's program and a memory of zeros, and make the calls of the
 -- script's steps, up to the first bad line if there is one. Then the opening is accepted, and what is printed are the
--- record and the memory of the sequential run (ScriptTruth), whatever the steps were and in whatever order they
--- executed.
+-- record of the sequential run, woven with the distances of the play, and the run's memory (ScriptTruth), whatever the
+-- steps were and in whatever order they executed.
 --
 -- The program was joined of well-formed instructions, at most 256 of them, so the opening passes its checks
--- (Openings). The rest is the record theorem: the record and the memory that the calls come to are the run's. Assumes
--- nothing.
+-- (Openings). The rest is the record theorem: the record without its distances and the memory that the calls come to are
+-- the run's; with its distances (Weaving) it is the play's, whose lines are printed. Assumes nothing.
 use mathlib.Core.Path.{_≡_, sym, ap, _∙_}
 use mathlib.Core.Bool.{Bool, true, false}
 use mathlib.Core.List.{List, _++_}
@@ -18,8 +18,10 @@ use Rattle.script_model.specs.declared.Player.{Player}
 use Rattle.script_model.specs.Language.{script}
 use Rattle.script_model.specs.Output.{commitLines, wordLines, ending, endLine, closing, most}
 use Rattle.script_model.specs.Playing.{isOver, wronglyLent, Begins}
-use Rattle.script_model.specs.Truth.{Sized, zeros, scriptPlayed, scriptRun, ScriptTruth, Fillings, joined}
+use Rattle.script_model.specs.Truth.{Sized, zeros, scriptPlayed, distancesOf, woven, scriptRecord, ScriptTruth}
+use Rattle.script_model.specs.Truth.{Fillings, joined}
 use Rattle.script_model.proofs.Openings.{script-opens}
+use Rattle.script_model.proofs.Weaving.{weaves}
 use Rattle.script_model.proofs.Beginnings.{printed-short}
 use Rattle.script_model.proofs.Pieces.{pieces-are}
 
@@ -30,15 +32,18 @@ script-truth text short sized =
     let opens = script-opens (linesOf text) sized in
     let t = record-theorem (s .banks) (s .rows) (s .stages) (s .words) (s .body .program) (zeros s) opens
     (s .body .steps .calls) in
+    let w = weaves (scriptPlayed s .record′) (scriptPlayed s .commits) (t .record-grows) in
     record {
       opens = opens;
       truth = t;
       prints = printed-short text short
-          ∙ ap (λ (numbers : List ℕ). commitLines numbers ++ closing (scriptPlayed s) (s .body .steps .flaw)) (t .record-is);
+          ∙ ap (λ (numbers : List ℕ). commitLines numbers ++ closing (scriptPlayed s) (s .body .steps .flaw))
+          (sym (w .same) ∙ ap (λ (numbers : List ℕ). woven numbers (distancesOf (scriptPlayed s .record′))) (t .record-is));
       closes = ap
           (λ (memory : List ℕ). wordLines 0 memory ++ endLine (ending (scriptPlayed s .state)) (scriptPlayed s .commits))
           (t .memory-is);
-      counts = sym (ap length (t .record-is)) ∙ t .record-grows;
+      counts = sym (ap length (t .record-is)) ∙ w .four;
+      distances = w .one;
     }
 
 -- So what the calls of `fill` hand out, once the player is over, is that of the sequential run.
@@ -50,7 +55,7 @@ pub pieces-tell : (text : List ℕ) (whole : Bool) (program memory : List ℕ) (
     → isOver (r .phase) ≡ true
     → length text ≤ most
     → let s = script (linesOf text) in
-    Sized s → joined pieces ≡ commitLines (scriptRun s .record′) ++ closing (scriptPlayed s) (s .body .steps .flaw)
+    Sized s → joined pieces ≡ commitLines (scriptRecord s) ++ closing (scriptPlayed s) (s .body .steps .flaw)
 pieces-tell text whole program memory q into after begun lent pieces r w fills over short sized =
     pieces-are text whole program memory q into after begun lent pieces r w fills over
     ∙ script-truth text short sized .prints

@@ -22,7 +22,7 @@ use Rattle.machine_model.specs.declared.CommitAnswer.{CommitAnswer}
 use Rattle.machine_model.specs.declared.CommitAnswer.the-variants as commit-answer
 use Rattle.machine_model.specs.declared.FinishAnswer.{FinishAnswer}
 use Rattle.machine_model.specs.declared.FinishAnswer.the-variants as finish-answer
-use Rattle.machine_model.specs.Calls.{Call, commit, finish, Answer}
+use Rattle.machine_model.specs.Calls.{Call, commit, finish, Answer, perCommit}
 use Rattle.machine_model.specs.Contract.{plain, Meets, doneSays, issueSays, executeSays, commitSays, finishSays}
 use Rattle.theorem.specs.Play.{commitsIn}
 use Rattle.script_model.specs.declared.Ending.{Ending}
@@ -32,8 +32,8 @@ use Rattle.script_model.specs.declared.Ask.{Ask}
 use Rattle.script_model.specs.declared.Ask.the-variants as ask
 use Rattle.script_model.specs.declared.Order.{Order}
 use Rattle.script_model.specs.declared.Player.{Player}
-use Rattle.script_model.specs.Output.{commitLine, badLine, ending, endLine}
-use Rattle.script_model.specs.Playing.{oneMore, orderAt, player, turned, past, firstLine, toldBy, countedBy, phaseAfter}
+use Rattle.script_model.specs.Output.{committedLines, badLine, ending, endLine}
+use Rattle.script_model.specs.Playing.{oneMore, orderAt, player, turned, past, firstLines, toldBy, countedBy, phaseAfter}
 use Rattle.script_model.specs.Playing.{afterCall, CallStep, LineStep, wordLineAt, StepIn, longest}
 use Rattle.script_model.proofs.Writing.{writes-none}
 use Rattle.script_model.proofs.Invariant.{weight}
@@ -56,7 +56,7 @@ issue-quiet (issue-answer.Issued p) = record { silent = refl; uncounted = λ n. 
 
 pub execute-quiet : (a : ExecuteAnswer) → Quiet (executeSays a)
 execute-quiet (execute-answer.Refused k) = record { silent = refl; uncounted = λ n. refl }
-execute-quiet (execute-answer.Executed v s) = record { silent = refl; uncounted = λ n. refl }
+execute-quiet (execute-answer.Executed v d s) = record { silent = refl; uncounted = λ n. refl }
 
 pub squash-quiet : (a : DoneAnswer) → Quiet (doneSays a)
 squash-quiet (done-answer.Refused k) = record { silent = refl; uncounted = λ n. refl }
@@ -67,12 +67,12 @@ commit-quiet k is = subst (λ (b : CommitAnswer). Quiet (commitSays b)) (sym is)
 
 finish-silent : (a : FinishAnswer) (list : List ℕ) → commitsIn (finishSays a) ≡ 0 → toldBy (finishSays a) list ≡ []
 finish-silent (finish-answer.Refused k) list none = refl
-finish-silent (finish-answer.Finished n) list none = ap (λ (t : Bool). cond t [] (firstLine list)) (eq-eqb n 0 none)
+finish-silent (finish-answer.Finished n) list none = ap (λ (t : Bool). cond t [] (firstLines list)) (eq-eqb n 0 none)
 
 finish-told : (a : FinishAnswer) (list : List ℕ) → (commitsIn (finishSays a) ≡ 0 → ⊥)
-    → toldBy (finishSays a) list ≡ firstLine list
+    → toldBy (finishSays a) list ≡ firstLines list
 finish-told (finish-answer.Refused k) list some = absurd (some refl)
-finish-told (finish-answer.Finished n) list some = ap (λ (t : Bool). cond t [] (firstLine list)) (ne-eqb n 0 some)
+finish-told (finish-answer.Finished n) list some = ap (λ (t : Bool). cond t [] (firstLines list)) (ne-eqb n 0 some)
 
 -- ---- the ways
 
@@ -127,7 +127,7 @@ module _ {text program : List ℕ} {p : Player} {memory₀ out₀ : List ℕ} {q
     -- a finish with a list of one commit
     module _ {k : ℕ} {u : Machine} {after list : List ℕ} (a : FinishAnswer) (finishing : q .phase ≡ Finishing k)
         (some : k ≡ 0 → ⊥)
-        (meets : Meets program (q .machine) (finish k (replicate 4 0)) memory (finishSays a) u after list)
+        (meets : Meets program (q .machine) (finish k (replicate perCommit 0)) memory (finishSays a) u after list)
         (lent : length after ≡ length memory) where
       -- the player after it, by whether it made no commit
       abbrev led : ℕ → Bool → Player
@@ -145,7 +145,7 @@ module _ {text program : List ℕ} {p : Player} {memory₀ out₀ : List ℕ} {q
           (subst (λ (l : List ℕ). Puts out at l out at) (sym (finish-silent a list none)) (put-none out at))
 
       pub finish-way : {j end : ℕ} {into : List ℕ} → (commitsIn (finishSays a) ≡ 0 → ⊥) → j ≡ oneMore (q .commits)
-          → Puts out at (firstLine list) into end
+          → Puts out at (firstLines list) into end
           → Onward here (player (Finishing (k - 1)) (q .cursor) (q .line) j (q .used) u) after into end
       finish-way {end = end} {into} one counted put =
           finish-made
@@ -202,9 +202,9 @@ module _ {text program : List ℕ} {p : Player} {memory₀ out₀ : List ℕ} {q
     turn-way asked = line-way line asked (record { prints = refl; leads = refl; keeps = refl }) (put-none out at)
 
     -- a commit that was made
-    pub commit-way : {u : Machine} {after into : List ℕ} {i code r v j end : ℕ} (a : CommitAnswer) → o .ask ≡ ask.Commit
+    pub commit-way : {u : Machine} {after into : List ℕ} {i code r v d j end : ℕ} (a : CommitAnswer) → o .ask ≡ ask.Commit
         → Meets program (q .machine) commit memory (commitSays a) u after [] → length after ≡ length memory
-        → a ≡ commit-answer.Committed i code r v → j ≡ oneMore (q .commits) → Puts out at (commitLine i code r v) into end
+        → a ≡ commit-answer.Committed i code r v d → j ≡ oneMore (q .commits) → Puts out at (committedLines i code r v d) into end
         → Onward here (player (q .phase) (o .cursor) (o .line) j (q .used) u) after into end
     commit-way {into = into} {end = end} a asked meets lent said counted put =
         call-way line asked meets lent (counted ∙ ap (λ (b : CommitAnswer). countedBy (commitSays b) (q .commits)) (sym said))

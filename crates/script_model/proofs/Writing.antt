@@ -1,6 +1,7 @@
 -- Texts written one after another: a part behind what is written makes the longer text (writes-then), and each line is its
 -- parts in this way. A number of 64 bits has at most 20 digits, so it takes at most 21 bytes with the byte after it.
 -- Assumes nothing.
+use mathlib.Core.Bool.{Bool, cond}
 use mathlib.Core.List.{List, [], _∷_, _++_}
 use mathlib.Core.Path.{_≡_, refl, sym, ap, ap₂, subst, _∙_}
 use Prim.Native.Nat.{ℕ, _+_, _≤_, _<_}
@@ -8,11 +9,12 @@ use native.Mathlib.Numerals.{add-one}
 use native.Mathlib.Omega.{arith}
 use lib.ListN.{length, set, length-append}
 use lib.Seq.{sets, length-sets}
+use borrow.Author.Tests.{eq-eqb, ne-eqb}
 use Rattle.text.specs.Decimal.{decimal}
 use Rattle.text.proofs.Digits.{decimal-length}
 use Rattle.text.proofs.Stores.{sets-append}
 use Rattle.script_model.specs.Language.{letter}
-use Rattle.script_model.specs.Output.{numberField, commitLine}
+use Rattle.script_model.specs.Output.{numberField, commitLine, distanceLine, committedLines}
 use Rattle.script_model.specs.Playing.{Writes}
 
 pub writes-then : {out mid into xs ys : List ℕ} {at m e : ℕ} → Writes out at xs mid m → Writes mid m ys into e
@@ -64,3 +66,17 @@ writes-commit i code r v x {one = one} {a = a} h p q w =
     subst (λ (y : ℕ). Writes one a (y ∷ 44 ∷ []) (set (set one a x) (a + 1) 44) (a + 2)) h (writes-two one a x 44)
     in
     writes-then (writes-then (writes-then p lettered) q) w
+
+-- a commit's lines: of an L behind its distance, of another code alone
+pub writes-committed : (i code r v d : ℕ) {out mid into : List ℕ} {at a e : ℕ} → code ≡ 3
+    → Writes out at (distanceLine i d) mid a → Writes mid a (commitLine i code r v) into e
+    → Writes out at (committedLines i code r v d) into e
+writes-committed i code r v d {out} {into = into} {at = at} {e = e} is p q =
+    subst (λ (b : Bool). Writes out at (cond b (distanceLine i d) [] ++ commitLine i code r v) into e)
+    (sym (eq-eqb code 3 is)) (writes-then p q)
+
+pub writes-alone : (i code r v d : ℕ) {out into : List ℕ} {at e : ℕ} → (code ≡ 3 → ⊥)
+    → Writes out at (commitLine i code r v) into e → Writes out at (committedLines i code r v d) into e
+writes-alone i code r v d {out} {into} {at} {e} not p =
+    subst (λ (b : Bool). Writes out at (cond b (distanceLine i d) [] ++ commitLine i code r v) into e)
+    (sym (ne-eqb code 3 not)) p

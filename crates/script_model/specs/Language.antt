@@ -11,7 +11,7 @@ use Rattle.text.specs.Lines.{Lines}
 use Rattle.text.specs.computed.Reader.{largest}
 use Rattle.table.specs.Limits.{sizesFit}
 use Rattle.machine_model.specs.Program.{wellFormed}
-use Rattle.machine_model.specs.Calls.{Call, issue, execute, squash, commit, finish}
+use Rattle.machine_model.specs.Calls.{Call, issue, execute, squash, commit, finish, perCommit}
 use Rattle.script_model.specs.declared.Item.{Item}
 use Rattle.script_model.specs.declared.Item.the-variants.{Malformed, Sizes, Operation, Issue, Execute, Squash, Commit}
 use Rattle.script_model.specs.declared.Item.the-variants.{Finish}
@@ -70,7 +70,7 @@ parsedLine (b ∷ c ∷ bs) = cond (eqb c 44) (lettered b (fields largest bs)) M
 
 -- ---- steps
 
--- The call that a step asks for. The list lent to a finish never stops it: it has four places for each of k commits.
+-- The call that a step asks for. The list lent to a finish never stops it: it has the places of k commits.
 abbrev pub stepOf : Item → Option Call
 stepOf Malformed = none
 stepOf (Sizes banks rows stages words) = none
@@ -79,7 +79,7 @@ stepOf Issue = some issue
 stepOf (Execute k) = some (execute k)
 stepOf (Squash k) = some (squash k)
 stepOf Commit = some commit
-stepOf (Finish k) = some (finish k (replicate (k * 4) 0))
+stepOf (Finish k) = some (finish k (replicate (k * perCommit) 0))
 
 -- the calls of the steps before the first bad line, and the number of that line, if there is one
 pub record Steps : Type 0 where

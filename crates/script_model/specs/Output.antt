@@ -25,9 +25,22 @@ numberField n b = decimal n ++ (b ∷ [])
 abbrev pub commitLine : ℕ → ℕ → ℕ → ℕ → List ℕ
 commitLine i code r v = numberField i 44 ++ (letter code ∷ 44 ∷ []) ++ numberField r 44 ++ numberField v 10
 
--- a line for each commit of a record
+-- a letter and two numbers
+abbrev pub pairLine : ℕ → ℕ → ℕ → List ℕ
+pairLine b m n = (b ∷ 44 ∷ []) ++ numberField m 44 ++ numberField n 10
+
+-- `f,index,distance`
+abbrev pub distanceLine : ℕ → ℕ → List ℕ
+distanceLine i d = pairLine 102 i d
+
+-- a commit's line, and of an L (code 3) its distance just before
+abbrev pub committedLines : ℕ → ℕ → ℕ → ℕ → ℕ → List ℕ
+committedLines i code r v d = cond (eqb code 3) (distanceLine i d) [] ++ commitLine i code r v
+
+-- the lines of each commit of a record
 unfoldable pub commitLines : List ℕ → List ℕ
-commitLines (i ∷ code ∷ r ∷ v ∷ ns) = commitLine i code r v ++ commitLines ns
+commitLines (i ∷ code ∷ r ∷ v ∷ d ∷ ns) = committedLines i code r v d ++ commitLines ns
+commitLines (i ∷ code ∷ r ∷ v ∷ []) = []
 commitLines (i ∷ code ∷ r ∷ []) = []
 commitLines (i ∷ code ∷ []) = []
 commitLines (i ∷ []) = []
@@ -35,7 +48,7 @@ commitLines [] = []
 
 -- `m,address,value`
 abbrev pub wordLine : ℕ → ℕ → List ℕ
-wordLine a v = (109 ∷ 44 ∷ []) ++ numberField a 44 ++ numberField v 10
+wordLine a v = pairLine 109 a v
 
 -- a line for each non-zero word, in rising address from a on
 unfoldable pub wordLines : ℕ → List ℕ → List ℕ

@@ -14,7 +14,7 @@ use Rattle.text.specs.Lines.{feed, lineAt, linesOf}
 use Rattle.table.specs.Limits.{sizesFit}
 use Rattle.engine.specs.Contract.{refused, named, executed, done, committed, finished}
 use Rattle.machine_model.specs.declared.Machine.{Machine}
-use Rattle.machine_model.specs.Calls.{Call, issue, execute, squash, commit, finish, Answer}
+use Rattle.machine_model.specs.Calls.{Call, issue, execute, squash, commit, finish, Answer, perCommit}
 use Rattle.machine_model.specs.Contract.{plain, Meets, freshMachine}
 use Rattle.theorem.specs.Play.{commitsIn}
 use Rattle.script_model.specs.declared.Item.{Item}
@@ -27,7 +27,7 @@ use Rattle.script_model.specs.declared.Ask.the-variants as ask
 use Rattle.script_model.specs.declared.Order.{Order}
 use Rattle.script_model.specs.declared.Player.{Player}
 use Rattle.script_model.specs.Language.{parsedLine, Script, unread, script}
-use Rattle.script_model.specs.Output.{commitLine, wordLine, ending, endLine, badLine, most}
+use Rattle.script_model.specs.Output.{committedLines, wordLine, ending, endLine, badLine, most}
 
 -- ---- lines
 
@@ -78,19 +78,19 @@ pub record QuietStep (bytes : List ℕ) (there : Player) (memory piece : List �
   pub leads : q ≡ there
   pub keeps : after ≡ memory
 
--- the line of the commit at the start of a finish's list
-abbrev pub firstLine : List ℕ → List ℕ
-firstLine list = commitLine (getD list 0 0) (getD list 1 0) (getD list 2 0) (getD list 3 0)
+-- the lines of the commit at the start of a finish's list
+abbrev pub firstLines : List ℕ → List ℕ
+firstLines list = committedLines (getD list 0 0) (getD list 1 0) (getD list 2 0) (getD list 3 0) (getD list 4 0)
 
--- The line of the commit that an answer tells of, if it does, with the list as the call left it. The player lends a finish room
+-- The lines of the commit that an answer tells of, if it does, with the list as the call left it. The player lends a finish room
 -- for one commit.
 abbrev pub toldBy : Answer → List ℕ → List ℕ
 toldBy (refused k) list = []
 toldBy (named p) list = []
-toldBy (executed v s) list = []
+toldBy (executed v d s) list = []
 toldBy done list = []
-toldBy (committed i c r v) list = commitLine i c r v
-toldBy (finished n) list = cond (eqb n 0) [] (firstLine list)
+toldBy (committed i c r v d) list = committedLines i c r v d
+toldBy (finished n) list = cond (eqb n 0) [] (firstLines list)
 
 -- the commits counted after an answer
 abbrev pub countedBy : Answer → ℕ → ℕ
@@ -143,7 +143,7 @@ StepIn text program Stepping p memory piece q after =
     LineStep program (order .ask) (past p order) memory piece q after
 StepIn text program (Finishing k) p memory piece q after =
     ((k ≡ 0) × QuietStep [] (turned p Stepping) memory piece q after)
-    ⊎ ((k ≡ 0 → ⊥) × CallStep program (finish k (replicate 4 0)) p memory piece q after)
+    ⊎ ((k ≡ 0 → ⊥) × CallStep program (finish k (replicate perCommit 0)) p memory piece q after)
 StepIn text program (Words a) p memory piece q after =
     ((a < length memory) × QuietStep (wordLineAt memory a) (turned p (Words (a + 1))) memory piece q after)
     ⊎ ((length memory ≤ a) × QuietStep (endLine (ending (plain (p .machine))) (p .commits)) (turned p Over) memory piece q after)
@@ -155,7 +155,7 @@ pub record PlayerStep (text program : List ℕ) (p : Player) (memory piece : Lis
 
 -- one step is begun only where this many bytes have room: more than it prints
 abbrev pub longest : ℕ
-longest = 80
+longest = 128
 
 -- steps one after another that print into a buffer of this size: all their bytes, and the player and the memory then
 pub data PlayerSteps (text program : List ℕ) (size : ℕ) (p : Player) (memory : List ℕ)

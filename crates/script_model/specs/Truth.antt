@@ -34,20 +34,43 @@ scriptPlayed s = play (s .body .program) (scriptOpening s) (s .body .steps .call
 abbrev pub scriptRun : Script → Run
 scriptRun s = runAfter (s .body .program) (zeros s) (scriptPlayed s .commits)
 
+-- the distances of a record: each fifth number
+unfoldable pub distancesOf : List ℕ → List ℕ
+distancesOf (i ∷ code ∷ r ∷ v ∷ d ∷ ns) = d ∷ distancesOf ns
+distancesOf (i ∷ code ∷ r ∷ v ∷ []) = []
+distancesOf (i ∷ code ∷ r ∷ []) = []
+distancesOf (i ∷ code ∷ []) = []
+distancesOf (i ∷ []) = []
+distancesOf [] = []
+
+-- a record of four numbers a commit with these distances, each behind its four
+unfoldable pub woven : List ℕ → List ℕ → List ℕ
+woven (i ∷ code ∷ r ∷ v ∷ ns) (d ∷ ds) = i ∷ code ∷ r ∷ v ∷ d ∷ woven ns ds
+woven (i ∷ code ∷ r ∷ v ∷ ns) [] = []
+woven (i ∷ code ∷ r ∷ []) ds = []
+woven (i ∷ code ∷ []) ds = []
+woven (i ∷ []) ds = []
+woven [] ds = []
+
+-- the sequential run's record with the distances of the play
+abbrev pub scriptRecord : Script → List ℕ
+scriptRecord s = woven (scriptRun s .record′) (distancesOf (scriptPlayed s .record′))
+
 -- Of a text of at most 65,536 bytes that is script s, with sizes within their limits. The opening is accepted, and what is
--- printed is the commit lines of the sequential run's record and then the closing lines: the non-zero words of the run's
--- memory and the end line with the number of commits, or the bad line in their place.
+-- printed is the commit lines of the sequential run's record with the distances of the play and then the closing lines: the
+-- non-zero words of the run's memory and the end line with the number of commits, or the bad line in their place.
 pub record ScriptTruth (text : List ℕ) (s : Script) : Type 0 where
   -- no condition that refuses an opening holds
   pub opens : refusal (openChecks (s .banks) (s .rows) (s .stages) (s .words) (s .body .program) (zeros s)) ≡ 0
   -- the record theorem of the machine, of these calls
   pub truth : Truth (s .body .program) (zeros s) (scriptPlayed s)
-  pub prints : printed text ≡ commitLines (scriptRun s .record′) ++ closing (scriptPlayed s) (s .body .steps .flaw)
+  pub prints : printed text ≡ commitLines (scriptRecord s) ++ closing (scriptPlayed s) (s .body .steps .flaw)
   -- the closing lines where no line is bad
   pub closes : closing (scriptPlayed s) none
       ≡ wordLines 0 (scriptRun s .memory) ++ endLine (ending (scriptPlayed s .state)) (scriptPlayed s .commits)
-  -- four numbers for each commit that the end line counts
+  -- four numbers of the run and a distance for each commit that the end line counts
   pub counts : length (scriptRun s .record′) ≡ scriptPlayed s .commits * 4
+  pub distances : length (distancesOf (scriptPlayed s .record′)) ≡ scriptPlayed s .commits
 
 -- Calls of `fill` from player p and this memory on, one after the other, each on any buffer: the pieces written, and the player
 -- and the memory then.

@@ -2,10 +2,11 @@
 // and prints and what the player's calls promise; proofs/ has the laws behind the functions and the theorems of the output.
 use machine_model::Machine;
 
-// The most bytes that a script has, and the room in the buffer with which a line is begun: more than any line takes.
+// The most bytes that a script has, and the room in the buffer with which a step is begun: more than the lines of a commit, the
+// most that a step prints, take.
 pub const MOST: usize = 65536;
 
-pub const LINE: usize = 80;
+pub const LINE: usize = 128;
 
 // The letters of instructions by their codes; 0 is no code.
 pub const LETTERS: [u8; 7] = [0, b'A', b'P', b'L', b'S', b'B', b'H'];

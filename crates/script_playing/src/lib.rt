@@ -3,6 +3,7 @@
 // The machine stays in one place: the loop makes its calls itself, and what reads or prints is a function on lent slices and
 // numbers.
 use machine_model::CommitAnswer;
+use machine_model::PER_COMMIT;
 use script_model::Ask;
 use script_model::LINE;
 use script_model::Phase;
@@ -64,8 +65,8 @@ fn play_on(p: Player, s: &[u8], program: &[u32], memory: &mut [u32], out: &mut [
                         let more = script_steps::one_more(commits);
                         match said {
                             CommitAnswer::Refused(_) => {}
-                            CommitAnswer::Committed(i, code, r, v) => {
-                                at = script_printing::put_commit(out, at, i, code, r, v);
+                            CommitAnswer::Committed(i, code, r, v, d) => {
+                                at = script_printing::put_committed(out, at, i, code, r, v, d);
                                 commits = more;
                             }
                         }
@@ -77,7 +78,7 @@ fn play_on(p: Player, s: &[u8], program: &[u32], memory: &mut [u32], out: &mut [
                     phase = Phase::Stepping;
                     continue;
                 }
-                let mut list = [0u32; 4];
+                let mut list = [0u32; PER_COMMIT];
                 let done = machine::finish(machine, program, k, memory, &mut list);
                 let said = done.answer;
                 machine = done.machine;
@@ -85,7 +86,15 @@ fn play_on(p: Player, s: &[u8], program: &[u32], memory: &mut [u32], out: &mut [
                     phase = Phase::Stepping;
                     continue;
                 }
-                at = script_printing::put_commit(out, at, list[0], list[1], list[2], list[3]);
+                at = script_printing::put_committed(
+                    out,
+                    at,
+                    list[0],
+                    list[1],
+                    list[2],
+                    list[3],
+                    list[4],
+                );
                 commits = script_steps::one_more(commits);
                 let fewer = k - 1;
                 phase = Phase::Finishing(fewer);

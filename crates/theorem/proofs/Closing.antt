@@ -21,7 +21,7 @@ use Rattle.machine_model.specs.declared.Machine.{Machine}
 use Rattle.machine_model.specs.Calls.{Plain, Call, Answer, respond, openChecks}
 use Rattle.machine_model.specs.Contract.{plain, Sound, Meets, Opens}
 use Rattle.theorem.specs.Sequential.{runAfter, ends}
-use Rattle.theorem.specs.Play.{recorded, commitsIn, Played, plays, play, start, needed, noneRefused, answersOf}
+use Rattle.theorem.specs.Play.{recorded, without, commitsIn, Played, plays, play, start, needed, noneRefused, answersOf}
 use Rattle.theorem.specs.Life.{Life, born, lived}
 use Rattle.theorem.specs.Truth.{Truth, CallsTruth}
 use Rattle.theorem.proofs.Sentences.{Unrefused, none-unrefused}
@@ -156,7 +156,7 @@ module _ {B R n W : ℕ} {program w : List ℕ} {m : Machine} (opens : Opens B R
               ap noneRefused (f .said) ∙ g .0,
               g .1,
               omega (arith, ap (λ z. z .commits) (f .played), g .2),
-              ap (λ z. z .record′) (f .played) ∙ g .3,
+              ap (λ z. without (z .record′)) (f .played) ∙ g .3,
             );
         stops = λ e {cs = later} more.
             omega (arith, ap (λ z. z .commits) (from-there more .played), plain-truth .stops e later);

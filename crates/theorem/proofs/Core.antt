@@ -1,7 +1,8 @@
 -- The window alone, apart from any engine that disambiguates memory: its steps, and the invariant of the record theorem.
 -- What an engine owes is what the step `executing` asks of an execution: it leaves the executing entry and a prefix of the
--- younger ones, and, of a store, no load among them that saw the word before. Squash and eviction take a prefix, so they
--- keep the invariant for nothing; issue appends; a commit moves the oldest into registers and memory.
+-- younger ones, and, of a store, no load among them that saw the word before. The distance that it notes is free: only the
+-- numbers of the record that `without` drops show it. Squash and eviction take a prefix, so they keep the invariant for
+-- nothing; issue appends; a commit moves the oldest into registers and memory.
 -- Assumes nothing.
 use mathlib.Core.Path.{_≡_}
 use mathlib.Core.Bool.{Bool, true, false, cond, _||_}
@@ -19,22 +20,22 @@ use Rattle.machine_model.specs.declared.Instruction.{Instruction}
 use Rattle.machine_model.specs.declared.Fate.{Fate}
 use Rattle.machine_model.specs.declared.Fate.the-variants.{Waiting, Executed}
 use Rattle.machine_model.specs.declared.Entry.{Entry}
-use Rattle.machine_model.specs.Program.{instructionAt, codeOf}
+use Rattle.machine_model.specs.Program.{instructionAt}
 use Rattle.machine_model.specs.Window.{
   entryAt,
   entryWith,
   successor,
   writesTo,
   valueOf,
-  addressBy,
   misaligned,
   registerSeen,
   referenceBy,
   reference,
   evaluate,
 }
-use Rattle.machine_model.specs.Calls.{waits, valueBy, registersAfter, target, refetch}
+use Rattle.machine_model.specs.Calls.{waits, newEntry, valueBy, refetch, registersAfter, committedSays, perCommit}
 use Rattle.theorem.specs.Sequential.{runAfter}
+use Rattle.theorem.specs.Play.{recorded, without}
 
 -- entries oldest first, committed registers, memory, the next index, and the record and number of commits so far
 pub record Core : Type 0 where
@@ -111,8 +112,7 @@ afterCommit c e es =
       registers = registersAfter (c .registers) (e .instruction) (valueBy (e .fate));
       memory = written (c .memory) (reference e);
       next = c .next;
-      record′ = c .record′
-          ++ (e .index ∷ codeOf (e .instruction) ∷ target (e .instruction) (addressBy (e .fate)) ∷ valueBy (e .fate) ∷ []);
+      record′ = c .record′ ++ recorded (committedSays e) [];
       commits = suc (c .commits);
     }
 
@@ -120,17 +120,17 @@ pub data Step (program : List ℕ) (c : Core) : Core → Type 0 where
   issuing : c .next < length program / 4
       → Step program c
       (record {
-        entries = c .entries ++ (record { instruction = instructionAt program (c .next); index = c .next; fate = Waiting } ∷ []);
+        entries = c .entries ++ (newEntry program (c .next) ∷ []);
         registers = c .registers;
         memory = c .memory;
         next = suc (c .next);
         record′ = c .record′;
         commits = c .commits;
       })
-  executing : (p left : ℕ) (f : Fate) → p < left → left ≤ length (c .entries) → entryAt (c .entries) p .fate ≡ Waiting
+  executing : (p left : ℕ) (f : Fate) (d : ℕ) → p < left → left ≤ length (c .entries) → entryAt (c .entries) p .fate ≡ Waiting
       → evaluate (entryAt (c .entries) p .instruction) (registersAt c p) (memoryAt c p) ≡ some f
       → Spares (referenceBy (entryAt (c .entries) p .instruction) f) (take (left - suc p) (drop (suc p) (c .entries)))
-      → Step program c (cutTo c left (take left (set (c .entries) p (entryWith (entryAt (c .entries) p) f))))
+      → Step program c (cutTo c left (take left (set (c .entries) p (entryWith (entryAt (c .entries) p) f d))))
   squashing : (k : ℕ) → Step program c (cutTo c k (take k (c .entries)))
   committing : (e : Entry) (es : List Entry) → c .entries ≡ e ∷ es → waits (e .fate) ≡ false
       → barred (length (c .memory)) e ≡ false
@@ -151,15 +151,15 @@ Good program next ρ μ (e ∷ es) =
     (λ (a : ℕ). Forwarding.wordAfter (reference e) a (μ a))
     es
 
--- What is kept: registers, memory and record are those of the sequential run after as many steps as were committed, whose
--- next index is the oldest entry's, and the window is good over them. The record has four numbers a commit, so each of the
--- run's steps was a real one.
+-- What is kept: registers, memory and the record without its distances are those of the sequential run after as many steps as
+-- were committed, whose next index is the oldest entry's, and the window is good over them. The record has perCommit numbers a
+-- commit, four of them the run's, so each of the run's steps was a real one.
 pub record Kept (program memory : List ℕ) (c : Core) : Type 0 where
   pub registers : c .registers ≡ runAfter program memory (c .commits) .registers
   pub lent : c .memory ≡ runAfter program memory (c .commits) .memory
-  pub record′ : c .record′ ≡ runAfter program memory (c .commits) .record′
+  pub record′ : without (c .record′) ≡ runAfter program memory (c .commits) .record′
   pub index : headIndex (c .entries) (c .next) ≡ runAfter program memory (c .commits) .index
-  pub fours : length (c .record′) ≡ c .commits * 4
+  pub grows : length (c .record′) ≡ c .commits * perCommit
   pub good : Good program (c .next) (λ (k : ℕ). some (getD (c .registers) k 0)) (λ (a : ℕ). getD (c .memory) a 0) (c .entries)
 
 -- the window of a program just opened

@@ -18,8 +18,8 @@ use Rattle.machine_model.specs.declared.Entry.{Entry}
 use Rattle.machine_model.specs.declared.Machine.{Machine}
 use Rattle.machine_model.specs.Window.{entryAt}
 use Rattle.machine_model.specs.Calls.{Plain, Call, issue, execute, commit, finish, Answer, Result, waits, issueResult}
-use Rattle.machine_model.specs.Calls.{executions, commits, begun, ready, programDone, Drain, continueOn, drainStopped, finishes}
-use Rattle.machine_model.specs.Calls.{finishing, respond, openChecks, issueChecks, commitChecks, finishChecks}
+use Rattle.machine_model.specs.Calls.{executions, commits, begun, ready, programDone, Drain, perCommit, continueOn, drainStopped}
+use Rattle.machine_model.specs.Calls.{finishes, finishing, respond, openChecks, issueChecks, commitChecks, finishChecks}
 use Rattle.machine_model.specs.Contract.{Meets, Opens}
 use Rattle.theorem.specs.Sequential.{Run, runAfter, ends, step}
 use Rattle.theorem.specs.Play.{commitsIn, Played, plays, play}
@@ -101,13 +101,13 @@ module _ (program : List ℕ) where
               readied true = ap (λ z. plays program z commit) (quiet-plays x (execute 0) (execute-quiet program X w 0))
               readied false = refl
 
--- what a commit answers: its four numbers, or a refusal
+-- what a commit answers: its numbers, or a refusal
 abbrev OfCommit : Answer → Type 0
 OfCommit (refused k) = Unit {0}
 OfCommit (named p) = ⊥
-OfCommit (executed v s) = ⊥
+OfCommit (executed v d s) = ⊥
 OfCommit done = ⊥
-OfCommit (committed i c r v) = Unit {0}
+OfCommit (committed i c r v d) = Unit {0}
 OfCommit (finished n) = ⊥
 
 commit-answers : (program : List ℕ) (X : Plain) (memory : List ℕ) → OfCommit (commits program X memory .answer)
@@ -117,11 +117,11 @@ commit-answers program X memory =
 -- a turn of a finish goes on where its commit was one, else it stops
 goes-one : (a : Answer) (here rest : Drain) → OfCommit a → commitsIn a ≡ 1 → continueOn a here rest .commits ≡ suc (rest .commits)
 goes-one (refused k) here rest o e = absurd (omega arith)
-goes-one (committed i c r v) here rest o e = refl
+goes-one (committed i c r v d) here rest o e = refl
 
 stops-none : (a : Answer) (here rest : Drain) → OfCommit a → commitsIn a ≡ 0 → continueOn a here rest ≡ here
 stops-none (refused k) here rest o e = refl
-stops-none (committed i c r v) here rest o e = absurd (omega arith)
+stops-none (committed i c r v d) here rest o e = absurd (omega arith)
 
 -- ---- the run's steps
 
@@ -180,12 +180,12 @@ module _ (program memory : List ℕ) where
 
   -- a turn of a finish, and what comes after it: the run's next step, and its further ones
   turn-counts : (k places : ℕ) (x : Played) → Held program memory x
-      → ((z : Played) → Held program memory z → finishes program k (places - 4) (z .state) (z .memory) .commits
-      ≡ stepsLeft program (run program memory z) (min k ((places - 4) / 4)))
+      → ((z : Played) → Held program memory z → finishes program k (places - perCommit) (z .state) (z .memory) .commits
+      ≡ stepsLeft program (run program memory z) (min k ((places - perCommit) / perCommit)))
       → finishes program (suc k) places (x .state) (x .memory) .commits
-      ≡ stepsLeft program (run program memory x) (min (suc k) (places / 4))
+      ≡ stepsLeft program (run program memory x) (min (suc k) (places / perCommit))
   unfolding finishes respond runAfter stepsLeft
-  turn-counts k places x h later = go (ltb places 4) (programDone X) refl refl
+  turn-counts k places x h later = go (ltb places perCommit) (programDone X) refl refl
     where
       X : Plain
       X = x .state
@@ -204,54 +204,55 @@ module _ (program memory : List ℕ) where
 
       turned : Drain
       turned =
-          continueOn (r .answer) (drainStopped Y (x .memory)) (finishes program k (places - 4) (r .state) (r .memory))
+          continueOn (r .answer) (drainStopped Y (x .memory)) (finishes program k (places - perCommit) (r .state) (r .memory))
 
       played : play program x (next x) .commits ≡ x .commits + commitsIn (r .answer)
       played = ap (λ (y : Played). y .commits) (play-next program x)
 
-      go : (s d : Bool) → ltb places 4 ≡ s → programDone X ≡ d
-          → cond (s || d) (drainStopped X (x .memory)) turned .commits ≡ stepsLeft program now (min (suc k) (places / 4))
+      go : (s d : Bool) → ltb places perCommit ≡ s → programDone X ≡ d
+          → cond (s || d) (drainStopped X (x .memory)) turned .commits ≡ stepsLeft program now (min (suc k) (places / perCommit))
       go true d p q =
-          let none : 0 ≡ min (suc k) (places / 4) = omega (arith, ltb-true places 4 p) in
+          let none : 0 ≡ min (suc k) (places / perCommit) = omega (arith, ltb-true places perCommit p) in
           ap (stepsLeft program now) none
-      go false true p q = sym (none-left program now (min (suc k) (places / 4)) (done-ends x h q))
+      go false true p q = sym (none-left program now (min (suc k) (places / perCommit)) (done-ends x h q))
       go false false p q = on (ends program now) refl
         where
-          on : (t : Bool) → ends program now ≡ t → turned .commits ≡ stepsLeft program now (min (suc k) (places / 4))
+          on : (t : Bool) → ends program now ≡ t → turned .commits ≡ stepsLeft program now (min (suc k) (places / perCommit))
           on true e =
               let nothing : commitsIn (r .answer) ≡ 0 = omega (arith, played, none-play program memory x h e (next x)) in
               ap (λ (w : Drain). w .commits)
               (stops-none (r .answer) (drainStopped Y (x .memory)) _ (commit-answers program Y (x .memory)) nothing)
-              ∙ sym (none-left program now (min (suc k) (places / 4)) e)
+              ∙ sym (none-left program now (min (suc k) (places / perCommit)) e)
           on false e =
               let goes = needed-next program memory x h e .2 in
               let held : Held program memory z = subst (Held program memory) (play-next program x)
               (held-play program memory x h (next x)) in
-              let room : suc (min k ((places - 4) / 4)) ≡ min (suc k) (places / 4) = omega (arith, ltb-false places 4 p) in
+              let room : suc (min k ((places - perCommit) / perCommit)) ≡ min (suc k) (places / perCommit) =
+              omega (arith, ltb-false places perCommit p) in
               let after : z .commits ≡ suc (x .commits) = omega (arith, played, goes) in
               goes-one (r .answer) (drainStopped Y (x .memory)) _ (commit-answers program Y (x .memory))
               (omega (arith, played, goes))
               ∙ ap suc
               (later z held
-              ∙ ap (λ (n : ℕ). stepsLeft program (runAfter program memory n) (min k ((places - 4) / 4))) after)
-              ∙ sym (one-left program now (min k ((places - 4) / 4)) e)
+              ∙ ap (λ (n : ℕ). stepsLeft program (runAfter program memory n) (min k ((places - perCommit) / perCommit))) after)
+              ∙ sym (one-left program now (min k ((places - perCommit) / perCommit)) e)
               ∙ ap (stepsLeft program now) room
 
   finish-counts : (k places : ℕ) (x : Played) → Held program memory x
       → finishes program k places (x .state) (x .memory) .commits
-      ≡ stepsLeft program (run program memory x) (min k (places / 4))
+      ≡ stepsLeft program (run program memory x) (min k (places / perCommit))
   unfolding finishes stepsLeft
   finish-counts zero places x h =
-      let none : 0 ≡ min 0 (places / 4) = omega arith in
+      let none : 0 ≡ min 0 (places / perCommit) = omega arith in
       ap (stepsLeft program (run program memory x)) none
-  finish-counts (suc k) places x h = turn-counts k places x h (finish-counts k (places - 4))
+  finish-counts (suc k) places x h = turn-counts k places x h (finish-counts k (places - perCommit))
 
   finish-truth : (x : Played) → Held program memory x → (k : ℕ) (list : List ℕ)
       → FinishTruth program memory (x .commits) k list (respond program (finish k list) (x .state) (x .memory) .answer)
   unfolding respond
   finish-truth x h k list =
       let X = x .state in
-      let left = stepsLeft program (run program memory x) (min k (length list / 4)) in
+      let left = stepsLeft program (run program memory x) (min k (length list / perCommit)) in
       let says : finishing program X (x .memory) k list .answer ≡ finished left =
       ap (λ (r : Result). r .answer)
       (judged-accepted (refusal (finishChecks program X (x .memory))) X (x .memory) list _
@@ -262,7 +263,7 @@ module _ (program memory : List ℕ) where
         ended = λ n is less room.
             let count : left ≡ n = cc in
             subst (λ (j : ℕ). ends program (runAfter program memory (x .commits + j)) ≡ true) count
-            (left-ends program memory (min k (length list / 4)) (x .commits) (omega (arith, count)));
+            (left-ends program memory (min k (length list / perCommit)) (x .commits) (omega (arith, count)));
       }
 
 -- ---- from an opening

@@ -1,6 +1,6 @@
 -- A finish, and so every call, is some steps of the window. The oldest is made ready by an issue and an execution, refused or
 -- not: both leave memory and commit nothing, so what they reach is reached with the same record. Then it is committed. Only
--- the answer with a commit's four numbers goes on, after any other the finish stops. So its numbers are four a commit, and the
+-- the answer with a commit's numbers goes on, after any other the finish stops. So its numbers are perCommit a commit, and the
 -- start of its list, as long as its answer tells, is those numbers.
 -- Assumes nothing.
 use mathlib.Core.Path.{_≡_, refl, sym, subst}
@@ -23,6 +23,7 @@ use Rattle.machine_model.specs.Calls.{
   ready,
   programDone,
   Drain,
+  perCommit,
   continueOn,
   drainStopped,
   finishes,
@@ -40,17 +41,17 @@ pub either : {A : Type 0} (P : A → Type 0) (t : Bool) {x y : A} → P x → P 
 either P true p q = p
 either P false p q = q
 
--- the end of a way from X: its state is linked, its numbers and commits are those of steps, and the numbers are four a commit
+-- the end of a way from X: its state is linked, its numbers and commits are those of steps, and there are perCommit a commit
 record Goes (program : List ℕ) (X : Plain) (memory : List ℕ) (w : Drain) : Type 0 where
   linked : Linked program (w .state) (w .memory)
   steps : (rec : List ℕ) (n : ℕ)
       → Steps program (coreOf X memory rec n) (coreOf (w .state) (w .memory) (rec ++ w .numbers) (n + w .commits))
-  fours : length (w .numbers) ≡ w .commits * 4
+  grows : length (w .numbers) ≡ w .commits * perCommit
 
 goes-stopped : (program : List ℕ) (X : Plain) (memory : List ℕ) → Linked program X memory
     → Goes program X memory (drainStopped X memory)
 goes-stopped program X memory l =
-    record { linked = l; steps = λ rec n. steps-quiet stays; fours = refl }
+    record { linked = l; steps = λ rec n. steps-quiet stays; grows = refl }
 
 -- Y is linked and reached from X by steps that record nothing
 record Reaches (program : List ℕ) (X Y : Plain) (memory : List ℕ) : Type 0 where
@@ -112,7 +113,7 @@ ready-reaches program X memory l =
 reaches-goes : {program memory : List ℕ} {X Y : Plain} {w : Drain} → Reaches program X Y memory → Goes program Y memory w
     → Goes program X memory w
 reaches-goes r g =
-    record { linked = g .linked; steps = λ rec n. steps-join (r .steps rec n) (g .steps rec n); fours = g .fours }
+    record { linked = g .linked; steps = λ rec n. steps-join (r .steps rec n) (g .steps rec n); grows = g .grows }
 
 -- the count of a way with one commit before it
 one-more : (n m : ℕ) → n + 1 + m ≡ n + suc m
@@ -127,16 +128,16 @@ answer-goes : (program : List ℕ) (Y : Plain) (memory : List ℕ) → Linked pr
     → Goes program Y memory (continueOn a (drainStopped Y memory) rest)
 answer-goes program Y memory l (refused k) Z words list h rest g = goes-stopped program Y memory l
 answer-goes program Y memory l (named p) Z words list h rest g = goes-stopped program Y memory l
-answer-goes program Y memory l (executed v s) Z words list h rest g = goes-stopped program Y memory l
+answer-goes program Y memory l (executed v d s) Z words list h rest g = goes-stopped program Y memory l
 answer-goes program Y memory l done Z words list h rest g = goes-stopped program Y memory l
-answer-goes program Y memory l (committed i c r v) Z words list h rest g =
+answer-goes program Y memory l (committed i c r v d) Z words list h rest g =
     record {
       linked = g .linked;
       steps = λ rec n.
           steps-join (h .steps rec n)
-          (rw (append-assoc rec (i ∷ c ∷ r ∷ v ∷ []) (rest .numbers), one-more n (rest .commits)) at
-          (g .steps (rec ++ (i ∷ c ∷ r ∷ v ∷ [])) (n + 1)));
-      fours = omega (arith, g .fours);
+          (rw (append-assoc rec (i ∷ c ∷ r ∷ v ∷ d ∷ []) (rest .numbers), one-more n (rest .commits)) at
+          (g .steps (rec ++ (i ∷ c ∷ r ∷ v ∷ d ∷ [])) (n + 1)));
+      grows = omega (arith, g .grows);
     }
 answer-goes program Y memory l (finished n) Z words list h rest g = goes-stopped program Y memory l
 
@@ -149,10 +150,10 @@ finishes-goes program (suc k) places X memory l =
     let y = ready-reaches program X memory l in
     let r = commits program Y memory in
     let h = commit-links program Y memory (y .linked) in
-    either (Goes program X memory) (ltb places 4 || programDone X) (goes-stopped program X memory l)
+    either (Goes program X memory) (ltb places perCommit || programDone X) (goes-stopped program X memory l)
     (reaches-goes y
     (answer-goes program Y memory (y .linked) (r .answer) (r .state) (r .memory) (r .list) h _
-    (finishes-goes program k (places - 4) (r .state) (r .memory) (h .linked))))
+    (finishes-goes program k (places - perCommit) (r .state) (r .memory) (h .linked))))
 
 pub finish-links : (program : List ℕ) (X : Plain) (memory : List ℕ) → Linked program X memory → (k : ℕ) (list : List ℕ)
     → Links program X memory (finishing program X memory k list)
@@ -165,7 +166,7 @@ finish-links program X memory l k list =
       steps = λ rec n.
           subst
           (λ (l : List ℕ). Steps program (coreOf X memory rec n) (coreOf (w .state) (w .memory) (rec ++ l) (n + w .commits)))
-          (sym (take-at (w .numbers) (drop (length (w .numbers)) list) (w .commits * 4) (g .fours)))
+          (sym (take-at (w .numbers) (drop (length (w .numbers)) list) (w .commits * perCommit) (g .grows)))
           (g .steps rec n);
     })
     (record { linked = l; steps = λ rec n. steps-quiet stays })

@@ -2,9 +2,10 @@
 -- walks the window from the oldest with what is seen so far. Issue appends an entry that waits (good-append). A squash takes
 -- a prefix (good-take). An execution is right where it stands, since what Good has there is what the step looks up, and the
 -- younger entries stay right as more is known (good-set). A commit's entry is right over the committed registers and memory,
--- so its value and address are those of the run's next step (run-goes), and what the next entry sees is then committed
--- (seen-register, seen-written): for that its destination must be a register, hence the well-formed program. The oldest entry
--- is the run's next instruction, so the run ends before it only where its commit gets 13 or 14 (ends-so). Assumes nothing.
+-- so its value and address are those of the run's next step (run-goes), which its numbers but the distance record
+-- (without-append), and what the next entry sees is then committed (seen-register, seen-written): for that its destination must
+-- be a register, hence the well-formed program. The oldest entry is the run's next instruction, so the run ends before it only
+-- where its commit gets 13 or 14 (ends-so). Assumes nothing.
 use mathlib.Core.Path.{_≡_, refl, sym, ap, subst, _∙_}
 use mathlib.Core.Bool.{Bool, true, false, cond, not, _&&_, _||_, true≢false, or-false}
 use mathlib.Core.List.{List, [], _∷_, _++_}
@@ -30,10 +31,12 @@ use Rattle.machine_model.specs.declared.Entry.{Entry}
 use Rattle.machine_model.specs.Program.{decoded, instructionAt, codeOf, wellFormed, wellFormedAt, programFits, dOf}
 use Rattle.machine_model.specs.Window.{entryAt, entryWith, writesTo, valueOf, addressBy, registerSeen, referenceBy}
 use Rattle.machine_model.specs.Window.{reference, evaluate}
-use Rattle.machine_model.specs.Calls.{waits, valueBy, registersAfter, target}
+use Rattle.machine_model.specs.Calls.{waits, newEntry, valueBy, registersAfter, target, committedSays}
 use Rattle.theorem.specs.Sequential.{Run, does, faultsAt, ends, step, runAfter}
+use Rattle.theorem.specs.Play.{recorded, without}
 use Rattle.theorem.proofs.Core.{Core, Step, issuing, executing, squashing, committing, seenBy, registersAt, memoryAt}
 use Rattle.theorem.proofs.Core.{clear, SparesAt, Spares, headIndex, cutTo, barred, afterCommit, Right, Good, Kept, fresh}
+use Rattle.theorem.proofs.Distances.{without-append}
 use Rattle.theorem.proofs.Knowing.{Tells, unknown-tells, good-more}
 
 -- ---- where issue goes on
@@ -51,27 +54,23 @@ head-take (suc k) [] next = refl
 head-take (suc k) (e ∷ es) next = refl
 
 -- an entry that executes keeps its index
-head-set : (p left : ℕ) (es : List Entry) (next : ℕ) (f : Fate)
-    → headIndex (take left (set es p (entryWith (entryAt es p) f))) (headIndex (drop left es) next) ≡ headIndex es next
-head-set p zero es next f = refl
-head-set p (suc left) [] next f = refl
-head-set zero (suc left) (e ∷ es) next f = refl
-head-set (suc p) (suc left) (e ∷ es) next f = refl
+head-set : (p left : ℕ) (es : List Entry) (next : ℕ) (f : Fate) (d : ℕ)
+    → headIndex (take left (set es p (entryWith (entryAt es p) f d))) (headIndex (drop left es) next) ≡ headIndex es next
+head-set p zero es next f d = refl
+head-set p (suc left) [] next f d = refl
+head-set zero (suc left) (e ∷ es) next f d = refl
+head-set (suc p) (suc left) (e ∷ es) next f d = refl
 
 -- ---- issue and squash
 
--- the entry that an issue appends
-abbrev issued : List ℕ → ℕ → Entry
-issued program next = record { instruction = instructionAt program next; index = next; fate = Waiting }
-
 head-append : (program : List ℕ) (next : ℕ) (es : List Entry)
-    → headIndex (es ++ (issued program next ∷ [])) (suc next) ≡ headIndex es next
+    → headIndex (es ++ (newEntry program next ∷ [])) (suc next) ≡ headIndex es next
 head-append program next [] = refl
 head-append program next (e ∷ es) = refl
 
 module _ (program : List ℕ) (next : ℕ) where
   good-append : (es : List Entry) (ρ : ℕ → Option ℕ) (μ : ℕ → ℕ) → next < length program / 4 → Good program next ρ μ es
-      → Good program (suc next) ρ μ (es ++ (issued program next ∷ []))
+      → Good program (suc next) ρ μ (es ++ (newEntry program next ∷ []))
   good-append [] ρ μ h g = (tt, refl, h, refl, tt)
   good-append (e ∷ es) ρ μ h g = (g .0, g .1, g .2, g .3 ∙ sym (head-append program next es), good-append es _ _ h (g .4))
 
@@ -103,14 +102,14 @@ changed (accessed a l s) es spared b w h = go (eqb a b) refl s spared
     go true e (holds v) clears = absurd (true≢false (sym clears ∙ ap (λ (x : ℕ). clear x es) (eqb-true a b e) ∙ h))
     go false e s clears = refl
 
-module _ (program : List ℕ) (next : ℕ) (f : Fate) where
+module _ (program : List ℕ) (next : ℕ) (f : Fate) (d : ℕ) where
   good-set : (p left : ℕ) (es : List Entry) (ρ : ℕ → Option ℕ) (μ : ℕ → ℕ) → p < left → left ≤ length es
       → entryAt es p .fate ≡ Waiting
       → evaluate (entryAt es p .instruction) (λ (k : ℕ). registerSeen (take p es) k (ρ k)) (λ (a : ℕ). seenBy (take p es) a (μ a))
       ≡ some f
       → Spares (referenceBy (entryAt es p .instruction) f) (take (left - suc p) (drop (suc p) es))
       → Good program next ρ μ es
-      → Good program (headIndex (drop left es) next) ρ μ (take left (set es p (entryWith (entryAt es p) f)))
+      → Good program (headIndex (drop left es) next) ρ μ (take left (set es p (entryWith (entryAt es p) f d)))
   unfolding registerSeen seenBy
   good-set p zero es ρ μ l m w o s g = absurd (not-suc-le-zero l)
   good-set p (suc left) [] ρ μ l m w o s g = tt
@@ -131,7 +130,7 @@ module _ (program : List ℕ) (next : ℕ) (f : Fate) where
     g .0,
     g .1,
     g .2,
-    g .3 ∙ sym (head-set p left es next f),
+    g .3 ∙ sym (head-set p left es next f d),
     good-set p left es _ _ (omega arith) (omega arith) w o
         (subst (λ (n : ℕ). Spares (referenceBy (entryAt es p .instruction) f) (take n (drop (suc p) es)))
         (suc-sub-suc left (suc p))
@@ -162,7 +161,7 @@ coming r i = evaluate i (λ (k : ℕ). some (getD (r .registers) k 0)) (λ (a : 
 
 -- the run's next entry, with fate f
 abbrev nextWith : Run → Instruction → Fate → Entry
-nextWith r i f = record { instruction = i; index = r .index; fate = f }
+nextWith r i f = record { instruction = i; index = r .index; fate = f; distance = 0 }
 
 -- the run's step does what a commit with fate f does, and faults where that commit is turned down
 abbrev Does : Run → Instruction → Fate → Type 0
@@ -183,7 +182,7 @@ right-known i ρ μ (Executed v a) w h = h
 
 -- the run that the core with its oldest entry e stands for
 abbrev runOf : Core → Entry → Run
-runOf c e = record { registers = c .registers; memory = c .memory; index = e .index; record′ = c .record′ }
+runOf c e = record { registers = c .registers; memory = c .memory; index = e .index; record′ = without (c .record′) }
 
 module _ (program memory : List ℕ) (c : Core) (e : Entry) (es : List Entry) (kept : Kept program memory c)
     (at : c .entries ≡ e ∷ es) where
@@ -301,8 +300,8 @@ d-fits program i fits h =
 -- ---- the laws
 
 pub kept-fresh : (program memory : List ℕ) → Kept program memory (fresh memory)
-unfolding runAfter
-kept-fresh program memory = record { registers = refl; lent = refl; record′ = refl; index = refl; fours = refl; good = tt }
+unfolding runAfter without
+kept-fresh program memory = record { registers = refl; lent = refl; record′ = refl; index = refl; grows = refl; good = tt }
 
 module _ (program memory : List ℕ) where
   -- issue goes on at the first of the entries that left
@@ -318,7 +317,7 @@ module _ (program memory : List ℕ) where
         lent = kept .lent;
         record′ = kept .record′;
         index = ap (headIndex es) (refetch-drop (c .entries) k (c .next)) ∙ same ∙ kept .index;
-        fours = kept .fours;
+        grows = kept .grows;
         good = subst
             (λ (n : ℕ). Good program n (λ (j : ℕ). some (getD (c .registers) j 0)) (λ (a : ℕ). getD (c .memory) a 0) es)
             (sym (refetch-drop (c .entries) k (c .next)))
@@ -330,6 +329,7 @@ module _ (program memory : List ℕ) where
       → waits (e .fate) ≡ false
       → barred (length (c .memory)) e ≡ false
       → Kept program memory (afterCommit c e es)
+  unfolding without
   kept-commit c e es fits kept at w f =
       let goes = run-goes program memory c e es kept at w f in
       let g = good-oldest program memory c e es kept at in
@@ -338,9 +338,10 @@ module _ (program memory : List ℕ) where
       record {
         registers = sym (ap (λ (r : Run). r .registers) goes);
         lent = sym (ap (λ (r : Run). r .memory) goes);
-        record′ = sym (ap (λ (r : Run). r .record′) goes);
+        record′ = without-append (c .record′) (recorded (committedSays e) []) (c .commits) (kept .grows)
+            ∙ sym (ap (λ (r : Run). r .record′) goes);
         index = sym (g .3) ∙ sym (ap (λ (r : Run). r .index) goes);
-        fours = simp length-append (omega (arith, kept .fours));
+        grows = simp length-append (omega (arith, kept .grows));
         good = good-more program (c .next) es _ _ _ _
             (λ j v h. sym (seen-register (c .registers) (e .instruction) (e .fate) j w lies) ∙ h)
             (λ b h. seen-written (c .memory) (reference e) b (neither _ _ f .0))
@@ -356,13 +357,13 @@ kept-step program memory fits {c} kept (issuing h) =
       lent = kept .lent;
       record′ = kept .record′;
       index = head-append program (c .next) (c .entries) ∙ kept .index;
-      fours = kept .fours;
+      grows = kept .grows;
       good = good-append program (c .next) (c .entries) _ _ h (kept .good);
     }
-kept-step program memory fits {c} kept (executing p left f l m w o s) =
-    kept-cut program memory c left (take left (set (c .entries) p (entryWith (entryAt (c .entries) p) f))) kept
-    (head-set p left (c .entries) (c .next) f)
-    (good-set program (c .next) f p left (c .entries) _ _ l m w o s (kept .good))
+kept-step program memory fits {c} kept (executing p left f d l m w o s) =
+    kept-cut program memory c left (take left (set (c .entries) p (entryWith (entryAt (c .entries) p) f d))) kept
+    (head-set p left (c .entries) (c .next) f d)
+    (good-set program (c .next) f d p left (c .entries) _ _ l m w o s (kept .good))
 kept-step program memory fits {c} kept (squashing k) =
     kept-cut program memory c k (take k (c .entries)) kept (head-take k (c .entries) (c .next))
     (good-take program (c .next) k (c .entries) _ _ (kept .good))
@@ -374,7 +375,7 @@ pub none-after : (program memory : List ℕ) → programFits program ≡ true �
     → ends program (runAfter program memory (c .commits)) ≡ true
     → d .commits ≡ c .commits
 none-after program memory fits kept (issuing h) end = refl
-none-after program memory fits kept (executing p left f l m w o s) end = refl
+none-after program memory fits kept (executing p left f d l m w o s) end = refl
 none-after program memory fits kept (squashing k) end = refl
 none-after program memory fits {c} kept (committing e es at w f) end =
     absurd (true≢false (sym end ∙ ends-so program memory c e es kept at w ∙ f))

@@ -33,6 +33,7 @@ use Rattle.machine_model.specs.Calls
 use Rattle.machine_model.specs.Calls.{
   Plain,
   waits,
+  newEntry,
   matchesProgram,
   programCheck,
   issueResult,
@@ -40,6 +41,7 @@ use Rattle.machine_model.specs.Calls.{
   known,
   unknown,
   survivorsOf,
+  loadDistance,
   executions,
 }
 use Rattle.machine_model.specs.Calls.{squashes, commits, openChecks, opened, issueChecks, executeChecks, commitChecks}
@@ -137,7 +139,7 @@ module _ (program : List ℕ) (X : Plain) (memory : List ℕ) (linked : Linked p
       let five = passes (eqb (length (X .entries)) (X .buffer .stages)) 4 _ passed in
       let six = passes (leb (X .count) (X .next)) 5 0 (five .1) in
       let left : X .next < X .count = leb-false (X .count) (X .next) (six .0) in
-      let e : Entry = record { instruction = instructionAt program (X .next); index = X .next; fate = Waiting } in
+      let e = newEntry program (X .next) in
       record {
         linked =
             linked-moved _ _ _ (X .entries ++ (e ∷ [])) _ _ memory
@@ -174,7 +176,8 @@ module _ (program : List ℕ) (X : Plain) (memory : List ℕ) (linked : Linked p
       let left = survivorsOf X p f in
       let i = entryAt es p .instruction in
       let r : Ref = ref (numberOf (at (take left refs) p)) (referenceBy i f) in
-      let e = entryWith (entryAt es p) f in
+      let d = loadDistance X p f in
+      let e = entryWith (entryAt es p) f d in
       let all = fated program X memory linked in
       let o = owed (X .buffer) es all p (omega (arith, linked .paired)) (referenceBy i f) runs in
       let Match = Matched program (X .count) in
@@ -190,7 +193,7 @@ module _ (program : List ℕ) (X : Plain) (memory : List ℕ) (linked : Linked p
         steps = λ numbers n.
             steps-quiet
             (goes stays
-            (executing p left f (o .after) (omega (arith, o .within, linked .paired)) (is-waiting (entryAt es p .fate) w)
+            (executing p left f d (o .after) (omega (arith, o .within, linked .paired)) (is-waiting (entryAt es p .fate) w)
             (ap (evaluate i (λ (k : ℕ). registerSeen (take p es) k (some (getD (X .registers) k 0))))
             (fun-ext (λ a. sym (seen-paired (take p refs) (take p es) a (getD memory a 0) (each-take Fated refs es all p))))
             ∙ comes)

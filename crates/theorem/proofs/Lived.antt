@@ -54,7 +54,7 @@ machine oldest live number ran fate registers next =
         stores = replicate 64 0;
         values = replicate 16 0;
       };
-      window = set (replicate 16 blankEntry) 0 (record { instruction = Add 1 0 9; index = 0; fate = fate });
+      window = set (replicate 16 blankEntry) 0 (record { instruction = Add 1 0 9; index = 0; fate = fate; distance = 0 });
       registers = registers;
       count = 4;
       next = next;
@@ -112,20 +112,20 @@ issues : Meets program m₀ issue memory (named 0) m₁ memory []
 unfolding computing tabulate markFate
 issues = accepted m₀ m₁ issue memory memory [] sound₀ (sound .0) tt refl refl refl
 
-executes : Meets program m₁ (execute 0) memory (executed 0 none) m₂ memory []
+executes : Meets program m₁ (execute 0) memory (executed 0 0 none) m₂ memory []
 unfolding computing tabulate markFate
 executes = accepted m₁ m₂ (execute 0) memory memory [] (sound .0) (sound .1) tt refl refl refl
 
-commits : Meets program m₂ commit memory (committed 0 1 1 9) m₃ memory []
+commits : Meets program m₂ commit memory (committed 0 1 1 9 0) m₃ memory []
 unfolding computing tabulate markFate
 commits = accepted m₂ m₃ commit memory memory [] (sound .1) (sound .2) tt refl refl refl
 
 -- a list with five places more than the three commits take
 abbrev lent : List ℕ
-lent = replicate 17 7
+lent = replicate 20 7
 
 abbrev left : List ℕ
-left = drop 4 numbers ++ replicate 5 7
+left = drop 5 numbers ++ replicate 5 7
 
 finishes-all : Meets program m₃ (finish 5 lent) memory (finished 3) m₄ final left
 unfolding computing tabulate markFate
@@ -136,13 +136,13 @@ finishes-all = accepted m₃ m₄ (finish 5 lent) memory final left (sound .2) (
 begins : Life program m₀ memory (commit ∷ []) (refused 11 ∷ []) m₀ memory [] 0
 begins = lived commit born refuses
 
-needs : Life program m₀ memory (needed (plain m₀)) (named 0 ∷ executed 0 none ∷ committed 0 1 1 9 ∷ []) m₃ memory
-    (take 4 numbers) 1
+needs : Life program m₀ memory (needed (plain m₀)) (named 0 ∷ executed 0 0 none ∷ committed 0 1 1 9 0 ∷ []) m₃ memory
+    (take 5 numbers) 1
 unfolding computing tabulate
 needs = lived commit (lived (execute 0) (lived issue born issues) executes) commits
 
 whole : Life program m₀ memory (commit ∷ issue ∷ execute 0 ∷ commit ∷ finish 5 lent ∷ [])
-    (refused 11 ∷ named 0 ∷ executed 0 none ∷ committed 0 1 1 9 ∷ finished 3 ∷ []) m₄ final numbers 4
+    (refused 11 ∷ named 0 ∷ executed 0 0 none ∷ committed 0 1 1 9 0 ∷ finished 3 ∷ []) m₄ final numbers 4
 unfolding computing tabulate
 whole = lived (finish 5 lent) (life-join begins needs) finishes-all
 
@@ -150,12 +150,12 @@ pub true-of-it : CallsTruth program memory m₄ final numbers 4
 true-of-it = calls-theorem opens whole
 
 -- the calls that the opened machine needs commit the run's first instruction
-pub goes-on-there : (length (needed (plain m₀)) ≤ 3) × Unrefused (named 0 ∷ executed 0 none ∷ committed 0 1 1 9 ∷ [])
-    × CallsTruth program memory m₃ memory (take 4 numbers) 1
+pub goes-on-there : (length (needed (plain m₀)) ≤ 3) × Unrefused (named 0 ∷ executed 0 0 none ∷ committed 0 1 1 9 0 ∷ [])
+    × CallsTruth program memory m₃ memory (take 5 numbers) 1
 unfolding computing
 goes-on-there = calls-next opens begins refl needs
 
--- the finish said 3 of 5 with four places left, so the run has ended
+-- the finish said 3 of 5 with five places left, so the run has ended
 pub finish-there : ends program (runAfter program memory 4) ≡ true
 unfolding computing tabulate
 finish-there =

@@ -20,12 +20,12 @@ use Rattle.engine.specs.Contract.{judged}
 use Rattle.engine.specs.Conditions.{refusal}
 use Rattle.engine.proofs.Meeting.{judged-accepted}
 use Rattle.machine_model.specs.declared.Fate.{Fate}
-use Rattle.machine_model.specs.declared.Fate.the-variants.{Waiting}
 use Rattle.machine_model.specs.declared.Entry.{Entry}
-use Rattle.machine_model.specs.Program.{programFits, instructionAt}
+use Rattle.machine_model.specs.Program.{programFits}
 use Rattle.machine_model.specs.Window.{entryAt, entryWith, registerSeen}
-use Rattle.machine_model.specs.Calls.{Plain, Call, issue, execute, commit, Result, waits, evaluated, known, survivorsOf}
-use Rattle.machine_model.specs.Calls.{executing, respond, openChecks, opened, issueChecks, executeChecks, commitChecks}
+use Rattle.machine_model.specs.Calls.{Plain, Call, issue, execute, commit, Result, waits, newEntry, evaluated, known, survivorsOf}
+use Rattle.machine_model.specs.Calls.{loadDistance, executing, respond, openChecks, opened}
+use Rattle.machine_model.specs.Calls.{issueChecks, executeChecks, commitChecks}
 use Rattle.theorem.specs.Sequential.{runAfter, ends}
 use Rattle.theorem.specs.Truth.{run, next, Truth}
 use Rattle.theorem.specs.Play.{recorded, commitsIn, Played, plays, play, start}
@@ -67,10 +67,10 @@ oldest-stays : (program : List ℕ) (X : Plain) (memory : List ℕ) → Linked p
 oldest-stays program X memory l z =
     omega (arith, execute-passed program X memory l 0 z .3)
 
-oldest-executed : (l : List Entry) (e : Entry) (es : List Entry) (f : Fate) (left : ℕ) → l ≡ e ∷ es → 0 < left
-    → (rest : List Entry) × (take left (set l 0 (entryWith (entryAt l 0) f)) ≡ entryWith e f ∷ rest)
-oldest-executed l e es f zero q h = absurd (omega arith)
-oldest-executed l e es f (suc left) q h = (take left es, rw q)
+oldest-executed : (l : List Entry) (e : Entry) (es : List Entry) (f : Fate) (d left : ℕ) → l ≡ e ∷ es → 0 < left
+    → (rest : List Entry) × (take left (set l 0 (entryWith (entryAt l 0) f d)) ≡ entryWith e f d ∷ rest)
+oldest-executed l e es f d zero q h = absurd (omega arith)
+oldest-executed l e es f d (suc left) q h = (take left es, rw q)
 
 module _ (program memory : List ℕ) where
   -- ---- along steps
@@ -143,9 +143,10 @@ module _ (program memory : List ℕ) where
       → 0 < left
       → Then x (commit ∷ []) (executing (x .state) (x .memory) 0 f left)
   executed-then x n e es q f left w l h =
-      let first = oldest-executed (x .state .entries) e es f left q l in
+      let d = loadDistance (x .state) 0 f in
+      let first = oldest-executed (x .state .entries) e es f d left q l in
       let same : ends program (runAfter program memory (x .commits + 0)) ≡ false = rw add-zero n in
-      let c = commit-next _ h same (entryWith e f) (first .0) (first .1) w in
+      let c = commit-next _ h same (entryWith e f d) (first .0) (first .1) w in
       (c .0, omega arith, omega (arith, c .2))
 
   execute-next : (x : Played) → Held program memory x → ends program (run program memory x) ≡ false → (e : Entry)
@@ -170,7 +171,7 @@ module _ (program memory : List ℕ) where
   issue-next x h n q =
       let X = x .state in
       let left = issue-left program memory _ (h .kept) n q in
-      let e : Entry = record { instruction = instructionAt program (X .next); index = X .next; fate = Waiting } in
+      let e = newEntry program (X .next) in
       let same : ends program (runAfter program memory (x .commits + 0)) ≡ false = rw add-zero n in
       accepted-then x (execute 0 ∷ commit ∷ []) (refusal (issueChecks program X)) _
       (issue-accepted program X (x .memory) (h .linked) (ap length q) (omega (arith, h .linked .counted)))
@@ -214,7 +215,7 @@ module _ (B R n W : ℕ) (program memory : List ℕ) (opens : refusal (openCheck
       let h = held-after calls in
       record {
         record-is = h .kept .record′;
-        record-grows = h .kept .fours;
+        record-grows = h .kept .grows;
         registers-are = h .kept .registers;
         memory-is = h .kept .lent;
         goes-on = λ e.

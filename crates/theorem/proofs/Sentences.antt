@@ -30,9 +30,9 @@ use Rattle.theorem.proofs.Finishing.{either}
 pub refused-is : (a : Answer) → isRefused a ≡ true → (k : ℕ) × (a ≡ refused k)
 refused-is (refused k) e = (k, refl)
 refused-is (named p) e = absurd (true≢false (sym e))
-refused-is (executed v s) e = absurd (true≢false (sym e))
+refused-is (executed v d s) e = absurd (true≢false (sym e))
 refused-is done e = absurd (true≢false (sym e))
-refused-is (committed i c r v) e = absurd (true≢false (sym e))
+refused-is (committed i c r v d) e = absurd (true≢false (sym e))
 refused-is (finished n) e = absurd (true≢false (sym e))
 
 pub is-refused : (a : Answer) (k : ℕ) → a ≡ refused k → isRefused a ≡ true

@@ -1,8 +1,8 @@
 -- The record theorem is about something: one program and one list of calls, refused ones and a finish among them, whose history
 -- has a violation, a stage wrap and an eviction, on a buffer of one bank with one row and three stages. Computed are what each
 -- call answers, where the window stood after the wrap, and the record, which the sequential run gives too. What the theorem
--- says is used in the middle, where the run goes on, and at its end. A second program ends at a fault, an H at an odd byte
--- number.
+-- says is used in the middle, where the run goes on, and at its end. In the history of a second program a load takes a word
+-- that is not in memory yet, and its run ends at a fault, an H at an odd byte number.
 -- Assumes nothing.
 use mathlib.Core.Path.{_≡_, refl}
 use mathlib.Core.Bool.{true, false}
@@ -16,7 +16,7 @@ use Rattle.table.specs.Limits.{sizesFit}
 use Rattle.engine.specs.Contract.{refused, done, named, executed, committed, finished}
 use Rattle.machine_model.specs.Calls.{Call, issue, execute, squash, commit, finish, opened}
 use Rattle.theorem.specs.Sequential.{runAfter, ends}
-use Rattle.theorem.specs.Play.{Played, play, start, answersOf, allAccepted}
+use Rattle.theorem.specs.Play.{without, Played, play, start, answersOf, allAccepted}
 use Rattle.theorem.specs.Truth.{next, Truth}
 use Rattle.theorem.proofs.Cases.{computing}
 use Rattle.theorem.proofs.Record.{record-theorem}
@@ -35,7 +35,7 @@ opening = start (opened 1 1 3 8 program) memory
 abbrev calls : List Call
 calls =
     commit ∷ issue ∷ issue ∷ issue ∷ execute 2 ∷ execute 0 ∷ execute 1 ∷ commit ∷ commit ∷ issue ∷ issue ∷ execute 1 ∷ execute 0
-    ∷ finish 5 (replicate 9 0)
+    ∷ finish 5 (replicate 11 0)
     ∷ []
 
 abbrev x : Played
@@ -45,13 +45,13 @@ x = play program opening calls
 -- violation. After two commits the window stands at stages 2 and 0. The load of 4 takes the one row; the older load of 3
 -- evicts it and squashes from position 1. The finish commits that load, and then the other, issued and executed once more.
 pub answered : answersOf program opening calls
-    ≡ refused 11 ∷ named 0 ∷ named 1 ∷ named 2 ∷ executed 5 none ∷ executed 0 none ∷ executed 0 (some 2)
-    ∷ committed 0 1 1 9
-    ∷ committed 1 4 3 9
+    ≡ refused 11 ∷ named 0 ∷ named 1 ∷ named 2 ∷ executed 5 0 none ∷ executed 0 0 none ∷ executed 0 0 (some 2)
+    ∷ committed 0 1 1 9 0
+    ∷ committed 1 4 3 9 0
     ∷ named 0
     ∷ named 1
-    ∷ executed 6 none
-    ∷ executed 9 (some 1)
+    ∷ executed 6 0 none
+    ∷ executed 9 0 (some 1)
     ∷ finished 2
     ∷ []
 unfolding computing
@@ -66,11 +66,11 @@ unfolding computing
 wrapped = (refl, refl, refl)
 
 abbrev pub numbers : List ℕ
-numbers = 0 ∷ 1 ∷ 1 ∷ 9 ∷ 1 ∷ 4 ∷ 3 ∷ 9 ∷ 2 ∷ 3 ∷ 2 ∷ 9 ∷ 3 ∷ 3 ∷ 3 ∷ 6 ∷ []
+numbers = 0 ∷ 1 ∷ 1 ∷ 9 ∷ 0 ∷ 1 ∷ 4 ∷ 3 ∷ 9 ∷ 0 ∷ 2 ∷ 3 ∷ 2 ∷ 9 ∷ 0 ∷ 3 ∷ 3 ∷ 3 ∷ 6 ∷ 0 ∷ []
 
--- four commits, and what they recorded, as the sequential run does
-pub recorded : (x .record′ ≡ numbers) × (x .commits ≡ 4) × (runAfter program memory 4 .record′ ≡ numbers)
-unfolding computing
+-- four commits, and what they recorded, as the sequential run does but for the distances
+pub recorded : (x .record′ ≡ numbers) × (x .commits ≡ 4) × (runAfter program memory 4 .record′ ≡ without numbers)
+unfolding computing without
 recorded = (refl, refl, refl)
 
 -- one of the calls is refused, the first; without it none is
@@ -84,12 +84,12 @@ unfolding computing sizesFit
 true-of-it cs = record-theorem 1 1 3 8 program memory refl cs
 
 -- After the wrap the run has two instructions left. Two calls are needed to commit the next one, the load of 3: both are
--- accepted, and the record then has its four numbers too.
+-- accepted, and the record then has its numbers too.
 pub goes-on-there : (next wrap ≡ execute 0 ∷ commit ∷ []) × (allAccepted program wrap (next wrap) ≡ true)
     × (length (next wrap) ≤ 3)
     × (play program wrap (next wrap) .commits ≡ 3)
-    × (play program wrap (next wrap) .record′ ≡ take 12 numbers)
-unfolding computing
+    × (without (play program wrap (next wrap) .record′) ≡ without (take 15 numbers))
+unfolding computing without
 goes-on-there =
     let g = true-of-it (take 11 calls) .goes-on refl in
     (refl, g .0, g .1, g .2, g .3)
@@ -103,35 +103,55 @@ stops-there more = true-of-it calls .stops refl more
 pub finish-there : ends program (runAfter program memory 4) ≡ true
 unfolding computing sizesFit
 finish-there =
-    finish-theorem 1 1 3 8 program memory refl (take 13 calls) 5 (replicate 16 0) .ended 2 refl (omega arith) (omega arith)
+    finish-theorem 1 1 3 8 program memory refl (take 13 calls) 5 (replicate 20 0) .ended 2 refl (omega arith) (omega arith)
 
 -- ---- a run that ends at a fault
 
--- r1 becomes 511; its low byte is stored at byte 13, its low 16 bits at bytes 14 and 15, and then at byte 13, an odd one
+-- r1 becomes 511; its low byte is stored at byte 13, its low 16 bits at bytes 14 and 15; r2 loads that word; then r1's low 16
+-- bits are stored at byte 13, an odd one
 abbrev parts : List ℕ
-parts = 1 ∷ 1 ∷ 0 ∷ 511 ∷ 5 ∷ 1 ∷ 0 ∷ 13 ∷ 6 ∷ 1 ∷ 0 ∷ 14 ∷ 6 ∷ 1 ∷ 0 ∷ 13 ∷ []
+parts = 1 ∷ 1 ∷ 0 ∷ 511 ∷ 5 ∷ 1 ∷ 0 ∷ 13 ∷ 6 ∷ 1 ∷ 0 ∷ 14 ∷ 3 ∷ 2 ∷ 0 ∷ 3 ∷ 6 ∷ 1 ∷ 0 ∷ 13 ∷ []
 
 abbrev part-opening : Played
 part-opening = start (opened 1 1 3 8 parts) memory
 
 abbrev part-calls : List Call
-part-calls = issue ∷ issue ∷ issue ∷ execute 0 ∷ execute 2 ∷ execute 1 ∷ finish 5 (replicate 16 0) ∷ commit ∷ squash 0 ∷ []
+part-calls =
+    issue ∷ issue ∷ issue ∷ execute 0 ∷ execute 2 ∷ execute 1 ∷ commit ∷ issue ∷ issue ∷ execute 1 ∷ execute 2
+    ∷ finish 5 (replicate 21 0)
+    ∷ commit
+    ∷ squash 0
+    ∷ []
 
--- The half word goes first and is squashed by the byte, a store of its word. The finish commits three and leaves the odd one
--- executed, whose commit is refused.
+-- The half word goes first and is squashed by the byte, a store of its word. It goes again, and the load takes its word from
+-- one position older. The finish commits three and leaves the odd one executed, whose commit is refused.
 pub part-answered : answersOf parts part-opening part-calls
-    ≡ named 0 ∷ named 1 ∷ named 2 ∷ executed 0 none ∷ executed 0 none ∷ executed 0 (some 2) ∷ finished 3 ∷ refused 14 ∷ done ∷ []
+    ≡ named 0 ∷ named 1 ∷ named 2 ∷ executed 0 0 none ∷ executed 0 0 none ∷ executed 0 0 (some 2)
+    ∷ committed 0 1 1 511 0
+    ∷ named 1
+    ∷ named 2
+    ∷ executed 0 0 none
+    ∷ executed 33554181 1 none
+    ∷ finished 3
+    ∷ refused 14
+    ∷ done
+    ∷ []
 unfolding computing
 part-answered = refl
 
--- the run's record has the byte numbers and the whole words, and the run has ended
-pub part-recorded : (play parts part-opening part-calls .record′
-    ≡ 0 ∷ 1 ∷ 1 ∷ 511 ∷ 1 ∷ 5 ∷ 13 ∷ 65285 ∷ 2 ∷ 6 ∷ 14 ∷ 33554181 ∷ [])
-    × (ends parts (runAfter parts memory 3) ≡ true)
-unfolding computing
-part-recorded = (refl, refl)
+-- The record has the byte numbers and the whole words, and the load's distance though the half word committed before it. It is
+-- the run's but for the distances, and the run has ended.
+abbrev part-numbers : List ℕ
+part-numbers =
+    0 ∷ 1 ∷ 1 ∷ 511 ∷ 0 ∷ 1 ∷ 5 ∷ 13 ∷ 65285 ∷ 0 ∷ 2 ∷ 6 ∷ 14 ∷ 33554181 ∷ 0 ∷ 3 ∷ 3 ∷ 2 ∷ 33554181 ∷ 1 ∷ []
+
+pub part-recorded : (play parts part-opening part-calls .record′ ≡ part-numbers)
+    × (runAfter parts memory 4 .record′ ≡ without part-numbers)
+    × (ends parts (runAfter parts memory 4) ≡ true)
+unfolding computing without
+part-recorded = (refl, refl, refl)
 
 -- though an instruction is left and its place in the window is free again, no further calls commit anything
-pub part-stops : (more : List Call) → play parts (play parts part-opening part-calls) more .commits ≡ 3
+pub part-stops : (more : List Call) → play parts (play parts part-opening part-calls) more .commits ≡ 4
 unfolding computing sizesFit
 part-stops more = record-theorem 1 1 3 8 parts memory refl part-calls .stops refl more

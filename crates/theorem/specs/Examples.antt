@@ -1,5 +1,5 @@
--- Examples of the sequential run and of lists of calls, as two tables; proofs/Cases.antt shows that every row comes out. The
--- theorem compares the run with the machine: a mistake made in both alike shows here.
+-- Examples of the sequential run, of records without their distances and of lists of calls, as three tables; proofs/Cases.antt
+-- shows that every row comes out. The theorem compares the run with the machine: a mistake made in both alike shows here.
 -- Assumes nothing.
 use mathlib.Core.Path.{_≡_}
 use mathlib.Core.Bool.{Bool, true, false}
@@ -10,12 +10,16 @@ use lib.ListN.{length, replicate}
 use Rattle.engine.specs.Contract.{refused, named, executed, done, committed, finished}
 use Rattle.machine_model.specs.Calls.{Call, issue, execute, squash, commit, finish, Answer, opened}
 use Rattle.theorem.specs.Sequential.{Run, runAfter, ends}
-use Rattle.theorem.specs.Play.{play, start, answersOf, allAccepted}
+use Rattle.theorem.specs.Play.{without, play, start, answersOf, allAccepted}
 use Rattle.theorem.specs.Truth.{next}
 
--- four numbers: of an instruction, or of a commit in a record
+-- four numbers: of an instruction, or of a step in the run's record
 abbrev pub four : ℕ → ℕ → ℕ → ℕ → List ℕ
 four a b c d = a ∷ b ∷ c ∷ d ∷ []
+
+-- the five numbers of a commit in the record of calls
+abbrev pub five : ℕ → ℕ → ℕ → ℕ → ℕ → List ℕ
+five i c r v d = i ∷ c ∷ r ∷ v ∷ d ∷ []
 
 -- the instructions by their letters
 abbrev pub A : ℕ → ℕ → ℕ → List ℕ
@@ -40,8 +44,8 @@ H = four 6
 abbrev pub bytes : ℕ → ℕ → ℕ → ℕ → ℕ
 bytes a b c d = a + b * 256 + c * 65536 + d * 16777216
 
--- two programs with parts of one word, and their records on memory of 0: a byte, a half word over others and a byte of 0; and
--- a byte into a word stored before it, which is loaded then
+-- Two programs with parts of one word: a byte, a half word over others and a byte of 0; and a byte into a word stored before
+-- it, which is loaded then. Their runs' records on memory of 0, and those of calls of which each load executes as the oldest.
 abbrev pub mixed : List ℕ
 mixed = A 1 0 511 ++ B 1 0 3 ++ H 1 0 0 ++ B 0 0 1 ++ L 2 0 0
 
@@ -50,11 +54,24 @@ mixedRecord =
     four 0 1 1 511 ++ four 1 5 3 (bytes 0 0 0 255) ++ four 2 6 0 (bytes 255 1 0 255) ++ four 3 5 1 (bytes 255 0 0 255)
     ++ four 4 3 2 (bytes 255 0 0 255)
 
+abbrev pub mixedCommits : List ℕ
+mixedCommits =
+    five 0 1 1 511 0 ++ five 1 5 3 (bytes 0 0 0 255) 0 ++ five 2 6 0 (bytes 255 1 0 255) 0 ++ five 3 5 1 (bytes 255 0 0 255) 0
+    ++ five 4 3 2 (bytes 255 0 0 255) 0
+
 abbrev pub laid : List ℕ
 laid = A 1 0 511 ++ S 1 0 0 ++ B 0 0 0 ++ L 2 0 0
 
 abbrev pub laidRecord : List ℕ
 laidRecord = four 0 1 1 511 ++ four 1 4 0 (bytes 255 1 0 0) ++ four 2 5 0 (bytes 0 1 0 0) ++ four 3 3 2 (bytes 0 1 0 0)
+
+abbrev pub laidCommits : List ℕ
+laidCommits = five 0 1 1 511 0 ++ five 1 4 0 (bytes 255 1 0 0) 0 ++ five 2 5 0 (bytes 0 1 0 0) 0 ++ five 3 3 2 (bytes 0 1 0 0) 0
+
+-- every row comes out as it says
+abbrev pub AllCome : {E O : Type 0} → (E → O) → (E → O) → List E → Type 0
+AllCome comes says [] = Unit {0}
+AllCome comes says (e ∷ rows) = (comes e ≡ says e) × AllCome comes says rows
 
 -- ---- the sequential run
 
@@ -74,11 +91,6 @@ abbrev pub ranTo : RunExample → RunOutcome
 ranTo e =
     let r = runAfter (e .program) (e .memory) (e .steps) in
     record { run = r; ended = ends (e .program) r }
-
--- every row comes out as it says
-abbrev pub AllRun : List RunExample → Type 0
-AllRun [] = Unit {0}
-AllRun (e ∷ rows) = (ranTo e ≡ e .outcome) × AllRun rows
 
 -- program, memory lent and steps; then registers, memory, index, record and whether the run has ended
 abbrev pub ran : List ℕ → List ℕ → ℕ → List ℕ → List ℕ → ℕ → List ℕ → Bool → RunExample
@@ -187,6 +199,30 @@ runTable =
     (four 0 5 3 0 ++ four 1 3 1 0 ++ four 2 5 4 0) true
     ∷ []
 
+-- ---- records without their distances
+
+pub record RecordExample : Type 0 where
+  pub numbers : List ℕ
+  pub outcome : List ℕ
+
+-- what a row's record leaves
+abbrev pub leftOf : RecordExample → List ℕ
+leftOf e = without (e .numbers)
+
+abbrev pub leaves : List ℕ → List ℕ → RecordExample
+leaves numbers rest = record { numbers = numbers; outcome = rest }
+
+unfoldable pub recordTable : List RecordExample
+recordTable =
+    -- Of no commit, of one and of two: each fifth number goes, the others stay in order.
+    leaves [] [] ∷ leaves (five 11 12 13 14 15) (four 11 12 13 14)
+    ∷ leaves (five 11 12 13 14 15 ++ five 21 22 23 24 25) (four 11 12 13 14 ++ four 21 22 23 24)
+    -- Fewer than five numbers are no commit.
+    ∷ leaves (11 ∷ []) [] ∷ leaves (11 ∷ 12 ∷ []) [] ∷ leaves (11 ∷ 12 ∷ 13 ∷ []) [] ∷ leaves (four 11 12 13 14) []
+    ∷ leaves (five 11 12 13 14 15 ++ four 21 22 23 24) (four 11 12 13 14)
+    -- The records of the two programs are those of their runs.
+    ∷ leaves mixedCommits mixedRecord ∷ leaves laidCommits laidRecord ∷ []
+
 -- ---- lists of calls
 
 -- what calls come to: their answers, whether none was refused, the record, the number of commits and the calls needed next
@@ -216,10 +252,6 @@ playedTo e =
       needs = next y;
     }
 
-abbrev pub AllPlayed : List PlayExample → Type 0
-AllPlayed [] = Unit {0}
-AllPlayed (e ∷ rows) = (playedTo e ≡ e .outcome) × AllPlayed rows
-
 -- program, memory and calls; then what they come to
 abbrev pub called : List ℕ → List ℕ → List Call → List Answer → Bool → List ℕ → ℕ → List Call → PlayExample
 called program memory calls answers accepted numbers commits needs =
@@ -240,69 +272,88 @@ callTable =
     played [] [] true [] 0 (issue ∷ execute 0 ∷ commit ∷ [])
     -- An oldest that waits is executed and committed; one that has executed is committed.
     ∷ played (issue ∷ []) (named 0 ∷ []) true [] 0 (execute 0 ∷ commit ∷ [])
-    ∷ played (issue ∷ execute 0 ∷ []) (named 0 ∷ executed 0 none ∷ []) true [] 0 (commit ∷ [])
-    ∷ played (issue ∷ issue ∷ execute 0 ∷ commit ∷ []) (named 0 ∷ named 1 ∷ executed 0 none ∷ committed 0 1 1 5 ∷ []) true
-    (four 0 1 1 5) 1 (execute 0 ∷ commit ∷ [])
+    ∷ played (issue ∷ execute 0 ∷ []) (named 0 ∷ executed 0 0 none ∷ []) true [] 0 (commit ∷ [])
+    ∷ played (issue ∷ issue ∷ execute 0 ∷ commit ∷ []) (named 0 ∷ named 1 ∷ executed 0 0 none ∷ committed 0 1 1 5 0 ∷ []) true
+    (five 0 1 1 5 0) 1 (execute 0 ∷ commit ∷ [])
     -- A squash commits nothing; after it the first squashed instruction is issued again.
     ∷ played (issue ∷ squash 0 ∷ issue ∷ execute 0 ∷ commit ∷ [])
-    (named 0 ∷ done ∷ named 0 ∷ executed 0 none ∷ committed 0 1 1 5 ∷ []) true (four 0 1 1 5) 1
+    (named 0 ∷ done ∷ named 0 ∷ executed 0 0 none ∷ committed 0 1 1 5 0 ∷ []) true (five 0 1 1 5 0) 1
     (issue ∷ execute 0 ∷ commit ∷ [])
     -- Refused calls add nothing, and one among others is seen wherever it stands.
     ∷ played (commit ∷ []) (refused 11 ∷ []) false [] 0 (issue ∷ execute 0 ∷ commit ∷ [])
-    ∷ played (issue ∷ commit ∷ execute 0 ∷ []) (named 0 ∷ refused 12 ∷ executed 0 none ∷ []) false [] 0 (commit ∷ [])
+    ∷ played (issue ∷ commit ∷ execute 0 ∷ []) (named 0 ∷ refused 12 ∷ executed 0 0 none ∷ []) false [] 0 (commit ∷ [])
     -- 01's steps. The load goes before the store, is squashed by it, and goes again.
     ∷ played
     (issue ∷ issue ∷ issue ∷ execute 2 ∷ execute 0 ∷ execute 1 ∷ commit ∷ commit ∷ issue ∷ execute 0 ∷ commit ∷ [])
-    (named 0 ∷ named 1 ∷ named 2 ∷ executed 0 none ∷ executed 0 none ∷ executed 0 (some 2) ∷ committed 0 1 1 5
-    ∷ committed 1 4 3 5 ∷ named 0 ∷ executed 5 none ∷ committed 2 3 2 5 ∷ [])
-    true (four 0 1 1 5 ++ four 1 4 3 5 ++ four 2 3 2 5) 3 (issue ∷ execute 0 ∷ commit ∷ [])
-    -- A finish counts for what it answers. Of its list, here nine places with 7 in each, only that many commits are recorded.
-    ∷ played (finish 0 (replicate 9 7) ∷ []) (finished 0 ∷ []) true [] 0 (issue ∷ execute 0 ∷ commit ∷ [])
-    ∷ played (finish 1 (replicate 9 7) ∷ []) (finished 1 ∷ []) true (four 0 1 1 5) 1 (issue ∷ execute 0 ∷ commit ∷ [])
-    ∷ played (finish 5 (replicate 9 7) ∷ []) (finished 2 ∷ []) true (four 0 1 1 5 ++ four 1 4 3 5) 2
+    (named 0 ∷ named 1 ∷ named 2 ∷ executed 0 0 none ∷ executed 0 0 none ∷ executed 0 0 (some 2) ∷ committed 0 1 1 5 0
+    ∷ committed 1 4 3 5 0 ∷ named 0 ∷ executed 5 0 none ∷ committed 2 3 2 5 0 ∷ [])
+    true (five 0 1 1 5 0 ++ five 1 4 3 5 0 ++ five 2 3 2 5 0) 3 (issue ∷ execute 0 ∷ commit ∷ [])
+    -- The load executes with its store at the position before it. It keeps this distance when the store has committed.
+    ∷ played (issue ∷ issue ∷ issue ∷ execute 0 ∷ execute 1 ∷ execute 2 ∷ commit ∷ commit ∷ commit ∷ [])
+    (named 0 ∷ named 1 ∷ named 2 ∷ executed 0 0 none ∷ executed 0 0 none ∷ executed 5 1 none ∷ committed 0 1 1 5 0
+    ∷ committed 1 4 3 5 0 ∷ committed 2 3 2 5 1 ∷ [])
+    true (five 0 1 1 5 0 ++ five 1 4 3 5 0 ++ five 2 3 2 5 1) 3 (issue ∷ execute 0 ∷ commit ∷ [])
+    -- Every instruction between them counts. A finish records the distance that it finds, also of a store that has committed,
+    -- and 0 of a load that it executes itself.
+    ∷ called (A 1 0 5 ++ S 1 0 3 ++ A 2 0 6 ++ L 3 0 3 ++ L 4 0 3) (replicate 8 0)
+    (issue ∷ issue ∷ issue ∷ issue ∷ execute 0 ∷ execute 1 ∷ execute 3 ∷ commit ∷ commit ∷ finish 9 (replicate 17 7) ∷ [])
+    (named 0 ∷ named 1 ∷ named 2 ∷ named 3 ∷ executed 0 0 none ∷ executed 0 0 none ∷ executed 5 2 none ∷ committed 0 1 1 5 0
+    ∷ committed 1 4 3 5 0 ∷ finished 3 ∷ [])
+    true (five 0 1 1 5 0 ++ five 1 4 3 5 0 ++ five 2 1 2 6 0 ++ five 3 3 3 5 2 ++ five 4 3 4 5 0) 5
+    (issue ∷ execute 0 ∷ commit ∷ [])
+    -- A finish counts for what it answers. Of its list, here places with 7 in each, only that many commits are recorded.
+    ∷ played (finish 0 (replicate 10 7) ∷ []) (finished 0 ∷ []) true [] 0 (issue ∷ execute 0 ∷ commit ∷ [])
+    ∷ played (finish 1 (replicate 10 7) ∷ []) (finished 1 ∷ []) true (five 0 1 1 5 0) 1 (issue ∷ execute 0 ∷ commit ∷ [])
+    -- Each takes five places: none in four, one in five and in nine, two in ten.
+    ∷ played (finish 9 (replicate 4 7) ∷ []) (finished 0 ∷ []) true [] 0 (issue ∷ execute 0 ∷ commit ∷ [])
+    ∷ played (finish 9 (replicate 5 7) ∷ []) (finished 1 ∷ []) true (five 0 1 1 5 0) 1 (issue ∷ execute 0 ∷ commit ∷ [])
+    ∷ played (finish 9 (replicate 9 7) ∷ []) (finished 1 ∷ []) true (five 0 1 1 5 0) 1 (issue ∷ execute 0 ∷ commit ∷ [])
+    ∷ played (finish 9 (replicate 10 7) ∷ []) (finished 2 ∷ []) true (five 0 1 1 5 0 ++ five 1 4 3 5 0) 2
     (issue ∷ execute 0 ∷ commit ∷ [])
     -- Commits and finishes in one list, a squash and a refusal among them.
     ∷ played
-    (issue ∷ execute 0 ∷ commit ∷ issue ∷ issue ∷ squash 0 ∷ finish 1 (replicate 4 7) ∷ commit ∷ finish 9 (replicate 99 7) ∷ [])
-    (named 0 ∷ executed 0 none ∷ committed 0 1 1 5 ∷ named 0 ∷ named 1 ∷ done ∷ finished 1 ∷ refused 11 ∷ finished 1 ∷ [])
-    false (four 0 1 1 5 ++ four 1 4 3 5 ++ four 2 3 2 5) 3 (issue ∷ execute 0 ∷ commit ∷ [])
+    (issue ∷ execute 0 ∷ commit ∷ issue ∷ issue ∷ squash 0 ∷ finish 1 (replicate 5 7) ∷ commit ∷ finish 9 (replicate 99 7) ∷ [])
+    (named 0 ∷ executed 0 0 none ∷ committed 0 1 1 5 0 ∷ named 0 ∷ named 1 ∷ done ∷ finished 1 ∷ refused 11 ∷ finished 1 ∷ [])
+    false (five 0 1 1 5 0 ++ five 1 4 3 5 0 ++ five 2 3 2 5 0) 3 (issue ∷ execute 0 ∷ commit ∷ [])
     -- A fault stops a finish, and leaves the oldest executed; its commit is refused.
     ∷ called (A 1 0 2 ++ L 2 1 0) (4 ∷ 5 ∷ []) (finish 5 (replicate 99 7) ∷ commit ∷ []) (finished 1 ∷ refused 13 ∷ []) false
-    (four 0 1 1 2) 1 (commit ∷ [])
+    (five 0 1 1 2 0) 1 (commit ∷ [])
     -- Two bytes of one word, the younger first: it is squashed by the older, and its store goes again.
     ∷ called (A 1 0 255 ++ B 1 0 0 ++ B 1 0 1) (replicate 8 0)
-    (issue ∷ issue ∷ issue ∷ execute 0 ∷ execute 2 ∷ execute 1 ∷ commit ∷ commit ∷ commit ∷ finish 1 (replicate 4 7) ∷ [])
-    (named 0 ∷ named 1 ∷ named 2 ∷ executed 0 none ∷ executed 0 none ∷ executed 0 (some 2) ∷ committed 0 1 1 255
-    ∷ committed 1 5 0 255 ∷ refused 11 ∷ finished 1 ∷ [])
-    false (four 0 1 1 255 ++ four 1 5 0 255 ++ four 2 5 1 65535) 3 (issue ∷ execute 0 ∷ commit ∷ [])
-    -- Out of order, with a squash by each part, the record is that of the run; so it is of a finish alone.
+    (issue ∷ issue ∷ issue ∷ execute 0 ∷ execute 2 ∷ execute 1 ∷ commit ∷ commit ∷ commit ∷ finish 1 (replicate 5 7) ∷ [])
+    (named 0 ∷ named 1 ∷ named 2 ∷ executed 0 0 none ∷ executed 0 0 none ∷ executed 0 0 (some 2) ∷ committed 0 1 1 255 0
+    ∷ committed 1 5 0 255 0 ∷ refused 11 ∷ finished 1 ∷ [])
+    false (five 0 1 1 255 0 ++ five 1 5 0 255 0 ++ five 2 5 1 65535 0) 3 (issue ∷ execute 0 ∷ commit ∷ [])
+    -- Out of order, with a squash by each part, and by a finish alone the record is the same.
     ∷ called mixed (0 ∷ [])
     (issue ∷ issue ∷ issue ∷ issue ∷ execute 0 ∷ execute 3 ∷ execute 2 ∷ execute 1 ∷ commit ∷ commit ∷ issue ∷ execute 0
-    ∷ finish 9 (replicate 20 7) ∷ [])
-    (named 0 ∷ named 1 ∷ named 2 ∷ named 3 ∷ executed 0 none ∷ executed 0 none ∷ executed 0 (some 3) ∷ executed 0 (some 2)
-    ∷ committed 0 1 1 511 ∷ committed 1 5 3 (bytes 0 0 0 255) ∷ named 0 ∷ executed 0 none ∷ finished 3 ∷ [])
-    true mixedRecord 5 (issue ∷ execute 0 ∷ commit ∷ [])
-    ∷ called mixed (0 ∷ []) (finish 9 (replicate 20 7) ∷ []) (finished 5 ∷ []) true mixedRecord 5 (issue ∷ execute 0 ∷ commit ∷ [])
+    ∷ finish 9 (replicate 26 7) ∷ [])
+    (named 0 ∷ named 1 ∷ named 2 ∷ named 3 ∷ executed 0 0 none ∷ executed 0 0 none ∷ executed 0 0 (some 3) ∷ executed 0 0 (some 2)
+    ∷ committed 0 1 1 511 0 ∷ committed 1 5 3 (bytes 0 0 0 255) 0 ∷ named 0 ∷ executed 0 0 none ∷ finished 3 ∷ [])
+    true mixedCommits 5 (issue ∷ execute 0 ∷ commit ∷ [])
+    ∷ called mixed (0 ∷ []) (finish 9 (replicate 26 7) ∷ []) (finished 5 ∷ []) true mixedCommits 5
+    (issue ∷ execute 0 ∷ commit ∷ [])
     -- A load goes before a part and is squashed by it; the part went before a store of its word and is squashed by that.
     ∷ called laid (0 ∷ [])
     (issue ∷ issue ∷ issue ∷ issue ∷ execute 0 ∷ execute 3 ∷ execute 2 ∷ issue ∷ execute 1 ∷ commit ∷ commit ∷ issue ∷ execute 0
     ∷ commit ∷ issue ∷ execute 0 ∷ commit ∷ [])
-    (named 0 ∷ named 1 ∷ named 2 ∷ named 3 ∷ executed 0 none ∷ executed 0 none ∷ executed 0 (some 3) ∷ named 3
-    ∷ executed 0 (some 2) ∷ committed 0 1 1 511 ∷ committed 1 4 0 511 ∷ named 0 ∷ executed 0 none ∷ committed 2 5 0 256
-    ∷ named 0 ∷ executed 256 none ∷ committed 3 3 2 256 ∷ [])
-    true laidRecord 4 (issue ∷ execute 0 ∷ commit ∷ [])
+    (named 0 ∷ named 1 ∷ named 2 ∷ named 3 ∷ executed 0 0 none ∷ executed 0 0 none ∷ executed 0 0 (some 3) ∷ named 3
+    ∷ executed 0 0 (some 2) ∷ committed 0 1 1 511 0 ∷ committed 1 4 0 511 0 ∷ named 0 ∷ executed 0 0 none ∷ committed 2 5 0 256 0
+    ∷ named 0 ∷ executed 256 0 none ∷ committed 3 3 2 256 0 ∷ [])
+    true laidCommits 4 (issue ∷ execute 0 ∷ commit ∷ [])
     -- A part and a load take the words of older parts that are not in memory yet; nothing is squashed.
     ∷ called (B 0 0 3 ++ L 1 0 0 ++ B 0 0 4) (replicate 8 0)
     (issue ∷ issue ∷ issue ∷ execute 0 ∷ execute 1 ∷ execute 2 ∷ commit ∷ commit ∷ [])
-    (named 0 ∷ named 1 ∷ named 2 ∷ executed 0 none ∷ executed 0 none ∷ executed 0 none ∷ committed 0 5 3 0 ∷ committed 1 3 1 0 ∷ [])
-    true (four 0 5 3 0 ++ four 1 3 1 0) 2 (commit ∷ [])
+    (named 0 ∷ named 1 ∷ named 2 ∷ executed 0 0 none ∷ executed 0 1 none ∷ executed 0 0 none ∷ committed 0 5 3 0 0
+    ∷ committed 1 3 1 0 1 ∷ [])
+    true (five 0 5 3 0 0 ++ five 1 3 1 0 1) 2 (commit ∷ [])
     -- A part at 4W stops a finish; one at 4W - 1 does not.
     ∷ called (A 1 0 7 ++ B 1 0 7 ++ B 1 0 8) (0 ∷ 0 ∷ []) (finish 9 (replicate 99 7) ∷ commit ∷ []) (finished 2 ∷ refused 13 ∷ [])
-    false (four 0 1 1 7 ++ four 1 5 7 (bytes 0 0 0 7)) 2 (commit ∷ [])
+    false (five 0 1 1 7 0 ++ five 1 5 7 (bytes 0 0 0 7) 0) 2 (commit ∷ [])
     -- An H at an odd byte number executes, and a load takes the word; no commit and no finish takes it further.
     ∷ called (A 1 0 7 ++ H 1 0 5 ++ L 2 0 1) (0 ∷ 0 ∷ [])
     (issue ∷ issue ∷ execute 0 ∷ commit ∷ issue ∷ execute 0 ∷ execute 1 ∷ commit ∷ commit ∷ finish 3 (replicate 99 7) ∷ [])
-    (named 0 ∷ named 1 ∷ executed 0 none ∷ committed 0 1 1 7 ∷ named 1 ∷ executed 0 none ∷ executed 7 none ∷ refused 14
+    (named 0 ∷ named 1 ∷ executed 0 0 none ∷ committed 0 1 1 7 0 ∷ named 1 ∷ executed 0 0 none ∷ executed 7 1 none ∷ refused 14
     ∷ refused 14 ∷ finished 0 ∷ [])
-    false (four 0 1 1 7) 1 (commit ∷ [])
+    false (five 0 1 1 7 0) 1 (commit ∷ [])
     ∷ []

@@ -8,24 +8,33 @@ use lib.Dec.{eqb}
 use lib.ListN.{length, take}
 use Rattle.engine.specs.Contract.{refused, named, executed, done, committed, finished}
 use Rattle.machine_model.specs.Window.{entryAt}
-use Rattle.machine_model.specs.Calls.{Plain, Call, issue, execute, commit, Answer, waits, respond}
+use Rattle.machine_model.specs.Calls.{Plain, Call, issue, execute, commit, Answer, waits, perCommit, respond}
 
 -- what an answer adds to the record, with the list as the call left it
 abbrev pub recorded : Answer → List ℕ → List ℕ
 recorded (refused k) list = []
 recorded (named p) list = []
-recorded (executed v s) list = []
+recorded (executed v d s) list = []
 recorded done list = []
-recorded (committed i c r v) list = i ∷ c ∷ r ∷ v ∷ []
-recorded (finished n) list = take (n * 4) list
+recorded (committed i c r v d) list = i ∷ c ∷ r ∷ v ∷ d ∷ []
+recorded (finished n) list = take (n * perCommit) list
+
+-- the record without its distances: of each commit's five numbers the first four
+unfoldable pub without : List ℕ → List ℕ
+without (i ∷ c ∷ r ∷ v ∷ d ∷ ns) = i ∷ c ∷ r ∷ v ∷ without ns
+without (i ∷ c ∷ r ∷ v ∷ []) = []
+without (i ∷ c ∷ r ∷ []) = []
+without (i ∷ c ∷ []) = []
+without (i ∷ []) = []
+without [] = []
 
 -- how many commits an answer tells of
 abbrev pub commitsIn : Answer → ℕ
 commitsIn (refused k) = 0
 commitsIn (named p) = 0
-commitsIn (executed v s) = 0
+commitsIn (executed v d s) = 0
 commitsIn done = 0
-commitsIn (committed i c r v) = 1
+commitsIn (committed i c r v d) = 1
 commitsIn (finished n) = n
 
 -- where a list of calls got to: state and memory, the record and the number of commits
@@ -65,9 +74,9 @@ needed X =
 abbrev pub isRefused : Answer → Bool
 isRefused (refused k) = true
 isRefused (named p) = false
-isRefused (executed v s) = false
+isRefused (executed v d s) = false
 isRefused done = false
-isRefused (committed i c r v) = false
+isRefused (committed i c r v d) = false
 isRefused (finished n) = false
 
 unfoldable pub noneRefused : List Answer → Bool

@@ -7,10 +7,10 @@ use mathlib.Core.List.{List, _++_}
 use Prim.Native.Nat.{ℕ, suc, _*_, _≤_}
 use lib.ListN.{length}
 use Rattle.machine_model.specs.declared.Machine.{Machine}
-use Rattle.machine_model.specs.Calls.{Call, Answer}
+use Rattle.machine_model.specs.Calls.{Call, Answer, perCommit}
 use Rattle.machine_model.specs.Contract.{plain}
 use Rattle.theorem.specs.Sequential.{Run, runAfter, ends, step}
-use Rattle.theorem.specs.Play.{Played, play, needed, noneRefused, allAccepted}
+use Rattle.theorem.specs.Play.{without, Played, play, needed, noneRefused, allAccepted}
 use Rattle.theorem.specs.Life.{Life}
 
 -- the sequential run of the program from the memory as lent at opening, after as many steps as x has commits
@@ -20,33 +20,35 @@ run program memory x = runAfter program memory (x .commits)
 abbrev pub next : Played → List Call
 next x = needed (x .state)
 
--- Any list of calls on an opened program, refused ones among them, came to x. The record of x is the record of the run, four
--- numbers a commit, and the committed registers and the memory are the run's. As long as the run has not ended, `next`, at
--- most three calls that 01 names, are all accepted after x and commit its next instruction: they commit one more, and the
--- record is then that of the run after its next step. Once it has ended, no further calls commit anything.
+-- Any list of calls on an opened program, refused ones among them, came to x. The record of x, perCommit (five) numbers a
+-- commit, is without its distances the record of the run, and the committed registers and the memory are the run's. As long as
+-- the run has not ended, `next`, at most three calls that 01 names, are all accepted after x and commit its next instruction:
+-- they commit one more, and the record without its distances is then that of the run after its next step. Once it has ended, no
+-- further calls commit anything.
 pub record Truth (program memory : List ℕ) (x : Played) : Type 0 where
-  pub record-is : x .record′ ≡ run program memory x .record′
-  pub record-grows : length (x .record′) ≡ x .commits * 4
+  pub record-is : without (x .record′) ≡ run program memory x .record′
+  pub record-grows : length (x .record′) ≡ x .commits * perCommit
   pub registers-are : x .state .registers ≡ run program memory x .registers
   pub memory-is : x .memory ≡ run program memory x .memory
   pub goes-on : ends program (run program memory x) ≡ false
       → (allAccepted program x (next x) ≡ true) × (length (next x) ≤ 3) × (play program x (next x) .commits ≡ suc (x .commits))
-      × (play program x (next x) .record′ ≡ step program (run program memory x) .record′)
+      × (without (play program x (next x) .record′) ≡ step program (run program memory x) .record′)
   pub stops : ends program (run program memory x) ≡ true → (more : List Call) → play program x more .commits ≡ x .commits
 
 -- The same of the calls. Any calls from an opening with memory w, refused ones among them, each as its contract says, led to
--- machine u and memory v, with a record and k commits read off the answers. These are k steps of the run. As long as it has
--- not ended, the calls that u needs, at most three, are answered without a refusal and tell of one commit, and the record
--- with the numbers that they add is that of the run after its next step. Once it has ended, any further calls tell of none.
+-- machine u and memory v, with a record and k commits read off the answers. These are k steps of the run, the record taken
+-- without its distances. As long as it has not ended, the calls that u needs, at most three, are answered without a refusal and
+-- tell of one commit, and the record with the numbers that they add is then, again without distances, that of the run after
+-- its next step. Once it has ended, any further calls tell of none.
 pub record CallsTruth (program w : List ℕ) (u : Machine) (v record′ : List ℕ) (k : ℕ) : Type 0 where
-  pub record-is : record′ ≡ runAfter program w k .record′
-  pub record-grows : length record′ ≡ k * 4
+  pub record-is : without record′ ≡ runAfter program w k .record′
+  pub record-grows : length record′ ≡ k * perCommit
   pub registers-are : u .registers ≡ runAfter program w k .registers
   pub memory-is : v ≡ runAfter program w k .memory
   pub goes-on : ends program (runAfter program w k) ≡ false → {answers : List Answer} {x : Machine} {y more : List ℕ} {j : ℕ}
       → Life program u v (needed (plain u)) answers x y more j
       → (noneRefused answers ≡ true) × (length (needed (plain u)) ≤ 3) × (j ≡ 1)
-      × (record′ ++ more ≡ step program (runAfter program w k) .record′)
+      × (without (record′ ++ more) ≡ step program (runAfter program w k) .record′)
   pub stops : ends program (runAfter program w k) ≡ true → {cs : List Call} {answers : List Answer} {x : Machine}
       {y more : List ℕ} {j : ℕ}
       → Life program u v cs answers x y more j

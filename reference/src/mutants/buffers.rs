@@ -1,6 +1,6 @@
 //! Wrong buffers.
 
-use super::{Mutant, Scripts, RIGHT};
+use super::{Distance, Mutant, Scripts, RIGHT};
 use crate::events::BANKS;
 use crate::rules::{Rules, Stated};
 use crate::window::{Code, Entry, Fate, Row, Window};
@@ -18,6 +18,9 @@ const FORWARDS: [(&str, Forward); 5] = [
     ("younger stores too", |w, _, a| older_stores(w, w.live.len(), a).last()),
     ("no forward", |_, _, _| None),
 ];
+
+/// Of a store on either side.
+const EITHER: Distance = |_, k, _, store| store.map_or(0, |store| k.abs_diff(store));
 
 const VIOLATIONS: [(&str, Violation); 9] = [
     ("a load past a store", |w, k, a, _| younger(w, k).find(|&p| marked(&w.live[p], Code::loads, a))),
@@ -212,7 +215,9 @@ impl Rules for Blind {
 #[test]
 fn wrong_buffers() {
     let mut scripts = Scripts::default();
-    FORWARDS.iter().for_each(|&(name, forward)| scripts.tell(name, Mutant { forward, ..RIGHT }));
+    FORWARDS
+        .iter()
+        .for_each(|&(name, forward)| scripts.tell(name, Mutant { forward, distance: EITHER, ..RIGHT }));
     VIOLATIONS.iter().for_each(|&(name, violation)| scripts.tell(name, Mutant { violation, ..RIGHT }));
     ROOMS.iter().for_each(|&(name, room)| scripts.tell(name, Mutant { room, ..RIGHT }));
     scripts.tell("clears to the largest stage", Returning { all: false, missed: Vec::new() });
@@ -234,7 +239,7 @@ fn wrong_tables() {
 }
 
 #[test]
-fn wrong_distances() {
+fn blind_spots() {
     let mut scripts = Scripts::default();
     for kind in ["forward", "violation", "eviction", "operand"] {
         for distance in 1..=15 {
@@ -244,5 +249,5 @@ fn wrong_distances() {
             scripts.tell(&name, Blind { kind, from: distance, to: 15 });
         }
     }
-    scripts.close("distances");
+    scripts.close("blind spots");
 }

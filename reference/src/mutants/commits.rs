@@ -86,7 +86,7 @@ const COMMITS: [(&str, Commits); 14] = [
     }),
 ];
 
-const FINISHES: [(&str, Finish); 20] = [
+const FINISHES: [(&str, Finish); 22] = [
     ("x stops when the window is empty", |m, k| {
         (0..k).map_while(|_| if m.window.live.is_empty() { None } else { m.advance() }).collect()
     }),
@@ -104,7 +104,9 @@ const FINISHES: [(&str, Finish); 20] = [
     ("x without limit", |m, k| m.finish(if k > 0 { u32::MAX } else { 0 })),
     ("x by 8 bits of its limit", |m, k| m.finish(k % 256)),
     ("x by a signed limit", |m, k| m.finish(if k >= 1 << 31 { 0 } else { k })),
+    ("x of 51 commits at most", |m, k| m.finish(k.min(51))),
     ("x of 64 commits at most", |m, k| m.finish(k.min(64))),
+    ("x of 204 commits at most", |m, k| m.finish(k.min(204))),
     ("x of 255 commits at most", |m, k| m.finish(k.min(255))),
     ("x fills the window", |m, k| {
         let round = |m: &mut Wrong| {
@@ -215,7 +217,7 @@ pub fn passed(machine: &mut Wrong) -> Result<Commit, u32> {
     if code == Code::L {
         machine.registers[d as usize] = 0;
     }
-    Ok(Commit { index, code, target: d, value: 0 })
+    Ok(Commit { index, code, target: d, value: 0, distance: 0 })
 }
 
 fn oldest(machine: &Wrong, code: Code) -> bool {

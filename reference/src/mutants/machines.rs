@@ -65,8 +65,9 @@ const ISSUES: [(&str, Issue); 4] = [
         m.window.sizes.stages -= 1;
         answer
     }),
+    // Not into an empty window: a finish would never end.
     ("issues from the start again", |m| {
-        if m.next == m.program.len() {
+        if m.next == m.program.len() && !m.window.live.is_empty() {
             m.next = 0;
         }
         m.issue()

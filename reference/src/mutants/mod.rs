@@ -2,7 +2,9 @@
 
 mod buffers;
 mod commits;
+mod distances;
 mod limits;
+mod lines;
 mod machines;
 mod parts;
 mod texts;
@@ -19,6 +21,7 @@ const SCRIPTS: u64 = 3000;
 /// So many scripts must differ. The search ends with them.
 const ENOUGH: usize = 3;
 
+type Distance = fn(&Window, usize, u32, Option<usize>) -> usize;
 type Operand = fn(&Window, &[u32; 8], usize, u32) -> Result<u32, u32>;
 type Wrong = Machine<Mutant>;
 
@@ -26,6 +29,7 @@ type Wrong = Machine<Mutant>;
 #[derive(Clone, Copy)]
 struct Mutant {
     forward: fn(&Window, usize, u32) -> Option<usize>,
+    distance: Distance,
     violation: fn(&Window, usize, u32, u32) -> Option<usize>,
     room: fn(&Window, usize, u32) -> Result<Option<usize>, u32>,
     operand: Operand,
@@ -36,6 +40,7 @@ struct Mutant {
     resume: fn(&Window, usize) -> usize,
     opens: fn(Sizes) -> bool,
     takes: fn(usize, bool, Instruction) -> Result<(), &'static str>,
+    tells: fn(Code) -> bool,
     issue: fn(&mut Wrong) -> Result<usize, u32>,
     execute: fn(&mut Wrong, usize) -> Result<Executed, u32>,
     squash: fn(&mut Wrong, usize) -> Result<(), u32>,
@@ -46,6 +51,7 @@ struct Mutant {
 
 const RIGHT: Mutant = Mutant {
     forward: |window, k, address| Stated.forward(window, k, address),
+    distance: |window, k, address, store| Stated.distance(window, k, address, store),
     violation: |window, k, address, value| Stated.violation(window, k, address, value),
     room: |window, k, address| Stated.room(window, k, address),
     operand: |window, registers, k, register| Stated.operand(window, registers, k, register),
@@ -56,6 +62,7 @@ const RIGHT: Mutant = Mutant {
     resume: |window, from| Stated.resume(window, from),
     opens: |sizes| Stated.opens(sizes),
     takes: |before, stepped, instruction| Stated.takes(before, stepped, instruction),
+    tells: |code| Stated.tells(code),
     issue: |machine| machine.issue(),
     execute: |machine, k| machine.execute(k),
     squash: |machine, k| machine.squash(k),
@@ -67,6 +74,10 @@ const RIGHT: Mutant = Mutant {
 impl Rules for Mutant {
     fn forward(&self, window: &Window, k: usize, address: u32) -> Option<usize> {
         (self.forward)(window, k, address)
+    }
+
+    fn distance(&self, window: &Window, k: usize, address: u32, store: Option<usize>) -> usize {
+        (self.distance)(window, k, address, store)
     }
 
     fn violation(&self, window: &Window, k: usize, address: u32, value: u32) -> Option<usize> {
@@ -107,6 +118,10 @@ impl Rules for Mutant {
 
     fn takes(&self, before: usize, stepped: bool, instruction: Instruction) -> Result<(), &'static str> {
         (self.takes)(before, stepped, instruction)
+    }
+
+    fn tells(&self, code: Code) -> bool {
+        (self.tells)(code)
     }
 
     fn issue(machine: &mut Wrong) -> Result<usize, u32> {

@@ -16,17 +16,19 @@ use Rattle.engine.specs.declared.Effect.{Effect}
 -- what an action comes to at position p of a table with these parts, over this memory
 abbrev pub effectOf : ℕ → ℕ → ℕ → ℕ → ℕ → List ℕ → List ℕ → List ℕ → List ℕ → ℕ → List ℕ → Action → Effect
 effectOf banks rows stages oldest live addresses loads stores values p memory (Compute v) =
-    record { load = false; store = false; row = 0; word = 0; left = live; value = v; address = 0 }
+    record { load = false; store = false; row = 0; word = 0; left = live; value = v; address = 0; distance = 0 }
 effectOf banks rows stages oldest live addresses loads stores values p memory (LoadAt a) =
     let q = placeFor oldest stages live rows addresses loads stores (bank banks a) a p in
+    let taken = forward oldest stages stores values (q .row) p (getD memory a 0) in
     record {
       load = true;
       store = false;
       row = q .row;
       word = a;
       left = q .left;
-      value = forward oldest stages stores values (q .row) p (getD memory a 0);
+      value = taken .word;
       address = a;
+      distance = taken .distance;
     }
 effectOf banks rows stages oldest live addresses loads stores values p memory (StoreAt a v) =
     let q = placeFor oldest stages live rows addresses loads stores (bank banks a) a p in
@@ -38,6 +40,7 @@ effectOf banks rows stages oldest live addresses loads stores values p memory (S
       left = leftAfter oldest stages live loads stores (q .row) (q .left) p;
       value = v;
       address = a;
+      distance = 0;
     }
 effectOf banks rows stages oldest live addresses loads stores values p memory (PartAt part b v) =
     let a = wordOf b in
@@ -48,8 +51,9 @@ effectOf banks rows stages oldest live addresses loads stores values p memory (P
       row = q .row;
       word = a;
       left = leftAfter oldest stages live loads stores (q .row) (q .left) p;
-      value = whole part b (forward oldest stages stores values (q .row) p (getD memory a 0)) v;
+      value = whole part b (forward oldest stages stores values (q .row) p (getD memory a 0) .word) v;
       address = b;
+      distance = 0;
     }
 
 -- the value that it answers: a load's, else 0

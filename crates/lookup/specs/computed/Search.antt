@@ -13,6 +13,7 @@ use Rattle.table.specs.Limits.{rowsMost}
 use Rattle.table.specs.computed.Check.{marksOf}
 use Rattle.table.specs.Reference.{Fate, waiting, other, accessed, lacks, holds, loaded, stored}
 use Rattle.lookup.specs.declared.Place.{Place}
+use Rattle.lookup.specs.declared.Taken.{Taken}
 use Rattle.lookup.specs.declared.Mark.{Mark}
 use Rattle.lookup.specs.declared.Mark.the-variants.{Absent, Load, Store}
 
@@ -44,15 +45,19 @@ free loads stores b i = eqb (marksOf loads stores (b * rowsMost + i)) 0
 abbrev pub marked : ℕ → ℕ → ℕ → ℕ → Bool
 marked o n w q = has w (stage o n q)
 
--- one more than the position of the nearest store mark older than position p; 0 where there is none
-abbrev pub nearest : ℕ → ℕ → ℕ → ℕ → ℕ
-nearest o n stores p = find (marked o n stores) p
+-- how far below p a search from p down was that found k, one more than a position; 0 where it found none
+abbrev pub below : ℕ → ℕ → ℕ
+below p k = cond (eqb k 0) 0 (suc p - k)
 
--- the word that a load at position p takes from row r: the nearest older store's, else w
-abbrev pub forward : ℕ → ℕ → List ℕ → List ℕ → ℕ → ℕ → ℕ → ℕ
+-- how many positions older than p the nearest store mark is; 0 where there is none
+abbrev pub nearest : ℕ → ℕ → ℕ → ℕ → ℕ
+nearest o n stores p = below p (find (marked o n stores) p)
+
+-- what a load at position p takes from row r: the nearest older store's word, else w
+abbrev pub forward : ℕ → ℕ → List ℕ → List ℕ → ℕ → ℕ → ℕ → Taken
 forward o n stores values r p w =
-    cond (eqb (nearest o n (getD stores r 0) p) 0) w
-    (getD values (stage o n (nearest o n (getD stores r 0) p - 1)) 0)
+    let d = nearest o n (getD stores r 0) p in
+    record { word = cond (eqb d 0) w (getD values (stage o n (p - d)) 0); distance = d }
 
 -- the first marked position younger than p; `live` where there is none
 abbrev pub metAt : ℕ → ℕ → ℕ → ℕ → ℕ → ℕ

@@ -55,9 +55,9 @@ abbrev aligned : tie.Else5 → tie.Else3
 aligned c = faultless (c .before .before)
 
 -- from the end back to where the oldest was found aligned
-abbrev last : tie.After-target-of → tie.Else5
+abbrev last : tie.After-distance-of → tie.Else5
 last c = c .before .before .before .before .before .before .before .before .before .before .before .before .before .before
-    .before .before .before
+    .before .before .before .before
 
 passed-at : (c : tie.Else1)
     → let args = entry c .args in Passed (args .t1) (args .program .now) (length (args .memory .now))
@@ -150,21 +150,23 @@ write-register-requires c κs =
 
 returns-6 : tie.Need-returns-6
 returns-6 c =
+    let t = c .before in
     let f = last c .before .before in
     let x = faultless f in
     let l = executed x in
     commit-meets _ _ _ (passed-at (l .before)) (live-at l) (executed-at x) _ (mark-at (f .before .before))
     (sym (f .before .mark-faults .ensures) ∙ f .if4 .left) (sym (last c .before .is-misaligned .ensures) ∙ last c .if5 .left) _ _ _
-    _ _ _ _ _ _
-    (c .before .before .before .before .before .before .before .before .before .before .before .stage-at .ensures)
-    (c .before .before .before .before .before .before .before .before .before .before .first-stages .ensures)
-    (c .before .before .before .before .before .before .keep .ensures)
-    (c .before .before .before .before .keep2 .ensures)
-    (c .before .code-of .ensures)
-    (c .target-of .ensures)
-    (c .before .before .before .before .before .before .before .before .before .before .before .before .value-of .ensures)
-    (c .before .before .write-register .ensures)
-    (c .before .before .before .before .before .before .before .before .before .before .before .before .before .before .before
+    _ _ _ _ _ _ _
+    (t .before .before .before .before .before .before .before .before .before .before .before .stage-at .ensures)
+    (t .before .before .before .before .before .before .before .before .before .before .first-stages .ensures)
+    (t .before .before .before .before .before .before .keep .ensures)
+    (t .before .before .before .before .keep2 .ensures)
+    (t .before .code-of .ensures)
+    (t .target-of .ensures)
+    (t .before .before .before .before .before .before .before .before .before .before .before .before .value-of .ensures)
+    (c .distance-of .ensures)
+    (t .before .before .write-register .ensures)
+    (t .before .before .before .before .before .before .before .before .before .before .before .before .before .before .before
     .write-back .ensures)
 
 pub commit-spec : {M : Type 1} → statement M
@@ -173,4 +175,4 @@ commit-spec =
     (tie.spec (λ c κs. search needs) returns returns-2 mul-e array-copy-out-e (search needs) returns-3 at-stage-requires
     (search needs) (search needs) returns-4 (search needs) returns-5 write-back-requires (search needs) stage-at-requires (search needs)
     first-stages-requires (search needs) keep-requires keep-requires-2 write-register-requires (search needs)
-    (search needs) (search needs) returns-6)
+    (search needs) (search needs) (search needs) returns-6)

@@ -24,13 +24,14 @@ use Rattle.engine.specs.Conditions.{faults}
 use Rattle.engine.specs.Contract.{refused, finished}
 use Rattle.machine_model.specs.declared.Entry.{Entry}
 use Rattle.machine_model.specs.Window.{blankEntry, misaligned, reference}
-use Rattle.machine_model.specs.Calls.{commit, finish, waits, programDone, begun}
+use Rattle.machine_model.specs.Calls.{commit, finish, waits, programDone, perCommit, begun}
 use Rattle.machine_model.specs.Contract.{plain, Meets}
 use Rattle.machine_model.specs.computed.Parts.{second, markWith}
 use Rattle.machine_model.proofs.Sounding.{validateOf}
 use Rattle.machine_model.proofs.Sized.{Sized, sized-of}
 use Rattle.machine_model.proofs.Answering.{Passed, validate-passes, check-none, check-passes, check-turns}
 use Rattle.machine_model.proofs.ChecksKept.{validate-lent, commit-passes}
+use Rattle.machine_model.proofs.Formed.{program-small}
 use Rattle.machine_model.proofs.Finishes.{
   over-plain,
   finishes-limit,
@@ -109,7 +110,7 @@ passed-in : (c : tie.At-loop Inv-loop μ-loop)
     → Passed (c .loop .m) (entry c .args .program .now) (length (c .loop .memory))
 passed-in c = validate-passes (c .loop .m) (entry c .args .program .now) (length (c .loop .memory)) (passes-at c)
 
--- in a turn: the limit is not reached, four places are left, and there is something to commit
+-- in a turn: the limit is not reached, a commit has its places, and there is something to commit
 below-at : (c : tie.In-loop Inv-loop μ-loop)
     → let a = c .before .before .before .before .before .before .before .before .before .before .before .before .args in
     c .before .loop .n < a .k
@@ -118,7 +119,7 @@ below-at c = search needs
 room-at : (c : tie.Else2 Inv-loop μ-loop)
     → let l = c .before .before in
     let a = l .before .before .before .before .before .before .before .before .before .before .before .args in
-    4 ≤ length (a .list .now) - l .loop .n * 4
+    perCommit ≤ length (a .list .now) - l .loop .n * perCommit
 room-at c = omega (arith, c .if2 .left, c .before .before .loop .inv .2 .size)
 
 more-at : (c : tie.Else3 Inv-loop μ-loop) → programDone (plain (c .before .before .before .loop .m)) ≡ false
@@ -163,7 +164,8 @@ cast-instruction-at c =
 instruction-at-requires : tie.Need-instruction-at-requires Inv-loop μ-loop
 instruction-at-requires c κs =
     let past = c .before .before .before .before .before .before in
-    omega (arith, left-at past, passed-in (head (past .before)) .counted)
+    let passed = passed-in (head (past .before)) in
+    program-small _ _ _ (passed .fits) (passed .counted) (left-at past)
 
 mul-t69 : tie.Need-mul-t69 Inv-loop μ-loop
 mul-t69 c = omega (arith, oldest-below (head (c .before .before .before .before .before .before .before .before)))
@@ -390,10 +392,10 @@ faultless c = aligned c .before .before
 abbrev committing : tie.After-value-of Inv-loop μ-loop → tie.Joined5 Inv-loop μ-loop
 committing c = prepared (read (faultless c))
 
-abbrev staying : tie.After-target-of Inv-loop μ-loop → tie.After-first-stages Inv-loop μ-loop
-staying c = c .before .before .before .before .before .before .before .before .before .before .before
+abbrev staying : tie.After-distance-of Inv-loop μ-loop → tie.After-first-stages Inv-loop μ-loop
+staying c = c .before .before .before .before .before .before .before .before .before .before .before .before
 
-abbrev valued : tie.After-target-of Inv-loop μ-loop → tie.After-value-of Inv-loop μ-loop
+abbrev valued : tie.After-distance-of Inv-loop μ-loop → tie.After-value-of Inv-loop μ-loop
 valued c = staying c .before .before
 
 mul-done : tie.Need-mul-done Inv-loop μ-loop
@@ -509,13 +511,13 @@ write-register-requires c κs =
     let p = committing (c .before .before .before .before .before .before .before .before .before) in
     ready-at p .along .sized .registers
 
-mul-put-four : tie.Need-mul-put-four Inv-loop μ-loop
-mul-put-four c =
+mul-put-commit : tie.Need-mul-put-commit Inv-loop μ-loop
+mul-put-commit c =
     let p = committing (c .before .before .before .before .before .before .before .before .before .before .before) in
     mul-if2 (more p .before .before)
 
-put-four-requires : tie.Need-put-four-requires Inv-loop μ-loop
-put-four-requires c κs =
+put-commit-requires : tie.Need-put-commit-requires Inv-loop μ-loop
+put-commit-requires c κs =
     let e = more (committing (valued c)) in
     omega (arith, room-at (e .before), head e .loop .inv .2 .size)
 
@@ -541,14 +543,15 @@ loop-again c =
     let mark = mark-at (read f) in
     let first = staying t .before .stage-at2 .ensures in
     let stay = staying t .first-stages .ensures in
-    let loads = t .before .before .before .before .before .before .before .keep .ensures in
-    let stores = t .before .before .before .before .before .keep2 .ensures in
-    let registers = t .before .before .before .write-register .ensures in
-    let code = t .before .code-of .ensures in
-    let place = t .target-of .ensures in
+    let loads = t .before .before .before .before .before .before .before .before .keep .ensures in
+    let stores = t .before .before .before .before .before .before .keep2 .ensures in
+    let registers = t .before .before .before .before .write-register .ensures in
+    let code = t .before .before .code-of .ensures in
+    let place = t .before .target-of .ensures in
+    let far = t .distance-of .ensures in
     let v = value .value-of .ensures in
     let meets =
-    turn-commits r mark (clean-at f) (even-at (aligned value)) first stay loads stores code place v registers _
+    turn-commits r mark (clean-at f) (even-at (aligned value)) first stay loads stores code place v far registers _
     (value .before .before .before .write-back .ensures) in (
       commit-passes (p .if5 .m) _ _ _
           (validate-lent (p .if5 .m) (entry l .args .program .now) _ _ (l .loop .inv .1) (r .along .passes))
@@ -557,7 +560,7 @@ loop-again c =
           _
           meets,
       value .before .before .memory .given ∙ l .loop .inv .1,
-      remains-goes _ _ _ _ _ _ _ _ _ (l .loop .inv .2) _ _ _ _ _ _ _ (below-at (e .before .before)) (room-at (e .before))
+      remains-goes _ _ _ _ _ _ _ _ _ (l .loop .inv .2) _ _ _ _ _ _ _ _ (below-at (e .before .before)) (room-at (e .before))
           (turn-goes _ (l .loop .m) (p .if5 .m) _ _ _ _ _ _ (below-at (e .before .before)) (room-at (e .before)) (more-at e)
           (along-passed (r .along) .sound)
           (r .along .is)
@@ -566,10 +569,11 @@ loop-again c =
           _
           _
           _
+          _
           refl
           meets)
-          (c .before .before .put-four .ensures),
-      turn-sized r mark (clean-at f) (even-at (aligned value)) first stay loads stores code place v registers,
+          (c .before .before .put-commit .ensures),
+      turn-sized r mark (clean-at f) (even-at (aligned value)) first stay loads stores code place v far registers,
     )
 
 returns-6 : tie.Need-returns-6 Inv-loop μ-loop
@@ -590,5 +594,5 @@ finish-spec =
     add-mark-requires-2 set-value-requires stage-at-requires mul-f element-copy-out-f mul-t79 element-set-from-m-2
     (search needs) mul-done element-copy-out-done at-stage-requires (search needs) (search needs) same-length-5
     same-length-6 returns-4 (search needs) same-length-7 same-length-8 returns-5 write-back-requires (search needs) stage-at-requires-2 sub-first-stages
-    first-stages-requires sub-m keep-requires keep-requires-2 write-register-requires mul-put-four (search needs)
-    (search needs) put-four-requires add-n loop-less loop-again (search needs) (search needs) returns-6)
+    first-stages-requires sub-m keep-requires keep-requires-2 write-register-requires mul-put-commit (search needs)
+    (search needs) (search needs) put-commit-requires add-n loop-less loop-again (search needs) (search needs) returns-6)

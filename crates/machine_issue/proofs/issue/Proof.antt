@@ -10,6 +10,7 @@ use Rattle.engine.proofs.Lengths.{fits, circle-asks, stage-small}
 use Rattle.machine_model.specs.Calls.{issue}
 use Rattle.machine_model.proofs.Sized.{Sized, sized-of}
 use Rattle.machine_model.proofs.Answering.{Passed, check-passes, check-turns}
+use Rattle.machine_model.proofs.Formed.{program-small}
 use Rattle.machine_model.proofs.Moved.{issue-full, issue-over, issue-meets}
 use Rattle.machine_issue.proofs.issue.Statement.{statement}
 use Rattle.machine_issue.proofs.issue.Tie as tie
@@ -68,7 +69,8 @@ set-number-requires c κs = small-at (c .before .before .before .before .before 
 instruction-at-requires : tie.Need-instruction-at-requires
 instruction-at-requires c κs =
     let past = c .before .before .before .before .before .before .before .before in
-    omega (arith, passed-at (first past) .counted, past .if3 .left)
+    let passed = passed-at (first past) in
+    program-small _ _ _ (passed .fits) (passed .counted) (omega (arith, past .if3 .left))
 
 mul-t15 : tie.Need-mul-t15
 mul-t15 c = omega (arith, small-at (c .before .before .before .before .before .before .before .before))

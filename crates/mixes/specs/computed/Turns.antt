@@ -25,26 +25,27 @@ summed sum (x ∷ xs) = summed (added sum x) xs
 
 -- the numbers of an answer, as the code holds them
 abbrev pub listed : Tally → List ℕ
-listed n = take (n .0) (n .1 ∷ n .2 ∷ n .3 ∷ n .4 ∷ [])
+listed n = take (n .0) (n .1 ∷ n .2 ∷ n .3 ∷ n .4 ∷ n .5 ∷ [])
 
 -- that they are these
 pub record Tallies (n : Tally) (l : List ℕ) : Type 0 where
   pub count : n .0 ≡ length l
-  pub few : leb (length l) 4 ≡ true
+  pub few : leb (length l) 5 ≡ true
   pub first : n .1 ≡ getD l 0 0
   pub second : n .2 ≡ getD l 1 0
   pub third : n .3 ≡ getD l 2 0
   pub fourth : n .4 ≡ getD l 3 0
+  pub fifth : n .5 ≡ getD l 4 0
 
--- An answer's numbers: a refusal's number, or 100 and what the answer carries; of the machine's commit its four. `name` has
+-- An answer's numbers: a refusal's number, or 100 and what the answer carries; of the machine's commit its five. `name` has
 -- those of a reference's name.
 abbrev pub numbersIn : {N : Type 0} → (N → List ℕ) → Answer N → List ℕ
 numbersIn name (refused k) = k ∷ []
 numbersIn name done = 100 ∷ []
 numbersIn name (named x) = 100 ∷ name x
-numbersIn name (executed v none) = 100 ∷ v ∷ []
-numbersIn name (executed v (some x)) = 100 ∷ v ∷ name x
-numbersIn name (committed i c r v) = i ∷ c ∷ r ∷ v ∷ []
+numbersIn name (executed v d none) = 100 ∷ v ∷ d ∷ []
+numbersIn name (executed v d (some x)) = 100 ∷ v ∷ d ∷ name x
+numbersIn name (committed i c r v d) = i ∷ c ∷ r ∷ v ∷ d ∷ []
 numbersIn name (finished n) = 100 ∷ n ∷ []
 
 -- with an answer

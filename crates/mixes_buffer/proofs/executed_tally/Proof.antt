@@ -15,4 +15,4 @@ pub executed-tally-spec : {M : Type 1} → statement M
 executed-tally-spec =
     tie.close
     (tie.spec (search needs) (search needs) (search needs) (search needs) (search needs) (search needs) (search needs)
-    (search needs) (λ c. search needs) returns-2 returns-3)
+    (search needs) (search needs) (search needs) (λ c. search needs) returns-2 returns-3)

@@ -10,4 +10,4 @@ pub committed-tally-spec : {M : Type 1} → statement M
 committed-tally-spec =
     tie.close
     (tie.spec (search needs) (search needs) (search needs) (search needs) (search needs) (search needs) (search needs)
-    (λ c. search needs) returns-2)
+    (search needs) (λ c. search needs) returns-2)

@@ -1,5 +1,5 @@
--- What the machine's mixes hand back: the checksum of an opening's answer and of its turns' (Turns.antt of crates/mixes), or of
--- many openings with a finish each.
+-- What the machine's mix hands back: the checksum of an opening's answer, of its turns' (Turns.antt of crates/mixes) and of a
+-- finish's.
 -- Assumes nothing.
 use mathlib.Core.Path.{_≡_}
 use mathlib.Core.List.{List, [], _∷_}
@@ -9,7 +9,7 @@ use Rattle.engine.specs.Contract.{Answer}
 use Rattle.machine_model.specs.declared.Machine.{Machine}
 use Rattle.machine_model.specs.Calls.{Call, finish}
 use Rattle.machine_model.specs.Contract.{Meets, Opens}
-use Rattle.mixes.specs.computed.Turns.{answered, Turns, Mixed}
+use Rattle.mixes.specs.computed.Turns.{answered, Mixed}
 
 -- the numbers of a position: it alone
 abbrev pub placed : ℕ → List ℕ
@@ -27,22 +27,15 @@ Plays banks rows stages words program m memory said after left =
     Played program m memory said after left
     ⊎ (Opens banks rows stages words program memory said after × (left ≡ memory))
 
--- an opening with these sizes, this program and this memory, and so many turns
-abbrev pub MachineTurns : ℕ → ℕ → ℕ → ℕ → List ℕ → List ℕ → ℕ → ℕ → List ℕ → ℕ → Type 0
-MachineTurns banks rows stages words program memory when calls memory′ sum′ =
-    Mixed placed (Opens banks rows stages words program memory) (Plays banks rows stages words program) when calls memory memory′
-    sum′
-
--- an opening with a finish of what it handed back; memory, list and checksum are x's before and y's after
-pub record Finished (banks rows stages words : ℕ) (program : List ℕ) (limit : ℕ) (x y : List ℕ × List ℕ × ℕ) : Type 0 where
-  pub opening : Answer ℕ
-  pub opened : Machine
-  pub opens : Opens banks rows stages words program (x .0) opening opened
+-- An opening with these sizes, this program and this memory, so many turns, and a finish of what they left; memory and list are
+-- x's before and y's after.
+pub record MachineTurns (banks rows stages words : ℕ) (program : List ℕ) (when calls limit : ℕ) (x y : List ℕ × List ℕ)
+    (sum′ : ℕ) : Type 0 where
+  pub memory : List ℕ
+  pub sum : ℕ
+  pub mixed : Mixed placed (Opens banks rows stages words program (x .0)) (Plays banks rows stages words program) when calls (x .0)
+      memory sum
   pub said : Answer ℕ
   pub after : Machine
-  pub meets : Meets program opened (finish limit (x .1)) (x .0) said after (y .0) (y .1)
-  pub told : y .2 ≡ answered placed (answered placed (x .2) opening) said
-
--- so many of them
-abbrev pub Runs : ℕ → ℕ → ℕ → ℕ → List ℕ → ℕ → ℕ → List ℕ × List ℕ × ℕ → List ℕ × List ℕ × ℕ → Type 0
-Runs banks rows stages words program limit = Turns (λ left. Finished banks rows stages words program limit)
+  pub meets : Meets program (mixed .after) (finish limit (x .1)) memory said after (y .0) (y .1)
+  pub told : sum′ ≡ answered placed sum said

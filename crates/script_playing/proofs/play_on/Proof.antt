@@ -92,7 +92,7 @@ commit =
     let lent = told .before .before .before .before .before in
     let asked = lent .before .before .before in
     commit-way (at-line (asked .before .before)) _ (asked .enum-told4 .given .1) (lent .before .commit .ensures)
-    (lent .memory .given) (told .said .given .1) (told .before .before .one-more .ensures) (put .put-commit .ensures))
+    (lent .memory .given) (told .said .given .1) (told .before .before .one-more .ensures) (put .put-committed .ensures))
 
 limit : tie.Need-loop-less-8 Inv-loop μ-loop × tie.Need-loop-again-8 Inv-loop μ-loop
 limit =
@@ -119,7 +119,7 @@ finish =
     let found = some .before .before in
     finish-way (ready (found .before .before)) (done .finish .result .answer) (found .phase2 .given .1) (some .if1 .left)
     (done .finish .ensures) (made .before .before .before .before .before .memory2 .given)
-    (λ none. made .if2 .left (made .before .commits-of .ensures ∙ none)) (c .one-more2 .ensures) (put .put-commit2 .ensures))
+    (λ none. made .if2 .left (made .before .commits-of .ensures ∙ none)) (c .one-more2 .ensures) (put .put-committed2 .ensures))
 
 add-next : tie.Need-add-next Inv-loop μ-loop
 add-next c =
@@ -158,8 +158,8 @@ play-on-spec =
     (λ c. search needs) (λ c κs. search needs) (commit .0) (commit .1)
     (λ c. search needs) (limit .0) (limit .1)
     (λ c. search needs) (λ c κs. search needs) (λ c κs. search needs) (stop .0) (stop .1)
-    (λ c. search needs) (λ c. search needs) (λ c. search needs) (λ c. search needs) (λ c κs. search needs) (λ c κs. search needs)
-    (λ c. search needs) (finish .0) (finish .1)
+    (λ c. search needs) (λ c. search needs) (λ c. search needs) (λ c. search needs) (λ c. search needs) (λ c κs. search needs)
+    (λ c κs. search needs) (λ c. search needs) (finish .0) (finish .1)
     (λ c. search needs) (λ c κs. search needs) add-next (word .0) (word .1)
     (λ c κs. search needs) (λ c κs. search needs) (end .0) (end .1)
     (λ c. steps-lent (c .before .loop .inv .steps)) (λ c. filling-size (c .before .loop .inv))
