@@ -22,7 +22,7 @@ use Rattle.machine_model.specs.declared.Instruction.the-variants.{Add, S
 use Rattle.machine_model.specs.declared.Fate.{Fate}
 use Rattle.machine_model.specs.declared.Fate.the-variants.{Executed}
 use Rattle.machine_model.specs.declared.Entry.{Entry}
-use Rattle.machine_model.specs.Program.{sOf, kind, destination}
+use Rattle.machine_model.specs.Program.{sOf, kind, destination, sum}
 use Rattle.engine.specs.declared.Action.the-variants.{Compute, LoadAt, StoreAt, PartAt}
 use Rattle.engine.specs.declared.Action.{Action}
 use Rattle.machine_model.specs.Window.{
@@ -37,7 +37,7 @@ use Rattle.machine_model.specs.Window.{
   partStored,
   evaluate,
 }
-use Rattle.machine_model.specs.Calls.{answerBy, loadValue}
+use Rattle.machine_model.specs.Calls.{valueBy, answerBy, loadValue}
 use Rattle.machine_model.specs.computed.Parts.{registerNumber, destinationAt, writer, entriesOf, actionOf, second}
 
 -- the entry's fate after it, where the memory is seen as μ
@@ -176,34 +176,29 @@ reference-ready i x y act μ e =
     let n = ready-numbers x y (actionOf i) act e in
     rw (n .2) at (reference-after i (n .0) (n .1) μ)
 
-value-after : (i : Instruction) (x y : ℕ) (μ : ℕ → ℕ)
-    → loadValue i (fateAfter μ (actionOf i x y)) ≡ answerOf μ (actionOf i x y)
-value-after (Add d s imm) x y μ = refl
-value-after (Sum d s r) x y μ = refl
-value-after (Load d s imm) x y μ = refl
-value-after (Store d s imm) x y μ = refl
-value-after (Byte d s imm) x y μ = refl
-value-after (Half d s imm) x y μ = refl
+-- what g says of a load's fate, if that is what δ says of its address, and 0 of anything else
+answer-after : (i : Instruction) (x y : ℕ) (μ δ : ℕ → ℕ) (g : Fate → ℕ) → ((a : ℕ) → g (Executed (μ a) a) ≡ δ a)
+    → answerBy (kind i) (g (fateAfter μ (actionOf i x y))) ≡ answerOf δ (actionOf i x y)
+answer-after (Add d s imm) x y μ δ g says = refl
+answer-after (Sum d s r) x y μ δ g says = refl
+answer-after (Load d s imm) x y μ δ g says = says (sum x imm)
+answer-after (Store d s imm) x y μ δ g says = refl
+answer-after (Byte d s imm) x y μ δ g says = refl
+answer-after (Half d s imm) x y μ δ g says = refl
+
+answer-ready : (i : Instruction) (x y : Option ℕ) (act : Action) (μ δ : ℕ → ℕ) (g : Fate → ℕ)
+    → ((a : ℕ) → g (Executed (μ a) a) ≡ δ a) → with₂ x y (actionOf i) ≡ some act
+    → answerBy (kind i) (g (fateAfter μ act)) ≡ answerOf δ act
+answer-ready i x y act μ δ g says e =
+    let n = ready-numbers x y (actionOf i) act e in
+    rw (n .2) at (answer-after i (n .0) (n .1) μ δ g says)
 
 -- the value that an execute answers is the word that the action reads
 pub value-ready : (i : Instruction) (x y : Option ℕ) (act : Action) (μ : ℕ → ℕ)
     → with₂ x y (actionOf i) ≡ some act → loadValue i (fateAfter μ act) ≡ answerOf μ act
-value-ready i x y act μ e =
-    let n = ready-numbers x y (actionOf i) act e in
-    rw (n .2) at (value-after i (n .0) (n .1) μ)
-
-distance-after : (i : Instruction) (x y : ℕ) (μ δ : ℕ → ℕ)
-    → answerBy (kind i) (δ (addressBy (fateAfter μ (actionOf i x y)))) ≡ answerOf δ (actionOf i x y)
-distance-after (Add d s imm) x y μ δ = refl
-distance-after (Sum d s r) x y μ δ = refl
-distance-after (Load d s imm) x y μ δ = refl
-distance-after (Store d s imm) x y μ δ = refl
-distance-after (Byte d s imm) x y μ δ = refl
-distance-after (Half d s imm) x y μ δ = refl
+value-ready i x y act μ = answer-ready i x y act μ μ valueBy (λ a. refl)
 
 -- the distance that it answers is that of the address read
 pub distance-ready : (i : Instruction) (x y : Option ℕ) (act : Action) (μ δ : ℕ → ℕ)
     → with₂ x y (actionOf i) ≡ some act → answerBy (kind i) (δ (addressBy (fateAfter μ act))) ≡ answerOf δ act
-distance-ready i x y act μ δ e =
-    let n = ready-numbers x y (actionOf i) act e in
-    rw (n .2) at (distance-after i (n .0) (n .1) μ δ)
+distance-ready i x y act μ δ = answer-ready i x y act μ δ (λ (f : Fate). δ (addressBy f)) (λ a. refl)
