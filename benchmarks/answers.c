@@ -6,7 +6,8 @@
 #include <stdio.h>
 #include <string.h>
 
-enum { SHOWN = 3, SPOILED_CALLS = 60, WHOLE_CALLS = 600, LONG_CALLS = 2000 };
+// The parts of a table that are spoiled are those up to TAKEN.
+enum { SHOWN = 3, SPOILED_CALLS = 60, WHOLE_CALLS = 600, LONG_CALLS = 2000, TAKEN = 11 };
 
 static const size_t memories[] = {96, 40, 41, 75, 76, 36};
 static size_t runs, differing, passed, failed;
@@ -74,14 +75,28 @@ static void whole(struct sizes sizes, size_t mix)
     }
 }
 
+// Sixteen stages, and rows enough for many of them.
+static struct sizes long_window(uint32_t times)
+{
+    return (struct sizes){1 << times % 4, 8 - times / 4 % 3, 16, 96};
+}
+
 // Runs in which windows of sixteen stages are full now and then, so that far references meet.
 static void long_windows(enum mix mix)
 {
     for (uint32_t times = 0; times < 2000; times++) {
-        struct job j = prepared(mix, (struct sizes){1 << times % 4, 8 - times / 4 % 3, 16, 96});
+        struct job j = prepared(mix, long_window(times));
         j.calls = LONG_CALLS;
         run(&j);
     }
+}
+
+// Loads and stores of few words, so that more of them meet.
+static void crowd(size_t numbers)
+{
+    for (uint32_t *i = program; i < program + numbers; i += 4)
+        if (i[0] >= 3)
+            i[3] %= 4;
 }
 
 // One part is spoiled, and after 5, 15 or 40 calls more the run is over.
@@ -97,12 +112,21 @@ static void spoiled(enum mix mix, struct sizes sizes, size_t part)
         if (part == 3 && times % 2)
             j.spoiling.by = 0 - (1 + by % 40);
         // a short program, after which its last instruction stands once more
-        if (part > 10 && times % 2) {
+        if (part > TAKEN && times % 2) {
             j.numbers = 32;
             memcpy(program + 32, program + 28, 4 * sizeof *program);
         }
+        if (part == TAKEN)
+            crowd(j.numbers);
         run(&j);
     }
+}
+
+// A spoiled word that a load took shows where an older store comes later: in long windows more do.
+static void taken_far(enum mix mix)
+{
+    for (uint32_t times = 0; times < 700; times++)
+        spoiled(mix, long_window(times), TAKEN);
 }
 
 static void spoiled_buffer(struct sizes sizes, size_t part)
@@ -220,15 +244,19 @@ static void all_spoiled(void)
 {
     static const char *const names[] = {"banks", "rows", "stages", "words", "oldest", "live", "executed",
                                         "load marks", "store marks", "addresses", "marks of a row",
-                                        "count", "entries", "live entries", "distances"};
+                                        "words taken", "count", "entries", "live entries", "distances"};
     char name[64];
-    for (size_t part = 0; part < 15; part++) {
+    for (size_t part = 0; part < 16; part++) {
         snprintf(name, sizeof name, "%s spoiled", names[part]);
-        if (part < 11) {
+        if (part <= TAKEN) {
             every_table(spoiled_buffer, part);
+            if (part == TAKEN)
+                taken_far(BUFFER);
             close_batch(BUFFER, name);
         }
         every_table(spoiled_machine, part);
+        if (part == TAKEN)
+            taken_far(MACHINE);
         close_batch(MACHINE, name);
     }
 }

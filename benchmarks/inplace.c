@@ -184,15 +184,15 @@ static inline struct source forwarded(const struct table *t, size_t r, size_t po
     return (struct source){address < memory.length ? memory.words[address] : 0, 0};
 }
 
-// How many references stay when one at this position stores: those before the first younger stage with a mark, if
-// it has a load mark. In an evicted row that stage is the first squashed anyway.
-static inline size_t left_by_store(const struct table *t, struct place place, size_t position)
+// How many references stay when one at this position stores this word: those before the first younger stage with a
+// mark, if it has a load mark and took another word. In an evicted row that stage is the first squashed anyway.
+static inline size_t left_by_store(const struct table *t, struct place place, size_t position, uint32_t word)
 {
     uint32_t marks = marks_of(t, place.row);
     uint32_t younger = marks ? turned(t, marks) >> position >> 1 : 0;
     if (younger) {
-        size_t met = position + 1 + __builtin_ctz(younger);
-        if (t->loads[place.row] >> stage_at(t, met) & 1)
+        size_t met = position + 1 + __builtin_ctz(younger), s = stage_at(t, met);
+        if (t->loads[place.row] >> s & 1 && t->taken[s] != word)
             return met;
     }
     return place.left;
@@ -224,6 +224,7 @@ static unsigned load_step(struct table *t, size_t s, uint32_t address, struct me
     out->distance = source.distance;
     enter(t, s, place, address, out);
     t->loads[place.row] |= UINT32_C(1) << s;
+    t->taken[s] = source.word;
     return 0;
 }
 
@@ -233,7 +234,7 @@ static unsigned store_step(struct table *t, size_t s, uint32_t address, uint32_t
     struct place place = place_for(t, address, position);
     if (place.left == 0)
         return 10;
-    place.left = left_by_store(t, place, position);
+    place.left = left_by_store(t, place, position, value);
     out->value = out->distance = 0;
     enter(t, s, place, address, out);
     t->stores[place.row] |= UINT32_C(1) << s;
@@ -260,12 +261,14 @@ static unsigned part_step(struct table *t, size_t s, enum part part, uint32_t by
     struct place place = place_for(t, address, position);
     if (place.left == 0)
         return 10;
-    *whole = merged(part, byte, forwarded(t, place.row, position, address, memory).word, from);
-    place.left = left_by_store(t, place, position);
+    uint32_t taken = forwarded(t, place.row, position, address, memory).word;
+    *whole = merged(part, byte, taken, from);
+    place.left = left_by_store(t, place, position, *whole);
     out->value = out->distance = 0;
     enter(t, s, place, address, out);
     t->loads[place.row] |= UINT32_C(1) << s;
     t->stores[place.row] |= UINT32_C(1) << s;
+    t->taken[s] = taken;
     t->values[s] = *whole;
     return 0;
 }
@@ -711,6 +714,12 @@ static uint32_t address_drawn(size_t drawn)
     return (drawn & drawn / 16) % 16 * 5;
 }
 
+// One of four words, so that stores of a word already there are drawn.
+static uint32_t word_drawn(size_t drawn)
+{
+    return drawn / 4096 % 4 * 305419896;
+}
+
 static enum part part_drawn(size_t drawn)
 {
     return drawn / 1024 % 2 ? HALF : BYTE;
@@ -729,6 +738,13 @@ static void spoil_marks(struct table *t, size_t x)
         t->stores[r] ^= x < 24576 ? t->loads[r] : bit;
 }
 
+// Every load took this word.
+static void spoil_taken(struct table *t, size_t x)
+{
+    for (size_t s = 0; s < 16; s++)
+        t->taken[s] = word_drawn(x);
+}
+
 static void spoil(struct table *t, size_t what, size_t x)
 {
     size_t r = x % 64;
@@ -745,7 +761,8 @@ static void spoil(struct table *t, size_t what, size_t x)
     case 7: t->loads[r] ^= outside ? 0 : bit; break;
     case 8: t->stores[r] = outside ? t->stores[r] : x < 16384 ? t->stores[r] ^ bit : marks_of(t, r); break;
     case 9: t->addresses[r] = outside ? t->addresses[r] : address_drawn(x / 64); break;
-    default: spoil_marks(t, x);
+    case 10: spoil_marks(t, x); break;
+    default: spoil_taken(t, x);
     }
 }
 
@@ -779,10 +796,10 @@ uint64_t inplace_buffer(struct sizes sizes, uint32_t calls, uint64_t seed, struc
         if (kind < 25)
             why = buffer_load(&t, ticket, address, memory, &out);
         else if (kind < whole)
-            why = buffer_store(&t, ticket, address, bits(second), memory, &out);
+            why = buffer_store(&t, ticket, address, word_drawn(bits(second)), memory, &out);
         else if (kind < 30)
             why = buffer_part(&t, ticket, part_drawn(bits(second)), address * 4 + bits(second) / 256 % 4,
-                              (uint32_t)(second / 134217728), memory, &out);
+                              word_drawn(bits(second)), memory, &out);
         else
             why = buffer_other(&t, ticket, memory, &out);
         sum = with_executed(sum, why, &out);
@@ -836,14 +853,14 @@ static void spoil_machine(struct machine *m, size_t what, size_t x)
 {
     struct table *t = &m->table;
     size_t s = t->stages ? (t->oldest + x / 128) % t->stages % 16 : 0;
-    if (what < 11)
+    if (what < 12)
         spoil(t, what, x);
-    else if (what == 11)
-        m->count++;
     else if (what == 12)
+        m->count++;
+    else if (what == 13)
         spoil_entry(&m->window[x / 128 % 16], x % 4, x);
     else
-        spoil_entry(&m->window[s], what == 13 ? 3 + x % 8 : 11, x);
+        spoil_entry(&m->window[s], what == 14 ? 3 + x % 8 : 11, x);
 }
 
 uint64_t inplace_machine(struct sizes sizes, uint32_t calls, uint64_t seed, struct spoiling spoiling,

@@ -6,12 +6,12 @@
 #include <stddef.h>
 #include <stdint.h>
 
-// Row i of bank b is at b * 8 + i; rows past `rows` and banks past `banks` are not in the table. A store's
-// value stands at its stage.
+// Row i of bank b is at b * 8 + i; rows past `rows` and banks past `banks` are not in the table. The word that a
+// store stores stands at its stage, and beside it the one that a load took.
 struct table {
     size_t banks, rows, stages, words, oldest, live;
     uint32_t next, executed;
-    uint32_t numbers[16], addresses[64], loads[64], stores[64], values[16];
+    uint32_t numbers[16], addresses[64], loads[64], stores[64], values[16], taken[16];
 };
 
 struct sizes {

@@ -1,10 +1,10 @@
 //! Demand 3, asserted of the player itself: its commits are the sequential run, and it never gets stuck. Beside it, how
-//! far the word of each load came.
+//! far the word of each load came, and that a store squashes what it makes wrong and nothing else.
 
 use crate::machine::{Commit, Machine};
 use crate::rules::Rules;
 use crate::run::{Recorded, Run};
-use crate::window::{Access, Code, Entry, Fate, Instruction, Window};
+use crate::window::{Access, Code, Entry, Execution, Fate, Instruction};
 
 pub struct Check {
     run: Run,
@@ -27,15 +27,16 @@ impl Check {
         self.run.ahead()
     }
 
-    /// An execution at position `k` of this window; `entry` is what it became.
-    pub fn executed(&mut self, before: &Window, memory: &[u32], k: usize, entry: &Entry) {
+    pub fn executed(&mut self, execution: &Execution, memory: &[u32]) {
+        let Execution { before, k, entry, .. } = execution;
         match entry.access() {
             Some(Access { number, .. }) if entry.is(Code::L) => {
-                came(&before.live[..k], memory, number, entry)
+                came(&before.live[..*k], memory, number, entry)
             }
             _ => assert_eq!(entry.distance, 0, "a distance of no load"),
         }
         self.distances[entry.index] = entry.distance;
+        caused(execution);
     }
 
     pub fn committed(&mut self, commit: Commit) {
@@ -48,6 +49,7 @@ impl Check {
     pub fn state<R: Rules>(&self, machine: &Machine<R>) {
         assert_eq!(self.run.registers, machine.registers, "registers are not those of the sequential run");
         assert_eq!(self.run.memory, machine.memory, "memory is not that of the sequential run");
+        faithful(&machine.window.live, &machine.memory);
         self.progress(machine.clone());
     }
 
@@ -82,8 +84,7 @@ fn came(older: &[Entry], memory: &[u32], address: u32, load: &Entry) {
     match after.split_first() {
         None => {
             assert!(before.iter().all(Option::is_none), "no distance although an older store is to the word");
-            let word = memory.get(address as usize).copied().unwrap_or(0);
-            assert_eq!(load.value(), Some(word), "no distance and not memory's word");
+            assert_eq!(load.value(), Some(seen(&[], memory, address)), "no distance and not memory's word");
         }
         Some((word, between)) => {
             assert!(word.is_some(), "the distance is not to a store to the word");
@@ -91,6 +92,40 @@ fn came(older: &[Entry], memory: &[u32], address: u32, load: &Entry) {
             assert!(between.iter().all(Option::is_none), "a store to the word stands between");
         }
     }
+}
+
+/// Each load side holds the word that the older ones and memory give it now. A load that a store leaves alone is right
+/// because of it.
+fn faithful(live: &[Entry], memory: &[u32]) {
+    for (k, entry) in live.iter().enumerate() {
+        let Fate::Executed { value, access: Some(Access { number, taken, .. }) } = entry.fate else {
+            continue;
+        };
+        let address = match entry.code() {
+            Code::B | Code::H => number / 4,
+            _ => number,
+        };
+        let word = entry.code().loads().then(|| seen(&live[..k], memory, address));
+        assert_eq!(taken, word, "a load side does not hold the word that is seen there now");
+        assert!(!entry.is(Code::L) || word == Some(value), "a load has another value than the word it took");
+    }
+}
+
+/// Without an eviction what goes is a load side that took another word than the one stored.
+fn caused(execution: &Execution) {
+    let Execution { before, entry, left, .. } = execution;
+    if execution.squashed_by() == Some("violation") {
+        let first = before.live[*left];
+        let wrong =
+            first.mark() == entry.mark() && first.taken().is_some_and(|word| Some(word) != entry.value());
+        assert!(entry.code().stores() && wrong, "what was squashed was right");
+    }
+}
+
+/// The word that is seen behind these.
+fn seen(older: &[Entry], memory: &[u32], address: u32) -> u32 {
+    let nearest = older.iter().rev().find_map(|entry| stored(entry, address));
+    nearest.unwrap_or_else(|| memory.get(address as usize).copied().unwrap_or(0))
 }
 
 /// What an entry stored at an address, if it did.

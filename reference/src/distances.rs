@@ -1,8 +1,7 @@
 //! How far the words of loads came: noted when a load executes, counted when it commits, since only then it shows.
 
 use crate::events::{Events, CHANGES};
-use crate::rules::{Rules, Stated};
-use crate::window::{Code, Entry, Window};
+use crate::window::{Code, Entry, Execution, Window};
 use std::collections::{BTreeSet, HashMap};
 
 #[derive(Default)]
@@ -23,6 +22,18 @@ struct Note {
     kinds: BTreeSet<String>,
 }
 
+impl Note {
+    /// A store of this index, older than the load, executed to its word.
+    fn overtaken(&mut self, load: usize, store: usize) {
+        let older = self.distance > 0 && store < load - self.distance;
+        self.kinds.insert(if older {
+            "distance kept, an older store executed to its word".into()
+        } else {
+            format!("distance {:2} though a store is nearer", self.distance)
+        });
+    }
+}
+
 impl Distances {
     pub fn issued(&mut self, index: usize, stages: usize) {
         let committed = self.commits.len();
@@ -33,28 +44,17 @@ impl Distances {
         self.keep(|load, note| taken(load, note), "its store's stage was issued again");
     }
 
-    /// An execution at position `k` that was not refused, by finish or not; `entry` is what it became.
-    pub fn executed(
-        &mut self,
-        events: &mut Events,
-        before: &Window,
-        memory: &[u32],
-        k: usize,
-        entry: Entry,
-        finished: bool,
-    ) {
-        let (Some(word), Some(value)) = (entry.mark(), entry.value()) else { return };
-        let stores = entry.code().stores();
-        let violation = Stated.violation(before, k, word, value).filter(|_| stores);
-        match (Stated.room(before, k, word), violation) {
-            (Ok(Some(from)), _) => self.squashed(before, from, "eviction"),
-            (_, Some(from)) => self.squashed(before, from, "violation"),
-            _ if stores => {
-                let at = |load: &&Entry| load.mark() == Some(word);
-                let loads: Vec<usize> = before.live[k..].iter().filter(at).map(|load| load.index).collect();
-                self.keep(|load, _| loads.contains(&load), "an older store executed to its word");
+    /// What it squashes is told apart from it.
+    pub fn executed(&mut self, events: &mut Events, execution: &Execution, memory: &[u32]) {
+        let Execution { before, k, entry, left, finished } = *execution;
+        if entry.code().stores() {
+            let at_word = |load: &&Entry| load.mark() == entry.mark();
+            for load in before.live[k..left].iter().filter(at_word) {
+                self.notes
+                    .get_mut(&load.index)
+                    .into_iter()
+                    .for_each(|note| note.overtaken(load.index, entry.index));
             }
-            _ => {}
         }
         if entry.is(Code::L) {
             let kinds = kinds(events, before, memory, k, entry);

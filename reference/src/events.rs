@@ -4,13 +4,37 @@ use crate::window::{Code, CODES, LOADS, PARTS, STORES};
 use std::collections::HashMap;
 use std::sync::OnceLock;
 
-const SINGLE: [&str; 136] = [
+const SINGLE: [&str; 160] = [
     "issue wrapped",
     "re-issued executed late",
     "re-issued executed late, wrapped",
-    "violation by the same word",
     "violation squashing past the wrap",
+    "violation of a word 0",
+    "violation by a word 0",
+    "violation by memory's word",
+    "violation of a part that kept another",
     "store between",
+    "kept, 0 of memory",
+    "kept, a word of memory",
+    "kept, 0 of an older store",
+    "kept, a word of an older store",
+    "kept, a word above 2147483647",
+    "kept, memory has another word",
+    "kept at word 0",
+    "kept at W or more",
+    "kept at W or more, a word of an older store",
+    "kept in a full bank",
+    "kept, a store waits between",
+    "kept, its register was used",
+    "kept, an odd H",
+    "kept by an odd H",
+    "kept, then squashed by violation",
+    "kept, then squashed by eviction",
+    "kept, then squashed by q",
+    "kept and committed by c",
+    "kept and committed by x",
+    "kept more than once and committed",
+    "eviction by a store of the word taken",
     "full bank, an address marked on both sides",
     "forward with a choice",
     "forward across the wrap",
@@ -158,13 +182,23 @@ const OUTSIDE: [&str; 9] = ["B 0", "B 3", "B 16", "R 0", "R 9", "n 0", "n 17", "
 
 /// Events of a bad line that are told by its letter, too.
 pub const SPOILED: [&str; 3] = ["field missing", "field extra", "instruction after a step"];
+/// What a store and a load side can be to each other.
+const OF_PAIR: [&str; 8] = [
+    "forward",
+    "violation",
+    "violation by x",
+    "violation of one kept before",
+    "store between",
+    "kept by x",
+    "kept again",
+    "kept and committed",
+];
 /// What a store of a part can meet.
-const OF_PART: [&str; 9] = [
+const OF_PART: [&str; 8] = [
     "of a larger register",
     "into a word of memory",
     "into a forwarded word unlike memory's",
     "of the word already there",
-    "violates by the word already there",
     "in another bank than its byte number's",
     "at W or more takes a forwarded word",
     "committed at a byte number of W or more",
@@ -197,7 +231,7 @@ fn all() -> Vec<String> {
     let mut names: Vec<String> = SINGLE.map(String::from).into();
     let tables = BANKS.into_iter().flat_map(|banks| (1..=8).map(move |rows| (banks, rows)));
     let tables: Vec<(u32, u32)> = tables.collect();
-    for kind in ["eviction", "refusal 10", "distance"] {
+    for kind in ["eviction", "refusal 10", "distance", "kept"] {
         names.extend(tables.iter().map(|(banks, rows)| format!("{kind}, B {banks} R {rows}")));
     }
     names.extend((2..=8).map(|rows| format!("eviction with a choice, R {rows}")));
@@ -209,6 +243,8 @@ fn all() -> Vec<String> {
         names.extend((1..=15).map(|distance| format!("distance {distance:2} by {code:?}")));
     }
     names.extend((1..=15).map(|distance| format!("distance {distance:2} across the wrap")));
+    let passed = [0].into_iter().chain(2..=15);
+    names.extend(passed.map(|distance| format!("distance {distance:2} though a store is nearer")));
     names.extend((2..=16).map(|stages| format!("distance n - 1, n {stages:2}")));
     for (step, store) in [("c", "c"), ("c", "x"), ("x", "c"), ("x", "x")] {
         names.push(format!("distance told by {step}, its store committed by {store}"));
@@ -220,6 +256,17 @@ fn all() -> Vec<String> {
         names.push(format!("f line, index of {index} digits, distance of {distance}"));
     }
     names.extend((1..=16).map(|stages| format!("window full, n {stages:2}")));
+    names.extend((1..=15).map(|positions| format!("kept over {positions:2} across the wrap")));
+    names.extend((2..=16).map(|stages| format!("kept over n - 1, n {stages:2}")));
+    names.extend((0..16).map(|stage| format!("kept at stage {stage:2}")));
+    for store in ["", " and an S"] {
+        names.extend(
+            ["the same", "another"].map(|word| format!("kept, behind it{store} one that took {word} word")),
+        );
+    }
+    for side in ["lower", "upper"] {
+        names.extend([8, 16, 31].map(|bits| format!("violation, {bits} {side} bits are alike")));
+    }
     names.extend(BANKS.map(|banks| format!("size B {banks}")));
     names.extend((1..=8).map(|rows| format!("size R {rows}")));
     names.extend([1, 4096].map(|words| format!("size W {words}")));
@@ -240,6 +287,9 @@ fn of_code(code: Code) -> Vec<String> {
     if code == Code::P || code.stores() {
         kinds.push(format!("refusal 9 of the second operand of {code:?}"));
     }
+    if code.loads() {
+        kinds.push(format!("kept, behind it {code:?} that took another word"));
+    }
     if code.loads() || code.stores() {
         kinds.extend(["by", "of"].map(|word| format!("eviction {word} {code:?}")));
         kinds.extend([10, 13].map(|number| format!("refusal {number} of {code:?}")));
@@ -248,8 +298,9 @@ fn of_code(code: Code) -> Vec<String> {
     if code.stores() {
         kinds.push(format!("operand past a store of the register, {code:?}"));
         for load in LOADS {
-            let pair = |event| format!("{event}, {code:?} and {load:?}");
-            kinds.extend(["forward", "violation", "store between"].map(pair));
+            let over = |positions| format!("kept over {positions:2} of {load:?} by {code:?}");
+            kinds.extend((1..=15).map(over));
+            kinds.extend(OF_PAIR.map(|event| format!("{event}, {code:?} and {load:?}")));
         }
     }
     if code.is_part() {
@@ -263,6 +314,10 @@ fn of_code(code: Code) -> Vec<String> {
             kinds.extend(["beside", "over"].map(|how| format!("{code:?} {how} {older:?}")));
         }
         kinds.extend(OF_PART.map(|event| format!("{code:?} {event}")));
+        kinds.extend(["the same", "another"].map(|word| format!("kept, {code:?} that stored {word} word")));
+        kinds.push(format!("kept by {code:?}, the word has more than its part"));
+        kinds.push(format!("violation, {code:?} that stored the same word"));
+        kinds.push(format!("violation by {code:?}, its part is the word taken"));
     }
     kinds
 }

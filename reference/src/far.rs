@@ -46,10 +46,10 @@ pub fn far(random: &mut Random, store: Code, distance: usize, way: u64) -> Draft
     let early: Vec<u32> = (0..stages).filter(early).map(|position| position as u32).collect();
     let ending = random.below(ENDINGS);
     let mut prober = Prober::new(random, sizes, program.clone());
-    prober.start(start as u32, stages as u32);
+    prober.start(start as u32);
     prober.executes(&early);
     prober.executes(&[place as u32, (place + distance) as u32]);
-    Draft::new(sizes, program, shown(prober, ending, start + place, stages))
+    Draft::new(sizes, program, shown(prober, ending, start + place))
 }
 
 /// Sums, stores to one word and loads of another, and where they concern nobody references to the word itself.
@@ -63,7 +63,7 @@ fn filler(random: &mut Random, late: bool) -> Instruction {
 }
 
 /// The store is at this index. It and what is older commit first in most of the endings.
-fn shown(mut prober: Prober, ending: usize, store: usize, stages: usize) -> Vec<Step> {
+fn shown(mut prober: Prober, ending: usize, store: usize) -> Vec<Step> {
     match ending {
         0 => prober.take(Step::Finish(300)),
         1 => prober.finish_through(store),
@@ -74,7 +74,7 @@ fn shown(mut prober: Prober, ending: usize, store: usize, stages: usize) -> Vec<
         3 | 4 => {
             // What is issued now takes the stages of the store and of what was older.
             prober.commit_through(store);
-            (0..stages).for_each(|_| prober.take(Step::Issue));
+            prober.fill();
             prober.all(Order::Oldest);
         }
         _ => {}
@@ -109,7 +109,7 @@ pub fn again(random: &mut Random, cause: Cause) -> Draft {
     let called = random.pick(&[older, guide, guide, nearer, load]);
     let (taught, drained, finished) = (!random.one_in(4), random.one_in(4), !random.one_in(4));
     let mut prober = Prober::new(random, sizes, program.clone());
-    prober.start(start as u32, stages as u32);
+    prober.start(start as u32);
     first.into_iter().for_each(|index| prober.execute_index(index));
     prober.execute_index(load);
     match cause {
@@ -123,7 +123,7 @@ pub fn again(random: &mut Random, cause: Cause) -> Draft {
     if drained {
         prober.commit_through(older);
     }
-    (0..stages).for_each(|_| prober.take(Step::Issue));
+    prober.fill();
     if finished {
         prober.all(Order::Oldest);
         prober.take(Step::Finish(stages as u32));

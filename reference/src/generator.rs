@@ -1,6 +1,7 @@
 //! Scripts from a seed: full banks, pairs at both ends of a window, words over every distance, loads executed again,
-//! parts of words at the end of memory and at odd places, lines spoiled by every byte, in every way and by every limit,
-//! huge ones, long programs, short scripts that probe windows before they finish, and malformed ones.
+//! stores of the word already there and of nearly that word, parts of words at the end of memory and at odd places, lines
+//! spoiled by every byte, in every way and by every limit, huge ones, long programs, short scripts that probe windows
+//! before they finish, and malformed ones.
 
 use crate::events::{BANKS, WAYS};
 use crate::far::{again, far, CAUSES};
@@ -9,14 +10,17 @@ use crate::prober::Prober;
 use crate::random::Random;
 use crate::reach::{cut_positions, edge, full_bank, guarded, pair, EDGES, PAIRS};
 use crate::rules::MOST_INSTRUCTIONS;
+use crate::same::{amiss, same, unlike};
 use crate::spoil::{just_beyond, spoil, spoil_by, spoil_line, BEYOND, SPOILED_LINES};
 use crate::taste::Taste;
 use crate::text::{Line, Step};
 use crate::window::{Instruction, Sizes, LOADS, STORES};
 
-/// So many seeds in a row reach every table, every long pair, every distance of a word, every limit, every spoiled line
-/// and every byte, this in one of its ways.
+/// So many seeds in a row reach every table, every long pair, every distance of a word and of a kept load, every limit,
+/// every spoiled line and every byte, this in one of its ways.
 const ROUND: u64 = 1000;
+/// How many texts `slight` knows.
+const SLIGHT: usize = 8;
 
 pub fn generate(seed: u64) -> Vec<u8> {
     let random = &mut Random::new(seed);
@@ -27,23 +31,27 @@ pub fn generate(seed: u64) -> Vec<u8> {
             let (draft, way) = (Draft::probing(random), WAYS[(seed / ROUND % 3) as usize]);
             spoil_by(random, draft, way, turn as u8)
         }
-        256..=415 => full_bank(random, BANKS[turn % 4], 1 + (turn / 4 % 8) as u32).text(),
-        416..=559 => pair(random, PAIRS[turn % 4], 4 + turn / 4 % 12).text(),
-        560..=569 => cut_positions(random).text(),
-        570..=609 => {
+        256..=383 => full_bank(random, BANKS[turn % 4], 1 + (turn / 4 % 8) as u32).text(),
+        384..=479 => pair(random, PAIRS[turn % 4], 4 + turn / 4 % 12).text(),
+        480..=489 => cut_positions(random).text(),
+        490..=529 => {
             let draft = Draft::probing(random);
             just_beyond(random, draft, turn % BEYOND)
         }
-        610..=664 => edge(random, turn % EDGES).text(),
-        665..=682 => guarded(random, STORES[turn % 3], LOADS[turn / 3 % 3]).text(),
-        683..=727 => far(random, STORES[turn % 3], 1 + turn / 3 % 15, seed / ROUND % 3).text(),
-        728..=787 => again(random, CAUSES[turn % 3]).text(),
-        788..=827 => {
+        530..=584 => edge(random, turn % EDGES).text(),
+        585..=602 => guarded(random, STORES[turn % 3], LOADS[turn / 3 % 3]).text(),
+        603..=647 => far(random, STORES[turn % 3], 1 + turn / 3 % 15, seed / ROUND % 3).text(),
+        648..=707 => again(random, CAUSES[turn % 3]).text(),
+        708..=747 => {
             let draft = Draft::probing(random);
             spoil_line(random, draft, turn % SPOILED_LINES)
         }
-        828..=833 => huge(random, turn % 2),
-        834..=839 => crowded(random, MOST_INSTRUCTIONS + turn % 2),
+        748..=753 => huge(random, turn % 2),
+        754..=759 => crowded(random, MOST_INSTRUCTIONS + turn % 2),
+        760..=804 => same(random, STORES[turn % 3], 1 + turn / 3 % 15, (seed / ROUND % 3) as usize).text(),
+        805..=840 => unlike(random, STORES[turn % 3]).text(),
+        841..=849 => amiss(random, turn % 9).text(),
+        850..=857 => slight(random, turn % SLIGHT),
         _ => any(random),
     }
 }
@@ -52,7 +60,10 @@ fn any(random: &mut Random) -> Vec<u8> {
     match random.below(300) {
         0..=7 => huge(random, 5000),
         8..=17 => crowded(random, MOST_INSTRUCTIONS),
-        18..=49 => slight(random),
+        18..=49 => {
+            let which = random.below(SLIGHT);
+            slight(random, which)
+        }
         50..=109 => {
             let draft = Draft::probing(random);
             spoil(random, draft)
@@ -145,15 +156,16 @@ fn crowded(random: &mut Random, length: usize) -> Vec<u8> {
 }
 
 /// Texts with hardly anything in them.
-fn slight(random: &mut Random) -> Vec<u8> {
+fn slight(random: &mut Random, which: usize) -> Vec<u8> {
     let mut draft = Draft::probing(random);
-    match random.below(7) {
+    match which {
         0 => return Vec::new(),
-        1 => return random.pick(&["\n", "\n\n", "N,1,1,1,1", "i\n", "N,1,1,1,1\n\n"]).into(),
-        2 => draft.lines.truncate(1),
-        3 => draft.lines.truncate(draft.steps),
-        4 => drop(draft.lines.drain(1..draft.steps)),
-        5 => draft.lines.truncate(draft.steps + 1),
+        1 => return random.pick(&["\n", "\n\n", "N,1,1,1,1", "N,1,1,1,1\n\n"]).into(),
+        2 => return random.pick(&["i\n", "x,1\n", "A,1,0,1\n"]).into(),
+        3 => draft.lines.truncate(1),
+        4 => draft.lines.truncate(draft.steps),
+        5 => drop(draft.lines.drain(1..draft.steps)),
+        6 => draft.lines.truncate(draft.steps + 1),
         _ => draft.lines.insert(1, draft.lines[0].clone()),
     }
     draft.text()

@@ -105,7 +105,7 @@ impl<R: Rules> Machine<R> {
         }
         let Instruction { code, d, .. } = oldest.instruction;
         let target = match access {
-            Some(Access { number, word }) if code.stores() => {
+            Some(Access { number, word, .. }) if code.stores() => {
                 self.memory[word as usize] = value;
                 number
             }
@@ -176,7 +176,7 @@ impl<R: Rules> Machine<R> {
     fn load(&mut self, k: usize, address: u32) -> Result<Executed, u32> {
         let squashed = self.rules.room(&self.window, k, address)?;
         let (value, distance) = self.taken(k, address);
-        self.mark(k, value, Access { number: address, word: address }, squashed);
+        self.mark(k, value, Access { number: address, word: address, taken: Some(value) }, squashed);
         self.window.live[k].distance = distance;
         Ok(Executed { value, distance, squashed })
     }
@@ -186,10 +186,10 @@ impl<R: Rules> Machine<R> {
         let code = self.window.live[k].code();
         let word = self.rules.word(code, number);
         let evicted = self.rules.room(&self.window, k, word)?;
-        let whole =
-            if code.is_part() { self.rules.merge(code, number, self.taken(k, word).0, value) } else { value };
+        let taken = code.is_part().then(|| self.taken(k, word).0);
+        let whole = taken.map_or(value, |taken| self.rules.merge(code, number, taken, value));
         let squashed = evicted.or_else(|| self.rules.violation(&self.window, k, word, whole));
-        self.mark(k, whole, Access { number, word }, squashed);
+        self.mark(k, whole, Access { number, word, taken }, squashed);
         Ok(Executed { value: 0, distance: 0, squashed })
     }
 

@@ -10,7 +10,7 @@ const ROUNDS: usize = 20;
 /// The largest script: three instructions issued, executed out of order with a violation, and squashed, again and again.
 fn script() -> Vec<u8> {
     let steps: &[u8] = b"i\ni\ni\ne,1\ne,2\ne,0\nq,0\n";
-    let mut text = b"N,2,4,16,64\nS,1,0,5\nL,2,0,5\nL,3,0,7\n".to_vec();
+    let mut text = b"N,2,4,16,64\nA,1,0,9\nS,1,0,5\nL,2,0,5\nL,3,0,7\nx,1\n".to_vec();
     while text.len() + steps.len() <= LONGEST {
         text.extend_from_slice(steps);
     }

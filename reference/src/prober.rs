@@ -30,9 +30,14 @@ impl<'a> Prober<'a> {
     }
 
     /// The first instructions are finished and a whole window is issued after them.
-    pub fn start(&mut self, finished: u32, stages: u32) {
+    pub fn start(&mut self, finished: u32) {
         self.take(Step::Finish(finished));
-        (0..stages).for_each(|_| self.take(Step::Issue));
+        self.fill();
+    }
+
+    /// As many issues as there are stages.
+    pub fn fill(&mut self) {
+        (0..self.machine.window.sizes.stages).for_each(|_| self.take(Step::Issue));
     }
 
     pub fn executes(&mut self, positions: &[u32]) {
@@ -60,6 +65,18 @@ impl<'a> Prober<'a> {
             }
             self.take(Step::Commit);
         }
+    }
+
+    /// Issues what comes before an index.
+    pub fn issue_before(&mut self, index: usize) {
+        (self.machine.next..index).for_each(|_| self.take(Step::Issue));
+    }
+
+    /// Finishes what comes before an index.
+    pub fn finish_before(&mut self, index: usize) {
+        let Machine { window, next, .. } = &self.machine;
+        let oldest = window.live.first().map_or(*next, |oldest| oldest.index);
+        self.take(Step::Finish((index - oldest) as u32));
     }
 
     pub fn finish_through(&mut self, index: usize) {
@@ -221,7 +238,7 @@ impl<'a> Prober<'a> {
 
     /// Executes what waits, or would if more were live than should be, and commits it all. No new issue makes
     /// up for a wrong squash.
-    fn sweep(&mut self) {
+    pub fn sweep(&mut self) {
         let live = self.machine.window.live.len();
         for k in 0..live + 2 {
             if self.machine.window.live.get(k).is_none_or(|entry| entry.waits()) {

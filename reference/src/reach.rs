@@ -37,7 +37,7 @@ pub fn full_bank(random: &mut Random, banks: u32, rows: u32) -> Draft {
     program.extend((0..length as u32).map(|step| reference(random, address(step))));
     let order = random.pick(&[Order::Youngest, Order::Youngest, Order::Oldest, Order::Oldest, Order::Any]);
     let mut prober = Prober::new(random, sizes, program.clone());
-    prober.start(turned, stages);
+    prober.start(turned);
     prober.all(order);
     Draft::new(sizes, program, prober.show())
 }
@@ -61,7 +61,7 @@ pub fn pair(random: &mut Random, pair: Pair, distance: usize) -> Draft {
         program.push(instruction);
     }
     let mut prober = Prober::new(random, sizes, program.clone());
-    prober.start(turned, stages);
+    prober.start(turned);
     if prober.heads() {
         prober.rest(&[place, place + distance]);
     }
@@ -102,7 +102,7 @@ pub fn edge(random: &mut Random, which: usize) -> Draft {
     if !open && prober.heads() {
         return Draft::new(sizes, program, prober.probe(40));
     }
-    prober.start(turned, stages);
+    prober.start(turned);
     prober.all(order);
     Draft::new(sizes, program, if open { prober.stop() } else { prober.show() })
 }
@@ -143,7 +143,7 @@ pub fn guarded(random: &mut Random, store: Code, load: Code) -> Draft {
         });
     }
     let mut prober = Prober::new(random, sizes, program.clone());
-    prober.start(turned, stages);
+    prober.start(turned);
     prober.executes(&[middle, young, old]);
     Draft::new(sizes, program, prober.show())
 }
@@ -158,7 +158,7 @@ pub fn cut_positions(random: &mut Random) -> Draft {
     let above = random.pick(&[256, 65_536, 1 << 24, 1 << 31]);
     let executed: Vec<u32> = (0..random.number(stages + 1)).collect();
     let mut prober = Prober::new(random, sizes, program.clone());
-    prober.start(turned, stages);
+    prober.start(turned);
     prober.executes(&executed);
     prober.cut(above);
     Draft::new(sizes, program, prober.commit_all())

@@ -18,11 +18,11 @@ pub trait Rules: Clone {
         store.map_or(0, |store| k - store)
     }
 
-    /// Where a store at position `k` squashes from. The value plays no part, and what loads and stores is met as a
-    /// load.
-    fn violation(&self, window: &Window, k: usize, address: u32, _value: u32) -> Option<usize> {
+    /// Where a store of this word at position `k` squashes from. The first younger one at the address decides alone: a
+    /// load side that took another word goes, one that took this word stays, and a store without one stays too.
+    fn violation(&self, window: &Window, k: usize, address: u32, value: u32) -> Option<usize> {
         let first = (k + 1..window.live.len()).find(|&p| window.live[p].mark() == Some(address))?;
-        window.live[first].code().loads().then_some(first)
+        window.live[first].taken().filter(|&taken| taken != value).map(|_| first)
     }
 
     /// A row for position `k`: had or free (nothing to squash), by eviction (where to squash from), or none.

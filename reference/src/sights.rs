@@ -148,7 +148,6 @@ fn store(events: &mut Events, before: &Window, k: usize, address: u32, entry: En
     let first = before.live[from];
     events.add(&format!("violation over {:2}", from - k));
     events.add(&format!("violation, {code:?} and {:?}", first.code()));
-    events.add_if(first.is(Code::L) && first.value() == Some(value), "violation by the same word");
     events.add_if(address >= before.sizes.words, "violation at W or more");
     events.add_if(before.live[from..].iter().any(odd), "odd H squashed by a store");
     let past = (from..before.live.len()).any(|p| before.stage(p) < before.stage(from));
@@ -165,7 +164,7 @@ struct Part {
 }
 
 fn part(events: &mut Events, before: &Window, k: usize, access: Access, part: Part) {
-    let (Access { number, word }, Part { code, whole, register, memory }) = (access, part);
+    let (Access { number, word, .. }, Part { code, whole, register, memory }) = (access, part);
     let mut add_if = |reached: bool, what: &str| events.add_if(reached, &format!("{code:?} {what}"));
     add_if(true, &format!("at byte {}", number % 4));
     let width = if code == Code::B { 8 } else { 16 };
@@ -177,8 +176,6 @@ fn part(events: &mut Events, before: &Window, k: usize, access: Access, part: Pa
     add_if(store.is_none() && rest(memory) != 0, "into a word of memory");
     add_if(store.is_some() && rest(taken) != rest(memory), "into a forwarded word unlike memory's");
     add_if(whole == taken, "of the word already there");
-    let violates = Stated.violation(before, k, word, whole).is_some();
-    add_if(whole == taken && violates, "violates by the word already there");
     let outside = word >= before.sizes.words;
     add_if(outside && store.is_some(), "at W or more takes a forwarded word");
     let bank = |address| before.sizes.bank(address);

@@ -23,6 +23,8 @@ pub struct Taste {
     constants: u32,
     /// What these constants are multiples of.
     scale: u32,
+    /// They are all the same, so that stores of the word already there are many.
+    alike: bool,
 }
 
 impl Taste {
@@ -40,17 +42,19 @@ impl Taste {
             faults: random.pick(&[0, 0, 0, 0, 0, 0, 2, 6, 20]),
             outside: sizes.words + far,
             parts: random.pick(&[0, 0, 2, 3, 4, 6]),
-            odd: random.pick(&[0, 0, 0, 0, 0, 0, 2, 5, 20]),
+            odd: random.pick(&[0, 0, 0, 0, 0, 2, 5, 20]),
             chained: random.one_in(5),
             below: random.one_in(8).then(|| 1 + random.number(9)),
             zero_written: random.one_in(12),
             constants: random.pick(&[0, 1, 2, 3, 3]),
-            scale: random.pick(&[10, 10, 0x0102_0304, 0xf1e2_d3c4]),
+            scale: random.pick(&[10, 10, 0x0102_0304, 0xf1e2_d3c4, 0x0101_0101]),
+            alike: random.one_in(5),
         }
     }
 
     pub fn program(&self, random: &mut Random, length: usize) -> Vec<Instruction> {
-        let constant = |d| Instruction { code: Code::A, d, s: 0, imm: self.scale.wrapping_mul(d) };
+        let times = |d| if self.alike { 1 } else { d };
+        let constant = |d| Instruction { code: Code::A, d, s: 0, imm: self.scale.wrapping_mul(times(d)) };
         let mut program: Vec<Instruction> = (1..=self.constants).map(constant).collect();
         if let Some(below) = self.below {
             program.push(Instruction { code: Code::A, d: 7, s: 0, imm: 0u32.wrapping_sub(below) });

@@ -226,25 +226,142 @@ fn parts_take_words_as_loads_do() {
     assert_eq!(beyond.commit(), Err(13));
 }
 
-/// Whatever the bytes and the words are.
+/// Whatever the bytes are.
 #[test]
 fn parts_are_met_load_side_first() {
     for older in ["S,1,0,5", "B,1,0,20", "H,1,0,20"] {
         for younger in ["L,2,0,5", "B,1,0,23", "H,1,0,22", "B,0,0,20"] {
-            let mut met = machine(4, 4, &format!("A,1,0,0 {older} A,3,0,1 {younger} L,4,0,9"), 1);
+            let mut met = machine(4, 4, &format!("A,1,0,257 {older} A,3,0,1 {younger} L,4,0,9"), 1);
             assert_eq!(
                 (met.execute(2), met.execute(3), met.execute(0)),
                 (took(0), took(0), squashed_from(2))
             );
             assert_eq!((met.window.live.len(), met.next), (2, 3), "{older} {younger}");
-            let mut between = machine(4, 4, &format!("A,1,0,0 {older} S,1,0,5 {younger}"), 1);
-            let distance = usize::from(younger.starts_with('L'));
+            let mut between = machine(4, 4, &format!("A,1,0,257 {older} S,1,0,5 {younger}"), 1);
+            let answer = if younger.starts_with('L') { came(257, 1) } else { took(0) };
             assert_eq!(
                 (between.execute(1), between.execute(2), between.execute(0)),
-                (took(0), came(0, distance), took(0))
+                (took(0), answer, took(0))
             );
         }
     }
+}
+
+#[test]
+fn same_words_as_scripts() {
+    let examples = [
+        ("N,1,2,4,8 S,0,0,5 L,1,0,5 i i e,1 e,0 c c", "0,S,5,0 f,1,0 1,L,1,0 end,done,2"),
+        (
+            "N,1,2,4,8 A,1,0,7 S,1,0,5 S,1,0,5 L,2,0,5 i i i i e,0 e,1 e,3 e,2 c c c c",
+            "0,A,1,7 1,S,5,7 2,S,5,7 f,3,2 3,L,2,7 m,5,7 end,done,4",
+        ),
+        (
+            "N,1,2,4,8 A,1,0,7 S,1,0,5 S,0,0,5 L,2,0,5 i i i i e,0 e,1 e,3 e,2 c c c c x,1",
+            "0,A,1,7 1,S,5,7 2,S,5,0 f,3,0 3,L,2,0 end,done,4",
+        ),
+        (
+            "N,1,2,4,8 A,1,0,1 S,0,0,0 B,1,0,1 L,2,0,0 i i i i e,0 e,2 e,3 e,1 c c c c",
+            "0,A,1,1 1,S,0,0 2,B,1,256 f,3,1 3,L,2,256 m,0,256 end,done,4",
+        ),
+        // The first load took the word stored, the second one another.
+        (
+            "N,1,2,5,8 A,1,0,7 S,0,0,5 L,2,0,5 S,1,0,5 L,3,0,5 i i i i i e,0 e,3 e,4 e,2 e,1 x,9",
+            "0,A,1,7 1,S,5,0 f,2,0 2,L,2,0 3,S,5,7 f,4,1 4,L,3,7 m,5,7 end,done,5",
+        ),
+        // A finish spares, too.
+        ("N,1,2,4,8 S,0,0,5 L,1,0,5 i i e,1 x,1 c", "0,S,5,0 f,1,0 1,L,1,0 end,done,2"),
+        // An eviction does not.
+        ("N,1,1,4,8 S,0,0,6 L,1,0,5 i i e,1 e,0 c c", "0,S,6,0 end,open,1"),
+    ];
+    for (lines, output) in examples {
+        assert_eq!(played(lines), output, "{lines}");
+    }
+}
+
+/// The word at 5 is 257 throughout.
+#[test]
+fn same_words_of_every_code() {
+    let program = "A,1,0,257 A,2,0,1 S,1,0,5";
+    for older in ["S,1,0,5", "B,1,0,20", "B,2,0,21", "B,0,0,23", "H,1,0,20", "H,0,0,22"] {
+        for younger in ["L,3,0,5", "B,1,0,20", "B,0,0,21", "H,2,0,20", "H,1,0,22"] {
+            let mut met = machine(4, 4, &format!("{program} {older} A,4,0,1 {younger} L,5,0,5"), 3);
+            let first = met.execute(2);
+            assert_eq!(first, if younger.starts_with('L') { took(257) } else { took(0) });
+            let last = met.execute(3).map(|answer| (answer.distance, answer.squashed));
+            assert_eq!(last, Ok((usize::from(!younger.starts_with('L')), None)));
+            let before = met.window.live.clone();
+            assert_eq!(met.execute(0), took(0), "{older} {younger}");
+            assert_eq!(met.window.live[1..], before[1..], "{older} {younger}");
+            assert_eq!((met.window.live[0].value(), met.window.live[2].taken()), (Some(257), Some(257)));
+        }
+    }
+}
+
+#[test]
+fn other_words_of_every_code() {
+    let program = "A,1,0,257 A,2,0,2 S,1,0,5";
+    for (older, younger) in [
+        ("S,2,0,5", "B,2,0,20"),
+        ("S,0,0,5", "L,3,0,5"),
+        ("B,0,0,21", "B,0,0,21"),
+        ("B,1,0,22", "H,1,0,22"),
+        ("H,2,0,20", "H,2,0,20"),
+        ("H,1,0,22", "L,3,0,5"),
+    ] {
+        let mut met = machine(4, 4, &format!("{program} {older} A,4,0,1 {younger} L,5,0,5"), 3);
+        assert!(met.execute(2).is_ok() && met.execute(3).is_ok());
+        assert_eq!(met.execute(0), squashed_from(2), "{older} {younger}");
+    }
+}
+
+/// Not memory's word and not the one that is seen at the store: no call reaches a window in which the last one differs.
+#[test]
+fn the_word_taken_decides() {
+    for (memory, seen, taken, squashed) in
+        [(0, 7, 7, false), (7, 9, 9, true), (0, 0, 7, false), (0, 7, 0, true)]
+    {
+        let mut spoiled = machine(4, 4, &format!("A,1,0,{seen} A,2,0,7 S,1,0,5 S,2,0,5 B,1,0,20"), 2);
+        spoiled.memory[5] = memory;
+        assert!(spoiled.execute(0).is_ok() && spoiled.execute(2).is_ok());
+        let Fate::Executed { access: Some(access), .. } = &mut spoiled.window.live[2].fate else { panic!() };
+        assert_eq!(access.taken, Some(seen));
+        access.taken = Some(taken);
+        assert_eq!(
+            spoiled.execute(1).map(|answer| answer.squashed.is_some()),
+            Ok(squashed),
+            "{memory} {seen}"
+        );
+    }
+}
+
+#[test]
+fn kept_loads_are_met_again() {
+    let program = "A,1,0,7 S,0,0,5 S,0,0,5 S,1,0,5 L,2,0,5";
+    let mut kept = machine(4, 4, program, 1);
+    assert_eq!((kept.execute(3), kept.execute(0), kept.execute(1)), (took(0), took(0), took(0)));
+    assert_eq!(kept.window.live[3].distance, 0);
+    assert_eq!((kept.execute(2), kept.issue(), kept.execute(3)), (squashed_from(3), Ok(3), came(7, 1)));
+    let mut part = machine(4, 4, "A,1,0,7 S,1,0,5 B,0,0,20 L,2,0,5", 1);
+    assert_eq!((part.execute(2), part.execute(1), part.execute(0)), (took(0), took(0), squashed_from(1)));
+}
+
+/// A load behind a kept one stays, whatever it took and wherever it took it from.
+#[test]
+fn the_walk_ends_at_a_kept_load() {
+    for middle in ["S,1,0,5", "B,1,0,20", "H,1,0,22"] {
+        let mut kept = machine(4, 5, &format!("A,1,0,7 S,0,0,5 L,2,0,5 {middle} L,3,0,5"), 1);
+        assert!(kept.execute(2).is_ok() && kept.execute(3).is_ok() && kept.execute(1).is_ok());
+        assert_eq!((kept.execute(0), kept.window.live.len()), (took(0), 4), "{middle}");
+        advance(&mut kept, 3);
+        assert_eq!(kept.commit().map(|commit| commit.distance), Ok(1), "{middle}");
+    }
+}
+
+#[test]
+fn same_words_at_the_end_of_memory() {
+    let mut beyond = machine(4, 4, "A,1,0,7 S,0,0,200 S,1,0,200 L,3,0,200", 1);
+    assert_eq!((beyond.execute(2), beyond.execute(0)), (took(0), took(0)));
+    assert_eq!((beyond.execute(1), beyond.commit()), (squashed_from(2), Err(13)));
 }
 
 #[test]
@@ -273,7 +390,7 @@ fn operands_of_parts() {
 fn odd_half_words() {
     let mut below = machine(4, 4, "A,1,0,511 H,1,0,403 L,2,0,100", 1);
     assert_eq!((below.execute(0), below.execute(1)), (took(0), came(140 + (511 << 16), 1)));
-    let access = Some(Access { number: 403, word: 100 });
+    let access = Some(Access { number: 403, word: 100, taken: Some(140) });
     assert_eq!(below.window.live[0].fate, Fate::Executed { value: 140 + (511 << 16), access });
     assert_eq!((below.commit(), below.fate(), below.memory[100]), (Err(14), "fault", 140));
     assert_eq!((below.finish(9), below.window.live.len()), (Vec::new(), 2));
@@ -341,10 +458,10 @@ fn distance_of_the_nearest() {
     let mut nearest = machine(4, 6, "A,1,0,7 S,1,0,5 H,1,0,20 A,2,0,1 S,1,0,6 L,3,0,5 S,1,0,5", 1);
     assert_eq!((nearest.execute(0), nearest.execute(1), nearest.execute(3)), (took(0), took(0), took(0)));
     assert_eq!((nearest.execute(5), nearest.execute(4)), (took(0), came(7, 3)));
-    let mut waiting = machine(4, 4, "A,1,0,7 S,1,0,5 S,1,0,5 L,3,0,5", 1);
+    let mut waiting = machine(4, 4, "A,1,0,7 A,2,0,8 S,1,0,5 S,2,0,5 L,3,0,5", 2);
     assert_eq!((waiting.execute(0), waiting.execute(2)), (took(0), came(7, 2)));
     assert_eq!(waiting.execute(1), squashed_from(2));
-    assert_eq!((waiting.issue(), waiting.execute(2)), (Ok(2), came(7, 1)));
+    assert_eq!((waiting.issue(), waiting.execute(2)), (Ok(2), came(8, 1)));
 }
 
 #[test]
@@ -356,6 +473,21 @@ fn distances_are_kept() {
     assert_eq!((machine.execute(1), machine.execute(2)), (took(0), came(7, 1)));
     assert_eq!(machine.squash(1), Ok(()));
     assert_eq!(machine.commit().map(|commit| (commit.index, commit.distance)), Ok((3, 2)));
+}
+
+/// A store of the same word comes nearer than where the word came from, a store or memory.
+#[test]
+fn distances_are_kept_before_a_nearer_store() {
+    for (first, distance) in [("S,1,0,5", 3), ("A,2,0,1", 0)] {
+        for nearer in ["S,1,0,5", "B,1,0,20", "H,1,0,20"] {
+            let mut kept = machine(4, 4, &format!("A,1,0,7 S,1,0,5 {first} A,3,0,1 {nearer} L,4,0,5"), 2);
+            assert_eq!((kept.execute(0), kept.execute(3)), (took(0), came(7, distance)));
+            assert_eq!((kept.execute(2), kept.window.live[3].distance), (took(0), distance));
+            advance(&mut kept, 3);
+            let commit = kept.commit().map(|commit| (commit.value, commit.distance));
+            assert_eq!(commit, Ok((7, distance)), "{first} {nearer}");
+        }
+    }
 }
 
 #[test]

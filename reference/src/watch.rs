@@ -5,12 +5,13 @@ use crate::blame::blame;
 use crate::check::Check;
 use crate::distances::Distances;
 use crate::events::{by_byte, Events, SPOILED};
+use crate::kept::Kept;
 use crate::machine::{Commit, Machine, PLACES};
 use crate::player::{play_by, Printed, LONGEST};
 use crate::rules::{Rules, MOST_INSTRUCTIONS};
 use crate::sights;
 use crate::text::{parse, Line, Step};
-use crate::window::{Code, Entry, Instruction, Sizes, Window};
+use crate::window::{Code, Execution, Instruction, Sizes, Window};
 
 /// From here on a bad line counts as late.
 const LATE: usize = 100;
@@ -45,6 +46,7 @@ pub fn watch<R: Rules>(rules: R, text: &[u8]) -> (Vec<u8>, Events) {
                     reached: 0,
                     again: Vec::new(),
                     distances: Distances::default(),
+                    kept: Kept::default(),
                 });
             }
             (Some(Line::Instruction(instruction)), Some(game)) => game.instruction(&mut events, instruction),
@@ -108,6 +110,7 @@ struct Game<R> {
     /// Whether the live instruction of an index was issued before.
     again: Vec<bool>,
     distances: Distances,
+    kept: Kept,
 }
 
 impl<R: Rules> Game<R> {
@@ -162,13 +165,24 @@ impl<R: Rules> Game<R> {
         events.add_if(k == 0 && self.machine.past(&entry), "fault by e");
         events.add_if(k == 0 && self.stopped_by_odd(), "fault by e of an odd H");
         sights::executed(events, &before, &registers, &self.machine.memory, k, entry);
-        self.noted(events, &before, k, entry, false);
+        let left = self.machine.window.live.len();
+        self.noted(events, &Execution { before: &before, k, entry, left, finished: false });
     }
 
-    /// How far the word of an execution came.
-    fn noted(&mut self, events: &mut Events, before: &Window, k: usize, entry: Entry, finished: bool) {
-        self.check.executed(before, &self.machine.memory, k, &entry);
-        self.distances.executed(events, before, &self.machine.memory, k, entry, finished);
+    /// How far the word of an execution came, and what it did to the load sides that it met.
+    fn noted(&mut self, events: &mut Events, execution: &Execution) {
+        self.check.executed(execution, &self.machine.memory);
+        self.kept.executed(events, execution, &self.machine.memory);
+        if let Some(by) = execution.squashed_by() {
+            self.squashed(events, execution.before, execution.left, by);
+        }
+        self.distances.executed(events, execution, &self.machine.memory);
+    }
+
+    /// Everything from a position on.
+    fn squashed(&mut self, events: &mut Events, before: &Window, from: usize, by: &'static str) {
+        self.distances.squashed(before, from, by);
+        self.kept.squashed(events, before, from, by);
     }
 
     fn squash(&mut self, events: &mut Events, k: usize) {
@@ -182,7 +196,7 @@ impl<R: Rules> Game<R> {
                 events.add_if(before[k..].iter().any(|entry| !entry.waits()), "q of executed ones");
                 events.add_if(faulted && k == 0, "fault squashed");
                 events.add_if(odd && k == 0, "fault of an odd H squashed");
-                self.distances.squashed(&window, k, "q");
+                self.squashed(events, &window, k, "q");
             }
             Err(number) => events.add(&format!("refusal {number} of q")),
         }
@@ -205,6 +219,7 @@ impl<R: Rules> Game<R> {
         }
         self.check.committed(commit);
         self.distances.committed(events, index, step);
+        self.kept.committed(events, index, code, step);
     }
 
     /// The oldest is an H at an odd byte number, below the end of memory.
@@ -245,7 +260,8 @@ impl<R: Rules> Game<R> {
         }
         let before = tried.window.clone();
         if tried.execute(0).is_ok() {
-            self.noted(events, &before, 0, tried.window.live[0], true);
+            let (entry, left) = (tried.window.live[0], tried.window.live.len());
+            self.noted(events, &Execution { before: &before, k: 0, entry, left, finished: true });
         }
     }
 

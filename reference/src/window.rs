@@ -70,12 +70,14 @@ impl Instruction {
     }
 }
 
-/// Where a load or store executed.
+/// What a load or store executed to.
 #[derive(Clone, Copy, PartialEq, Eq, Debug)]
 pub struct Access {
     /// As the record has it: of B and H the byte number, else the word number.
     pub number: u32,
     pub word: u32,
+    /// The word that the load side took, of B and H before their part was put into it.
+    pub taken: Option<u32>,
 }
 
 /// What became of a live instruction; only loads and stores have an access. The value of a store is the whole word.
@@ -111,6 +113,11 @@ impl Entry {
         self.access().map(|access| access.word)
     }
 
+    /// What the load side took, for older stores to compare with.
+    pub fn taken(&self) -> Option<u32> {
+        self.access().and_then(|access| access.taken)
+    }
+
     pub fn value(&self) -> Option<u32> {
         match self.fate {
             Fate::Executed { value, .. } => Some(value),
@@ -124,6 +131,31 @@ impl Entry {
 
     pub fn code(&self) -> Code {
         self.instruction.code
+    }
+}
+
+/// An execution that was not refused.
+#[derive(Clone, Copy)]
+pub struct Execution<'a> {
+    pub before: &'a Window,
+    pub k: usize,
+    /// What it became.
+    pub entry: Entry,
+    /// How many are live after it.
+    pub left: usize,
+    /// Whether a finish executed it.
+    pub finished: bool,
+}
+
+impl Execution<'_> {
+    /// What squashed from position `left` on, if anything did. Where the word has a row nothing is evicted.
+    pub fn squashed_by(&self) -> Option<&'static str> {
+        let at_word = |other: &Entry| other.mark() == self.entry.mark();
+        match self.left < self.before.live.len() {
+            true if self.before.live.iter().any(at_word) => Some("violation"),
+            true => Some("eviction"),
+            false => None,
+        }
     }
 }
 

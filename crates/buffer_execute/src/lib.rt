@@ -124,6 +124,7 @@ pub fn execute(mut t: Table, ticket: Ticket, action: Action, memory: &[u32]) -> 
         &t.loads,
         &t.stores,
         &t.values,
+        &t.taken,
         marks::position_of(oldest, stages, s),
         action,
         memory,
@@ -145,6 +146,7 @@ pub fn execute(mut t: Table, ticket: Ticket, action: Action, memory: &[u32]) -> 
     engine_steps::add_mark(&mut t.loads, effect.load, r, s);
     engine_steps::add_mark(&mut t.stores, effect.store, r, s);
     engine_steps::set_value(&mut t.values, effect.store, s, effect.value);
+    engine_steps::set_value(&mut t.taken, effect.load, s, effect.taken);
     ExecuteResult {
         answer: ExecuteAnswer::Executed(
             engine_steps::answered(effect.load, effect.store, effect.value),

@@ -30,6 +30,7 @@ use Rattle.buffer_model.specs.Examples.{examples}
 use Rattle.buffer_model.specs.Edges.{openings, calls}
 use Rattle.buffer_model.specs.PartStores.{partStores}
 use Rattle.buffer_model.specs.Distances.{distances}
+use Rattle.buffer_model.specs.SameWords.{sameWords}
 
 session-played : {t : Table} {m : List ℕ} {turns : List Turn} {answers : List Answer} → Rules t
     → Session t m turns answers → answers ≡ played (view t) m turns
@@ -79,7 +80,7 @@ each : (rows : List Example) → map answered rows ≡ map (λ e. e .answers) ro
 each [] h = tt
 each (e ∷ rows) h = (shown e cc, each rows cc)
 
-pub starred : AllShown (examples ++ openings ++ calls ++ partStores ++ distances)
-unfolding examples openings calls partStores distances played respond sizesFit tabulate seen distance keptYounger touched
-    count last home bank
-starred = each (examples ++ openings ++ calls ++ partStores ++ distances) refl
+pub starred : AllShown (examples ++ openings ++ calls ++ partStores ++ distances ++ sameWords)
+unfolding examples openings calls partStores distances sameWords played respond sizesFit tabulate seen distance keptYounger
+    touched count last home bank
+starred = each (examples ++ openings ++ calls ++ partStores ++ distances ++ sameWords) refl

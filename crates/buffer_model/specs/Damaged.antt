@@ -37,8 +37,8 @@ abbrev pub AllTold : List Case → Type 0
 AllTold [] = Unit {0}
 AllTold (d ∷ cases) = Told d × AllTold cases
 
-abbrev pub table : ℕ → ℕ → ℕ → ℕ → ℕ → ℕ → ℕ → List ℕ → List ℕ → List ℕ → List ℕ → Table
-table B R n W oldest live executed addresses loads stores values =
+abbrev pub table : ℕ → ℕ → ℕ → ℕ → ℕ → ℕ → ℕ → List ℕ → List ℕ → List ℕ → List ℕ → List ℕ → Table
+table B R n W oldest live executed addresses loads stores values taken =
     record {
       banks = B;
       rows = R;
@@ -53,6 +53,7 @@ table B R n W oldest live executed addresses loads stores values =
       loads = loads;
       stores = stores;
       values = values;
+      taken = taken;
     }
 
 -- zeros at every stage
@@ -68,16 +69,20 @@ two r x q y = set (one r x) q y
 
 -- a table without marks, with these sizes, oldest and number of live references
 abbrev pub bare : ℕ → ℕ → ℕ → ℕ → ℕ → ℕ → Table
-bare B R n W oldest live = table B R n W oldest live 0 (one 0 0) (one 0 0) (one 0 0) noWords
+bare B R n W oldest live = table B R n W oldest live 0 (one 0 0) (one 0 0) (one 0 0) noWords noWords
 
 -- Two banks of two rows, four stages, of which 2, 3 and 0 are live, from the oldest on.
 abbrev pub window : ℕ → List ℕ → List ℕ → List ℕ → Table
-window executed addresses loads stores = table 2 2 4 8 2 3 executed addresses loads stores noWords
+window executed addresses loads stores = table 2 2 4 8 2 3 executed addresses loads stores noWords noWords
 
--- the same with these words at stages 0 to 3
+-- these words at stages 0 to 3
+abbrev pub wordsBy : ℕ → ℕ → ℕ → ℕ → List ℕ
+wordsBy v0 v1 v2 v3 = set (set (set (set noWords 0 v0) 1 v1) 2 v2) 3 v3
+
+-- the same with these words stored, and with 20, 21, 22 and 23 taken by loads
 abbrev pub wording : ℕ → List ℕ → List ℕ → List ℕ → ℕ → ℕ → ℕ → ℕ → Table
 wording executed addresses loads stores v0 v1 v2 v3 =
-    table 2 2 4 8 2 3 executed addresses loads stores (set (set (set (set noWords 0 v0) 1 v1) 2 v2) 3 v3)
+    table 2 2 4 8 2 3 executed addresses loads stores (wordsBy v0 v1 v2 v3) (wordsBy 20 21 22 23)
 
 unfoldable pub cases : List Case
 cases =
@@ -98,12 +103,12 @@ cases =
     -- Stage 0 is live; it has not executed, then it has.
     ∷ breaks (window 12 (two 0 4 8 5) (one 0 5) (one 8 8)) ∷ keeps (window 13 (two 0 4 8 5) (one 0 5) (one 8 8))
     -- "Each live stage bears one mark, in one row, if it executed to memory, otherwise none", and "one stage may bear both marks,
-    -- in one row". Stage 3 bears both marks in row 8, and is seen with its own word; stages 3 and 0 bear both in a row where
+    -- in one row". Stage 3 bears both marks in row 8, and is seen with its own words; stages 3 and 0 bear both in a row where
     -- stage 2 stored; stage 3 does where stage 2 loaded; then one stage bears a load mark, one both, one a store mark.
-    ∷ shows (wording 12 (two 0 4 8 5) (two 0 4 8 8) (one 8 8) 1 2 3 9) (loaded 4 ∷ merged 5 9 ∷ waiting ∷ [])
-    ∷ shows (wording 13 (one 8 5) (one 8 9) (one 8 13) 7 2 3 9) (stored 5 3 ∷ merged 5 9 ∷ merged 5 7 ∷ [])
-    ∷ shows (wording 12 (one 8 5) (one 8 12) (one 8 8) 1 2 3 9) (loaded 5 ∷ merged 5 9 ∷ waiting ∷ [])
-    ∷ shows (wording 13 (two 0 4 8 5) (two 0 4 8 8) (two 0 1 8 8) 7 2 3 9) (loaded 4 ∷ merged 5 9 ∷ stored 4 7 ∷ [])
+    ∷ shows (wording 12 (two 0 4 8 5) (two 0 4 8 8) (one 8 8) 1 2 3 9) (loaded 4 22 ∷ merged 5 23 9 ∷ waiting ∷ [])
+    ∷ shows (wording 13 (one 8 5) (one 8 9) (one 8 13) 7 2 3 9) (stored 5 3 ∷ merged 5 23 9 ∷ merged 5 20 7 ∷ [])
+    ∷ shows (wording 12 (one 8 5) (one 8 12) (one 8 8) 1 2 3 9) (loaded 5 22 ∷ merged 5 23 9 ∷ waiting ∷ [])
+    ∷ shows (wording 13 (two 0 4 8 5) (two 0 4 8 8) (two 0 1 8 8) 7 2 3 9) (loaded 4 22 ∷ merged 5 23 9 ∷ stored 4 7 ∷ [])
     -- Stage 3 bears a load mark in row 0 and a store mark in row 8, or in row 1; both in row 8 and a load mark, a store mark or
     -- both in row 0; both, where it has not executed; stage 1, which is not live, bears both.
     ∷ breaks (window 12 (two 0 4 8 5) (one 0 12) (one 8 8)) ∷ breaks (window 12 (two 0 4 1 6) (one 0 12) (one 1 8))

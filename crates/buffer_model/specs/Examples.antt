@@ -1,7 +1,7 @@
 -- 01's starred examples as a table: the sizes and the memory of an opening, the calls after it, and what opening and calls
 -- answer. Below them stand rows for what they leave out; specs/Edges.antt has the limits and the refusals, specs/PartStores.antt
--- the stores of bytes and half words, specs/Distances.antt how far a word came. proofs/Starred.antt shows that every row comes
--- out.
+-- the stores of bytes and half words, specs/Distances.antt how far a word came, specs/SameWords.antt the stores of a word that is
+-- already there. proofs/Starred.antt shows that every row comes out.
 -- As long as nothing has been squashed or committed, position p is at stage p under issue number p: its ticket is τ p p.
 -- Assumes nothing.
 use mathlib.Core.Path.{_≡_}
@@ -169,10 +169,10 @@ examples =
     ∷ executed 0 0 none ∷ executed 7 1 none ∷ [])
     -- Not starred in 01, from here on.
 
-    -- A store of the same word squashes too.
+    -- A store of the word that the load took squashes nothing.
     ∷ usual
     (issue ∷ issue ∷ executeLoad (τ 1 1) 100 ∷ executeStore (τ 0 0) 100 140 ∷ [])
-    (named (τ 0 0) ∷ named (τ 1 1) ∷ executed 140 0 none ∷ executed 0 0 (some (τ 1 1)) ∷ [])
+    (named (τ 0 0) ∷ named (τ 1 1) ∷ executed 140 0 none ∷ executed 0 0 none ∷ [])
     -- A store at W forwards to a load there; its commit is refusal 13.
     ∷ usual
     (issue ∷ issue ∷ executeStore (τ 0 0) 200 7 ∷ executeLoad (τ 1 1) 200 ∷ commit ∷ [])

@@ -8,5 +8,6 @@ pub mod Examples
 pub mod Edges
 pub mod PartStores
 pub mod Distances
+pub mod SameWords
 pub mod Damaged
 pub mod computed

@@ -109,13 +109,13 @@ partStores =
     ∷ issued 1 1 3
     (executeLoad (τ 1 1) 0 ∷ executePart (τ 2 2) Byte 1 9 ∷ executeStore (τ 0 0) 0 7 ∷ [])
     (executed (bytes 1 2 3 4) 0 none ∷ executed 0 0 none ∷ executed 0 0 (some (τ 1 1)) ∷ [])
-    -- A part's store violates a younger load of its word, whichever bytes it stores and though it leaves the word as it was.
+    -- A part's store violates a younger load of its word, whichever bytes it stores, unless it leaves the word as it was.
     ∷ issued 1 1 3
     (executeLoad (τ 2 2) 0 ∷ executePart (τ 0 0) Byte 3 9 ∷ [])
     (executed (bytes 1 2 3 4) 0 none ∷ executed 0 0 (some (τ 2 2)) ∷ [])
     ∷ issued 1 1 3
     (executeLoad (τ 2 2) 1 ∷ executePart (τ 0 0) Half 4 (bytes 5 6 0 0) ∷ [])
-    (executed (bytes 5 6 7 8) 0 none ∷ executed 0 0 (some (τ 2 2)) ∷ [])
+    (executed (bytes 5 6 7 8) 0 none ∷ executed 0 0 none ∷ [])
     -- Not a load of the other word, or of the word whose number is the byte's.
     ∷ issued 1 3 3
     (executeLoad (τ 1 1) 0 ∷ executeLoad (τ 2 2) 4 ∷ executePart (τ 0 0) Byte 4 9 ∷ [])

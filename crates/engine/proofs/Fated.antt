@@ -9,8 +9,8 @@ use native.Mathlib.Omega.{arith}
 use Rattle.marks.specs.Stages.{has}
 use Rattle.table.specs.declared.Table.{Table}
 use Rattle.table.specs.Limits.{rowsIn}
-use Rattle.table.specs.Reference.{Fate, waiting, other, accessed, lacks, holds, fateOf, at}
-use Rattle.table.specs.View.{stageOf, storeMark, loadMark, mark, address, value, wordIf, access, markFate, view}
+use Rattle.table.specs.Reference.{Side, Fate, waiting, other, accessed, lacks, holds, fateOf, at}
+use Rattle.table.specs.View.{stageOf, storeMark, loadMark, mark, address, value, taken, wordIf, access, markFate, view}
 use Rattle.table.proofs.Fates.{at-refs}
 use Rattle.lookup.specs.computed.Search.{markOf, markBy, markedFate}
 use Rattle.lookup.proofs.Telling.{marks-told}
@@ -58,13 +58,13 @@ told-written memory (accessed a l lacks) = refl
 told-written memory (accessed a l (holds v)) = refl
 
 -- what the marks of the first k rows say of a stage that stored
-marks-word : (t : Table) (s k a v : ℕ) (l : Bool) → markFate t s k ≡ accessed a l (holds v) → value t s ≡ v
+marks-word : (t : Table) (s k a v : ℕ) (l : Side) → markFate t s k ≡ accessed a l (holds v) → value t s ≡ v
 unfolding markFate
 marks-word t s zero a v l e = absurd (let z : _≡_ {A = ℕ} 0 1 = cc in omega arith)
 marks-word t s (suc k) a v l e = go (loadMark t k s) (storeMark t k s) (marks-word t s k a v l) e
   where
     go : (ld st : Bool) → (markFate t s k ≡ accessed a l (holds v) → value t s ≡ v)
-        → cond (ld || st) (accessed (address t k) ld (wordIf st (value t s))) (markFate t s k) ≡ accessed a l (holds v)
+        → cond (ld || st) (accessed (address t k) (wordIf ld (taken t s)) (wordIf st (value t s))) (markFate t s k) ≡ accessed a l (holds v)
         → value t s ≡ v
     go true true rest f = cc
     go false true rest f = cc
@@ -72,7 +72,7 @@ marks-word t s (suc k) a v l e = go (loadMark t k s) (storeMark t k s) (marks-wo
     go false false rest f = rest f
 
 -- the word of a live store is its stage's value
-pub stored-word : (t : Table) (p a v : ℕ) (l : Bool) → p < t .live → fateOf (at (view t .refs) p) ≡ accessed a l (holds v)
+pub stored-word : (t : Table) (p a v : ℕ) (l : Side) → p < t .live → fateOf (at (view t .refs) p) ≡ accessed a l (holds v)
     → value t (stageOf t p) ≡ v
 stored-word t p a v l h e = go (has (t .executed) (stageOf t p)) (sym (ap fateOf (at-refs t p h)) ∙ e)
   where

@@ -61,7 +61,7 @@ module _ (t : Table) (rules : Rules t) (lengths : Lengths t) (room : t .live < t
   grown-old p l =
       ap₂ ref (getD-set-other (t .numbers) (stageOf t (t .live)) (stageOf t p) (t .next) 0 (apart p l))
       (fates-same t (grown t) (stageOf t p) refl (kept p l) (λ r b. refl) (λ r b. refl) (λ r b m. refl)
-      (λ r b m. refl))
+      (λ r b m. refl) (λ r b m. refl))
 
   grown-new : refAt (grown t) (t .live) ≡ ref (t .next) waiting
   grown-new =

@@ -20,16 +20,16 @@ use Rattle.marks.specs.Stages.{has}
 use Rattle.marks.proofs.Sets.{has-or, has-one}
 use Rattle.marks.proofs.Turns.{stage-lt, position-stage, stage-injective}
 use Rattle.table.specs.declared.Table.{Table}
-use Rattle.table.specs.Limits.{rowsIn}
+use Rattle.table.specs.Limits.{stagesMost, rowsIn}
 use Rattle.table.specs.Moves.{windowed, withFate}
 use Rattle.table.specs.Reference.{Fate, other, accessed, ref, numberOf, at}
 use Rattle.table.specs.Rules.{Live, Rules}
-use Rattle.table.specs.View.{stageOf, address, loadMark, storeMark, mark, value, wordIf, fateAt, refAt}
+use Rattle.table.specs.View.{stageOf, address, loadMark, storeMark, mark, value, taken, wordIf, fateAt, refAt}
 use Rattle.table.specs.View.{view}
 use Rattle.table.proofs.Fates.{mark-kind, no-load, no-store, side-same, fates-same, fate-marked, fate-other, at-refs}
 use Rattle.table.proofs.Lists.{tabulate-set}
 use Rattle.table.proofs.Owning.{RowFor, row-small, row-of-mark, mark-position}
-use Rattle.engine.specs.computed.Steps.{executing, noted, withStage, marking, accessMarked}
+use Rattle.engine.specs.computed.Steps.{executing, noted, withStage, marking, keeping, accessMarked}
 use Rattle.engine.proofs.Fewer.{fewer-rules}
 use Rattle.engine.proofs.Lengths.{Lengths, stage-small}
 
@@ -77,6 +77,15 @@ marking-row words true r s q n m = go (eqb q r) refl
         let same = getD-set-other words r q (bitOr (getD words r 0) (2 ^ s)) 0 (eqb-false q r e) in
         absurd (true≢false (sym m ∙ ap (λ (w : ℕ). has w s) same ∙ n))
 
+-- the word kept at its stage, and what stands at the others
+keeping-here : (words : List ℕ) (on : Bool) (s v : ℕ) → s < length words → on ≡ true → getD (keeping words on s v) s 0 ≡ v
+keeping-here words true s v h e = getD-set-same words s v 0 h
+keeping-here words false s v h e = absurd (true≢false (sym e))
+
+keeping-other : (words : List ℕ) (on : Bool) (s v u : ℕ) → (u ≡ s → ⊥) → getD (keeping words on s v) u 0 ≡ getD words u 0
+keeping-other words true s v u d = getD-set-other words s u v 0 d
+keeping-other words false s v u d = refl
+
 module _ (t : Table) (rules : Rules t) where
   idle-bare : (s : ℕ) → has (t .executed) s ≡ false → (r : ℕ) → r < rowsIn (t .banks) → mark t r s ≡ false
   idle-bare s idle r h = go (mark t r s) refl
@@ -86,13 +95,13 @@ module _ (t : Table) (rules : Rules t) where
       go false m = refl
 
   -- the view of a table in which the reference at position p executed, with the fate f
-  executing-view : (p : ℕ) → p < t .live → (addresses loads stores values : List ℕ) (f : Fate)
-      → fateAt (executing t (stageOf t p) addresses loads stores values) (stageOf t p) ≡ f
+  executing-view : (p : ℕ) → p < t .live → (addresses loads stores values words : List ℕ) (f : Fate)
+      → fateAt (executing t (stageOf t p) addresses loads stores values words) (stageOf t p) ≡ f
       → ((q : ℕ) → q < t .live → (stageOf t q ≡ stageOf t p → ⊥)
-      → fateAt (executing t (stageOf t p) addresses loads stores values) (stageOf t q) ≡ fateAt t (stageOf t q))
-      → view (executing t (stageOf t p) addresses loads stores values) ≡ withFate (view t) p f
-  executing-view p h addresses loads stores values f here others =
-      let u = executing t (stageOf t p) addresses loads stores values in
+      → fateAt (executing t (stageOf t p) addresses loads stores values words) (stageOf t q) ≡ fateAt t (stageOf t q))
+      → view (executing t (stageOf t p) addresses loads stores values words) ≡ withFate (view t) p f
+  executing-view p h addresses loads stores values words f here others =
+      let u = executing t (stageOf t p) addresses loads stores values words in
       ap (windowed (view t) (t .oldest))
       (sym
       (tabulate-set (refAt t) (refAt u) (t .live) p (ref (numberOf (at (view t .refs) p)) f) h
@@ -116,11 +125,11 @@ module _ (t : Table) (rules : Rules t) where
       → view (noted t (stageOf t p)) ≡ withFate (view t) p other
   noted-view p h idle =
       let s = stageOf t p in
-      executing-view p h (t .addresses) (t .loads) (t .stores) (t .values) other
+      executing-view p h (t .addresses) (t .loads) (t .stores) (t .values) (t .taken) other
       (fate-other (noted t s) (noted-rules p h) s (more-here (t .executed) s) (idle-bare s idle))
       (λ q l d.
       fates-same t (noted t s) (stageOf t q) refl (more-other (t .executed) s (stageOf t q) d) (λ r b. refl) (λ r b. refl)
-      (λ r b m. refl) (λ r b m. refl))
+      (λ r b m. refl) (λ r b m. refl) (λ r b m. refl))
 
   -- a marked row of the address of row z is row z
   same-row : (z a q v : ℕ) → RowFor t a z (t .live) → q < rowsIn (t .banks) → mark t q v ≡ true → address t q ≡ a → q ≡ z
@@ -128,19 +137,20 @@ module _ (t : Table) (rules : Rules t) where
       let place = mark-position t rules q v h m in
       row .only q (place .0) h (place .1) (subst (λ (x : ℕ). mark t q x ≡ true) (sym (place .2)) m) e
 
--- The marks are those of t but for stage s, which at most row r has; the values are t's but for stage s.
-record Gains (t : Table) (r s : ℕ) (loads stores values : List ℕ) : Type 0 where
+-- The marks are those of t but for stage s, which at most row r has; values and words taken are t's but for stage s.
+record Gains (t : Table) (r s : ℕ) (loads stores values words : List ℕ) : Type 0 where
   load-else : (q u : ℕ) → (u ≡ s → ⊥) → has (getD loads q 0) u ≡ loadMark t q u
   store-else : (q u : ℕ) → (u ≡ s → ⊥) → has (getD stores q 0) u ≡ storeMark t q u
   load-row : (q : ℕ) → q < rowsIn (t .banks) → has (getD loads q 0) s ≡ true → q ≡ r
   store-row : (q : ℕ) → q < rowsIn (t .banks) → has (getD stores q 0) s ≡ true → q ≡ r
   value-else : (u : ℕ) → (u ≡ s → ⊥) → getD values u 0 ≡ value t u
+  taken-else : (u : ℕ) → (u ≡ s → ⊥) → getD words u 0 ≡ taken t u
 
 module _ (t : Table) (rules : Rules t) (lengths : Lengths t) (p a r : ℕ) (here : p < t .live) (row : RowFor t a r (t .live))
-    (loads stores values : List ℕ) (gains : Gains t r (stageOf t p) loads stores values) where
-  -- the reference at position p executed and row r now address a's, with these marks and values
+    (loads stores values words : List ℕ) (gains : Gains t r (stageOf t p) loads stores values words) where
+  -- the reference at position p executed and row r now address a's, with these marks, values and words taken
   abbrev after : Table
-  after = executing t (stageOf t p) (set (t .addresses) r a) loads stores values
+  after = executing t (stageOf t p) (set (t .addresses) r a) loads stores values words
 
   -- a mark is row r's at the new stage, or an old one at another
   mark-old : (q v : ℕ) → q < rowsIn (t .banks) → mark after q v ≡ true
@@ -233,14 +243,14 @@ module _ (t : Table) (rules : Rules t) (lengths : Lengths t) (p a r : ℕ) (here
 
   marked-view : (f : Fate) → fateAt after (stageOf t p) ≡ f → view after ≡ withFate (view t) p f
   marked-view f e =
-      executing-view t rules p here (set (t .addresses) r a) loads stores values f e
+      executing-view t rules p here (set (t .addresses) r a) loads stores values words f e
       (λ q l d.
       fates-same t after (stageOf t q) refl (more-other (t .executed) (stageOf t p) (stageOf t q) d)
       (λ k b. gains .load-else k (stageOf t q) d) (λ k b. gains .store-else k (stageOf t q) d)
       (λ k b m. address-old k (stageOf t q) b m)
-      (λ k b m. gains .value-else (stageOf t q) d))
+      (λ k b m. gains .value-else (stageOf t q) d) (λ k b m. gains .taken-else (stageOf t q) d))
 
-module _ (t : Table) (rules : Rules t) (lengths : Lengths t) (p a r v : ℕ) (here : p < t .live)
+module _ (t : Table) (rules : Rules t) (lengths : Lengths t) (p a r v w : ℕ) (here : p < t .live)
     (idle : has (t .executed) (stageOf t p) ≡ false) (row : RowFor t a r (t .live)) (load store : Bool) where
   abbrev loads : List ℕ
   loads = marking (t .loads) load r (stageOf t p)
@@ -249,7 +259,10 @@ module _ (t : Table) (rules : Rules t) (lengths : Lengths t) (p a r v : ℕ) (he
   stores = marking (t .stores) store r (stageOf t p)
 
   abbrev values : List ℕ
-  values = cond store (set (t .values) (stageOf t p) v) (t .values)
+  values = keeping (t .values) store (stageOf t p) v
+
+  abbrev words : List ℕ
+  words = keeping (t .taken) load (stageOf t p) w
 
   bare : (q : ℕ) → q < rowsIn (t .banks) → mark t q (stageOf t p) ≡ false
   bare = idle-bare t rules (stageOf t p) idle
@@ -264,12 +277,7 @@ module _ (t : Table) (rules : Rules t) (lengths : Lengths t) (p a r v : ℕ) (he
       marking-here (t .stores) store r (stageOf t p) (omega (arith, row-small t rules r (row .row), lengths .stores))
       (no-store t r (stageOf t p) (bare r (row .row)))
 
-  value-other : (on : Bool) (u : ℕ) → (u ≡ stageOf t p → ⊥)
-      → getD (cond on (set (t .values) (stageOf t p) v) (t .values)) u 0 ≡ value t u
-  value-other true u d = getD-set-other (t .values) (stageOf t p) u v 0 d
-  value-other false u d = refl
-
-  access-gains : Gains t r (stageOf t p) loads stores values
+  access-gains : Gains t r (stageOf t p) loads stores values words
   access-gains =
       record {
         load-else =
@@ -278,25 +286,26 @@ module _ (t : Table) (rules : Rules t) (lengths : Lengths t) (p a r v : ℕ) (he
             marking-other (t .stores) store r (stageOf t p) (omega (arith, row-small t rules r (row .row), lengths .stores));
         load-row = λ q h m. marking-row (t .loads) load r (stageOf t p) q (no-load t q (stageOf t p) (bare q h)) m;
         store-row = λ q h m. marking-row (t .stores) store r (stageOf t p) q (no-store t q (stageOf t p) (bare q h)) m;
-        value-else = value-other store;
+        value-else = keeping-other (t .values) store (stageOf t p) v;
+        taken-else = keeping-other (t .taken) load (stageOf t p) w;
       }
 
-  pub access-rules : Rules (accessMarked t r (stageOf t p) a load store v)
-  access-rules = marked-rules t rules lengths p a r here row loads stores values access-gains
-
-  value-here : (on : Bool) → on ≡ true → getD (cond on (set (t .values) (stageOf t p) v) (t .values)) (stageOf t p) 0 ≡ v
-  value-here true e =
-      getD-set-same (t .values) (stageOf t p) v 0 (omega (arith, lengths .values, stage-small t rules p (le-of-lt here)))
-  value-here false e = absurd (true≢false (sym e))
+  pub access-rules : Rules (accessMarked t r (stageOf t p) a load store v w)
+  access-rules = marked-rules t rules lengths p a r here row loads stores values words access-gains
 
   pub access-view : (load || store) ≡ true
-      → view (accessMarked t r (stageOf t p) a load store v) ≡ withFate (view t) p (accessed a load (wordIf store v))
+      → view (accessMarked t r (stageOf t p) a load store v w) ≡ withFate (view t) p (accessed a (wordIf load w) (wordIf store v))
   access-view some =
       let s = stageOf t p in
-      let u = accessMarked t r s a load store v in
-      marked-view t rules lengths p a r here row loads stores values access-gains (accessed a load (wordIf store v))
+      let u = accessMarked t r s a load store v w in
+      let small : s < stagesMost = stage-small t rules p (le-of-lt here) in
+      marked-view t rules lengths p a r here row loads stores values words access-gains
+      (accessed a (wordIf load w) (wordIf store v))
       (fate-marked u access-rules r s (row .row) (ap₂ _||_ load-here store-here ∙ some)
-      ∙ ap₂ (λ (b : ℕ) (l : Bool). accessed b l (wordIf (storeMark u r s) (value u s)))
-      (address-here t rules lengths p a r here row loads stores values access-gains) load-here
-      ∙ ap (accessed a load)
-      (ap (λ (b : Bool). wordIf b (value u s)) store-here ∙ side-same store (value u s) v (value-here store)))
+      ∙ ap (λ (b : ℕ). accessed b (wordIf (loadMark u r s) (taken u s)) (wordIf (storeMark u r s) (value u s)))
+      (address-here t rules lengths p a r here row loads stores values words access-gains)
+      ∙ ap₂ (accessed a)
+      (side-same (loadMark u r s) load (taken u s) w load-here
+      (keeping-here (t .taken) load s w (omega (arith, lengths .taken, small))))
+      (side-same (storeMark u r s) store (value u s) v store-here
+      (keeping-here (t .values) store s v (omega (arith, lengths .values, small)))))

@@ -80,7 +80,7 @@ module _ (t : Table) (rules : Rules t) (f k : ℕ) (h : f + k ≤ t .live) where
       (fates-same t (narrowed t o k) s refl refl
       (λ r b. within-same (rowsIn (t .banks)) (t .loads) (firsts o n k) r s b stays)
       (λ r b. within-same (rowsIn (t .banks)) (t .stores) (firsts o n k) r s b stays)
-      (λ r b m. refl) (λ r b m. refl))
+      (λ r b m. refl) (λ r b m. refl) (λ r b m. refl))
       ∙ ap (λ (u : ℕ). ref (getD (t .numbers) u 0) (fateAt t u)) (stage-from (t .oldest) n (rules .start) f p (omega arith))
 
   pub narrowed-view : (view (narrowed t (stageOf t f) k)) .refs ≡ take k (drop f (view t .refs))
@@ -126,6 +126,7 @@ cut-lengths t lengths left =
       loads = same (t .loads) (ltb left (t .live)) ∙ lengths .loads;
       stores = same (t .stores) (ltb left (t .live)) ∙ lengths .stores;
       values = lengths .values;
+      taken = lengths .taken;
     }
   where
     same : (words : List ℕ) (b : Bool)

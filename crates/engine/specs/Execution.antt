@@ -8,13 +8,13 @@ use Rattle.engine.specs.declared.Action.{Action}
 use Rattle.engine.specs.declared.Action.the-variants.{Compute, LoadAt, StoreAt, PartAt}
 use Rattle.engine.specs.Part.{wordOf, whole}
 
--- The fate of a reference that executed this where the memory is seen as μ. A store of a part loads the word and then stores
--- the whole of it.
+-- The fate of a reference that executed this where the memory is seen as μ: a load keeps the word that it took. A store of a
+-- part loads the word and then stores the whole of it.
 abbrev pub fateBy : (ℕ → ℕ) → Action → Fate
 fateBy μ (Compute v) = other
-fateBy μ (LoadAt a) = loaded a
+fateBy μ (LoadAt a) = loaded a (μ a)
 fateBy μ (StoreAt a v) = stored a v
-fateBy μ (PartAt part b v) = merged (wordOf b) (whole part b (μ (wordOf b)) v)
+fateBy μ (PartAt part b v) = merged (wordOf b) (μ (wordOf b)) (whole part b (μ (wordOf b)) v)
 
 -- The number that its execution answers: of a load what f says of its address, else 0. For the value f is the memory as seen,
 -- for the distance how far a word of it came.

@@ -22,7 +22,7 @@ ghost use Rattle.engine.specs.Conditions.{faults};
 ghost use Rattle.engine.specs.Opening.{fresh};
 ghost use Rattle.engine.specs.Execution.{written};
 ghost use Rattle.engine.specs.Part.{whole};
-ghost use Rattle.engine.specs.computed.Steps.{within, cutMarks, marking};
+ghost use Rattle.engine.specs.computed.Steps.{within, cutMarks, marking, keeping};
 ghost use Rattle.engine.specs.computed.Effect.{effectOf, answered};
 
 // A table with these sizes and nothing in it.
@@ -43,6 +43,7 @@ pub fn empty(banks: usize, rows: usize, stages: usize, words: usize) -> Table
         loads: [0; SLOTS],
         stores: [0; SLOTS],
         values: [0; STAGES],
+        taken: [0; STAGES],
     }
 }
 
@@ -83,18 +84,18 @@ pub fn effect_of<'a>(
     loads: &'a [u32; SLOTS],
     stores: &'a [u32; SLOTS],
     values: &'a [u32; STAGES],
+    taken: &'a [u32; STAGES],
     p: usize,
     action: Action,
     memory: &[u32],
 ) -> Effect
     requires { ⌜ (0 < banks) × (banks ≤ banksMost) × (0 < rows) × (rows ≤ rowsMost)
         × (oldest < stages) × (live ≤ stages) × (stages ≤ stagesMost) × (p < live) ⌝ }
-    requires { ⌜ (length (now addresses) ≡ slots) × (length (now loads) ≡ slots) × (length (now stores) ≡ slots) × (length (now
-        values) ≡ stagesMost) ⌝ }
+    requires { ⌜ (length (now addresses) ≡ slots) × (length (now loads) ≡ slots) × (length (now stores) ≡ slots)
+        × (length (now values) ≡ stagesMost) × (length (now taken) ≡ stagesMost) ⌝ }
     ensures { λ r. ⌜ r
-        ≡ effectOf banks rows stages oldest live (now (addresses .entry)) (now (loads .entry)) (now (stores .entry)) (now
-        (values .entry)) p
-        (now (memory .entry)) action ⌝ }
+        ≡ effectOf banks rows stages oldest live (now (addresses .entry)) (now (loads .entry)) (now (stores .entry))
+        (now (values .entry)) (now (taken .entry)) p (now (memory .entry)) action ⌝ }
 {
     match action {
         Action::Compute(v) => Effect {
@@ -106,6 +107,7 @@ pub fn effect_of<'a>(
             value: v,
             address: 0,
             distance: 0,
+            taken: 0,
         },
         Action::LoadAt(a) => {
             let place = lookup_rows::place_of(
@@ -121,7 +123,7 @@ pub fn effect_of<'a>(
                 p,
             );
             let r = place.row;
-            let taken = lookup_marks::forwarded(
+            let found = lookup_marks::forwarded(
                 oldest,
                 stages,
                 stores,
@@ -136,9 +138,10 @@ pub fn effect_of<'a>(
                 row: r,
                 word: a,
                 left: place.left,
-                value: taken.word,
+                value: found.word,
                 address: a,
-                distance: taken.distance,
+                distance: found.distance,
+                taken: found.word,
             }
         }
         Action::StoreAt(a, v) => {
@@ -161,9 +164,11 @@ pub fn effect_of<'a>(
                 live,
                 loads,
                 stores,
+                taken,
                 r,
                 place.left,
                 p,
+                v,
             );
             Effect {
                 load: false,
@@ -174,6 +179,7 @@ pub fn effect_of<'a>(
                 value: v,
                 address: a,
                 distance: 0,
+                taken: 0,
             }
         }
         Action::PartAt(part, b, v) => {
@@ -191,7 +197,7 @@ pub fn effect_of<'a>(
                 p,
             );
             let r = place.row;
-            let taken = lookup_marks::forwarded(
+            let found = lookup_marks::forwarded(
                 oldest,
                 stages,
                 stores,
@@ -200,15 +206,18 @@ pub fn effect_of<'a>(
                 p,
                 lookup_marks::word(memory, a),
             );
+            let word = merge(part, b, found.word, v);
             let left = lookup_rows::left_after(
                 oldest,
                 stages,
                 live,
                 loads,
                 stores,
+                taken,
                 r,
                 place.left,
                 p,
+                word,
             );
             Effect {
                 load: true,
@@ -216,9 +225,10 @@ pub fn effect_of<'a>(
                 row: r,
                 word: a,
                 left,
-                value: merge(part, b, taken.word, v),
+                value: word,
                 address: b,
                 distance: 0,
+                taken: found.word,
             }
         }
     }
@@ -283,7 +293,7 @@ pub fn set_word(a: &mut [u32; SLOTS], on: bool, i: usize, v: u32)
 
 pub fn set_value(a: &mut [u32; STAGES], on: bool, i: usize, v: u32)
     requires { ⌜ i < stagesMost ⌝ }
-    ensures { λ _. ⌜ now (a .exit) ≡ cond on (set (now (a .entry)) i v) (now (a .entry)) ⌝ }
+    ensures { λ _. ⌜ now (a .exit) ≡ keeping (now (a .entry)) on i v ⌝ }
 {
     if on {
         a[i] = v;

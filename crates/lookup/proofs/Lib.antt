@@ -13,3 +13,4 @@ pub mod Places
 pub mod Telling
 pub mod Sentences
 pub mod Eviction
+pub mod Faithfully

@@ -13,7 +13,7 @@ use borrow.Author.Tests.{ltb-true, ltb-false}
 use Rattle.table.specs.declared.Table.{Table}
 use Rattle.table.specs.Limits.{rowsMost}
 use Rattle.table.specs.Bank.{bank}
-use Rattle.table.specs.Reference.{accessed, holds, loaded}
+use Rattle.table.specs.Reference.{Side, accessed, holds, loaded}
 use Rattle.table.specs.Rules.{Rules}
 use Rattle.table.specs.View.{view}
 use Rattle.table.proofs.Fates.{length-refs}
@@ -37,11 +37,11 @@ pub record Placed (t : Table) (a p : ℕ) (place : Place) : Type 0 where
   pub within : place .left ≤ t .live
   pub owned : RowFor t a (place .row) (place .left)
 
--- the place of a store: what it violates goes too
-abbrev pub storeAt : Table → ℕ → ℕ → Place
-storeAt t a p =
+-- the place of a store of the word v: what it violates goes too
+abbrev pub storeAt : Table → ℕ → ℕ → ℕ → Place
+storeAt t a v p =
     let q = placeAt t a p in
-    record { row = q .row; left = leftAfter (t .oldest) (t .stages) (t .live) (t .loads) (t .stores) (q .row) (q .left) p }
+    record { row = q .row; left = leftAfter (t .oldest) (t .stages) (t .live) (t .loads) (t .stores) (t .taken) (q .row) (q .left) p v }
 
 module _ (t : Table) (rules : Rules t) (a p : ℕ) (live : p < t .live) where
   abbrev found : ℕ
@@ -59,10 +59,10 @@ module _ (t : Table) (rules : Rules t) (a p : ℕ) (live : p < t .live) where
   place-some : (i : ℕ) → found ≡ suc i → placeAt t a p ≡ record { row = held (suc i - 1); left = t .live }
   place-some i e = rw (e, eqb·suc-zero i)
 
-  pub place-left : placeAt t a p .left ≡ survivors (view t) p (loaded a)
-  place-left = go found refl
+  pub place-left : (w : ℕ) → placeAt t a p .left ≡ survivors (view t) p (loaded a w)
+  place-left w = go found refl
     where
-      go : (i : ℕ) → found ≡ i → placeAt t a p .left ≡ survivors (view t) p (loaded a)
+      go : (i : ℕ) → found ≡ i → placeAt t a p .left ≡ survivors (view t) p (loaded a w)
       go zero e = rw (place-none e, row-none t rules a e) (taken-room t rules a p live (row-none t rules a e))
       go (suc i) e = rw (place-some i e, row-some t rules a i e .0) (sym (length-refs t))
 
@@ -82,51 +82,51 @@ module _ (t : Table) (rules : Rules t) (a p : ℕ) (live : p < t .live) where
           record { after = live; within = le-refl (t .live); owned = rw z (row-some t rules a i e .1) })
 
   -- a place that leaves all: the row's marks are this address's, and the check of them is the list's
-  checked : t .live ≤ placeAt t a p .left
+  checked : (v : ℕ) → t .live ≤ placeAt t a p .left
       → (RowFor t a (placeAt t a p .row) (t .live))
       × (violationPoint (t .oldest) (t .stages) (t .live) (getD (t .loads) (placeAt t a p .row) 0)
-      (getD (t .stores) (placeAt t a p .row) 0) p
-      ≡ keptAfterStore (view t) p a)
-  checked all =
+      (getD (t .stores) (placeAt t a p .row) 0) (t .taken) p v
+      ≡ keptAfterStore (view t) p a v)
+  checked v all =
       let q = placed (λ z. omega (arith, all, live, z)) in
       let whole : placeAt t a p .left ≡ t .live = omega (arith, all, q .within) in
       let own : RowFor t a (placeAt t a p .row) (t .live) = subst (RowFor t a (placeAt t a p .row)) whole (q .owned) in
-      (own, violates-checked t rules a (placeAt t a p .row) p live own)
+      (own, violates-checked t rules a v (placeAt t a p .row) p live own)
 
-  pub store-left : (l : Bool) (v : ℕ) → storeAt t a p .left ≡ survivors (view t) p (accessed a l (holds v))
+  pub store-left : (l : Side) (v : ℕ) → storeAt t a v p .left ≡ survivors (view t) p (accessed a l (holds v))
   store-left l v = go (ltb (placeAt t a p .left) (t .live)) refl (touched a (view t .refs)) refl
     where
       go : (b : Bool) → ltb (placeAt t a p .left) (t .live) ≡ b → (c : Bool) → touched a (view t .refs) ≡ c
           → cond b (placeAt t a p .left)
           (violationPoint (t .oldest) (t .stages) (t .live) (getD (t .loads) (placeAt t a p .row) 0)
-          (getD (t .stores) (placeAt t a p .row) 0) p)
-          ≡ cond c (keptAfterStore (view t) p a) (allocateRow (view t) p (bank (t .banks) a))
+          (getD (t .stores) (placeAt t a p .row) 0) (t .taken) p v)
+          ≡ cond c (keptAfterStore (view t) p a v) (allocateRow (view t) p (bank (t .banks) a))
       go true e true f =
-          let all : placeAt t a p .left ≡ length (view t .refs) = rw f at place-left in
+          let all : placeAt t a p .left ≡ length (view t .refs) = rw f at (place-left 0) in
           absurd (omega (arith, ltb-true (placeAt t a p .left) (t .live) e, all, length-refs t))
-      go true e false f = rw f at place-left
-      go false e true f = checked (ltb-false (placeAt t a p .left) (t .live) e) .1
+      go true e false f = rw f at (place-left 0)
+      go false e true f = checked v (ltb-false (placeAt t a p .left) (t .live) e) .1
       go false e false f =
-          let room : placeAt t a p .left ≡ allocateRow (view t) p (bank (t .banks) a) = rw f at place-left in
+          let room : placeAt t a p .left ≡ allocateRow (view t) p (bank (t .banks) a) = rw f at (place-left 0) in
           let all = ltb-false (placeAt t a p .left) (t .live) e in
           let some = placed (λ z. omega (arith, all, live, z)) in
-          checked all .1 ∙ untouched-checked (view t) p a (omega (arith, live, length-refs t)) f
+          checked v all .1 ∙ untouched-checked (view t) p a v (omega (arith, live, length-refs t)) f
           ∙ omega (arith, room, all, some .within, length-refs t)
 
-  pub store-placed : (storeAt t a p .left ≡ 0 → ⊥) → Placed t a p (storeAt t a p)
-  store-placed = go (ltb (placeAt t a p .left) (t .live)) refl
+  pub store-placed : (v : ℕ) → (storeAt t a v p .left ≡ 0 → ⊥) → Placed t a p (storeAt t a v p)
+  store-placed v = go (ltb (placeAt t a p .left) (t .live)) refl
     where
       point : ℕ
       point =
           violationPoint (t .oldest) (t .stages) (t .live) (getD (t .loads) (placeAt t a p .row) 0)
-          (getD (t .stores) (placeAt t a p .row) 0) p
+          (getD (t .stores) (placeAt t a p .row) 0) (t .taken) p v
 
       go : (b : Bool) → ltb (placeAt t a p .left) (t .live) ≡ b → (cond b (placeAt t a p .left) point ≡ 0 → ⊥)
           → Placed t a p (record { row = placeAt t a p .row; left = cond b (placeAt t a p .left) point })
       go true e some = placed some
       go false e some =
-          let w = checked (ltb-false (placeAt t a p .left) (t .live) e) in
-          let bounds = checked-after (view t) p a (rw (length-refs t) live) in
+          let w = checked v (ltb-false (placeAt t a p .left) (t .live) e) in
+          let bounds = checked-after (view t) p a v (rw (length-refs t) live) in
           let below : point ≤ t .live =
           subst (λ (n : ℕ). point ≤ n) (length-refs t) (rw (w .1) (bounds .1)) in
           record {

@@ -23,7 +23,7 @@ allocateRow P p h =
 -- the reference at position p executes to an address with a row: where it stores, the younger marks of the row decide
 abbrev pub keptInRow : State → ℕ → ℕ → Side → ℕ
 keptInRow P p a lacks = length (P .refs)
-keptInRow P p a (holds v) = keptAfterStore P p a
+keptInRow P p a (holds v) = keptAfterStore P p a v
 
 -- the reference at position p executes to this fate
 abbrev pub survivors : State → ℕ → Fate → ℕ

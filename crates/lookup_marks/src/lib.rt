@@ -78,21 +78,24 @@ pub fn next_mark(oldest: usize, stages: usize, live: usize, set: u32, from: usiz
     q
 }
 
-// How many references a store at position `p` leaves in its address's row, which has these marks.
+// How many references a store of the word `v` at position `p` leaves in its address's row, which has these marks.
 pub fn first_met(
     oldest: usize,
     stages: usize,
     live: usize,
     load: u32,
     store: u32,
+    taken: &[u32; STAGES],
     p: usize,
+    v: u32,
 ) -> usize
-    requires { ⌜ (oldest < stages) × (live ≤ stages) × (stages ≤ stagesMost) × (p < live) ⌝ }
-    ensures { λ r. ⌜ r ≡ violationPoint oldest stages live load store p ⌝ }
+    requires { ⌜ (oldest < stages) × (live ≤ stages) × (stages ≤ stagesMost) × (p < live) × (length (now taken) ≡ stagesMost) ⌝ }
+    ensures { λ r. ⌜ r ≡ violationPoint oldest stages live load store (now (taken .entry)) p v ⌝ }
 {
     let q = next_mark(oldest, stages, live, load | store, p + 1);
     if q < live {
-        if marks::contains(load, marks::stage_at(oldest, stages, q)) {
+        let s = marks::stage_at(oldest, stages, q);
+        if marks::contains(load, s) & !(taken[s] == v) {
             return q;
         }
     }

@@ -4,6 +4,7 @@
 use lookup::Place;
 use table::ROWS;
 use table::SLOTS;
+use table::STAGES;
 ghost use mathlib.Core.Path.{_≡_};
 ghost use Prim.Native.Nat.{_-_, _≤_, _<_};
 ghost use lib.ListN.{length};
@@ -170,24 +171,27 @@ pub fn place_of<'a>(
     }
 }
 
-// How many references stay of a store at position `p` that is given row `r`, where `left` stay for the row's sake: a younger
-// load of the address that saw an older word is squashed.
+// How many references stay of a store of the word `v` at position `p` that is given row `r`, where `left` stay for the row's
+// sake: a younger load of the address that took another word from an older store or from memory is squashed.
 pub fn left_after<'a>(
     oldest: usize,
     stages: usize,
     live: usize,
     loads: &'a [u32; SLOTS],
     stores: &'a [u32; SLOTS],
+    taken: &'a [u32; STAGES],
     r: usize,
     left: usize,
     p: usize,
+    v: u32,
 ) -> usize
     requires { ⌜ (oldest < stages) × (live ≤ stages) × (stages ≤ stagesMost) × (p < live) × (r < slots) ⌝ }
-    requires { ⌜ (length (now loads) ≡ slots) × (length (now stores) ≡ slots) ⌝ }
-    ensures { λ k. ⌜ k ≡ leftAfter oldest stages live (now (loads .entry)) (now (stores .entry)) r left p ⌝ }
+    requires { ⌜ (length (now loads) ≡ slots) × (length (now stores) ≡ slots) × (length (now taken) ≡ stagesMost) ⌝ }
+    ensures { λ k. ⌜ k
+        ≡ leftAfter oldest stages live (now (loads .entry)) (now (stores .entry)) (now (taken .entry)) r left p v ⌝ }
 {
     if left < live {
         return left;
     }
-    lookup_marks::first_met(oldest, stages, live, loads[r], stores[r], p)
+    lookup_marks::first_met(oldest, stages, live, loads[r], stores[r], taken, p, v)
 }

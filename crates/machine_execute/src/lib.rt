@@ -75,6 +75,7 @@ pub fn execute(mut m: Machine, program: &[u32], p: usize, memory: &[u32]) -> Exe
         &m.table.loads,
         &m.table.stores,
         &m.table.values,
+        &m.table.taken,
         p,
         action,
         memory,
@@ -102,6 +103,7 @@ pub fn execute(mut m: Machine, program: &[u32], p: usize, memory: &[u32]) -> Exe
     engine_steps::add_mark(&mut m.table.loads, effect.load, r, s);
     engine_steps::add_mark(&mut m.table.stores, effect.store, r, s);
     engine_steps::set_value(&mut m.table.values, effect.store, s, v);
+    engine_steps::set_value(&mut m.table.taken, effect.load, s, effect.taken);
     m.window[s] = Entry {
         instruction,
         index: e.index,

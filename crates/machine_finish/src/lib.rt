@@ -96,6 +96,7 @@ pub fn finish(
                 &m.table.loads,
                 &m.table.stores,
                 &m.table.values,
+                &m.table.taken,
                 0,
                 machine_isa::action_of(instruction, x, y),
                 memory,
@@ -117,6 +118,7 @@ pub fn finish(
             engine_steps::add_mark(&mut m.table.loads, effect.load, r, oldest);
             engine_steps::add_mark(&mut m.table.stores, effect.store, r, oldest);
             engine_steps::set_value(&mut m.table.values, effect.store, oldest, v);
+            engine_steps::set_value(&mut m.table.taken, effect.load, oldest, effect.taken);
             let f = m.window[marks::stage_at(oldest, stages, left)];
             m.window[oldest] = Entry {
                 instruction,

@@ -29,7 +29,7 @@ use Rattle.table.specs.Limits.{rowsIn}
 use Rattle.table.specs.computed.Check.{marksBelow, lawful}
 use Rattle.table.specs.Reference.{Side, Fate, waiting, other}
 use Rattle.table.specs.Rules.{Rules}
-use Rattle.table.specs.View.{stageOf, address, loadMark, storeMark, mark, value, wordIf, fateAt}
+use Rattle.table.specs.View.{stageOf, address, loadMark, storeMark, mark, value, taken, wordIf, fateAt}
 use Rattle.table.proofs.Sizes.{sizes, bank-lt}
 use Rattle.table.proofs.Fates.{Fated, waits, bare, marks, fated, mark-load, mark-store, fate-marked, fate-other, fate-waiting}
 use Rattle.table.proofs.Lawful.{lawful-rules, taken-has, taken-from}
@@ -46,7 +46,7 @@ use Rattle.machine_model.specs.declared.Entry.{Entry}
 use Rattle.machine_model.specs.declared.Machine.{Machine}
 use Rattle.machine_model.specs.Program.{decoded, instructionAt, codeOf, dOf, sOf, immOf, same, wellFormed, wellFormedAt}
 use Rattle.machine_model.specs.Program.{kind, programFits}
-use Rattle.machine_model.specs.Window.{blankEntry, accessBy, referenceBy}
+use Rattle.machine_model.specs.Window.{blankEntry, accessBy, referenceBy, untold}
 use Rattle.machine_model.specs.Calls.{matchesProgram}
 use Rattle.machine_model.proofs.Comparing.{marked-kind}
 use Rattle.machine_model.proofs.Sounding.{agreeing, fitting, validateOf}
@@ -167,7 +167,10 @@ module _ (t : Table) (rules : Rules t) (s : ℕ) where
   tested f =
       agreesBy (t .banks) (t .executed) all (t .addresses) (t .loads) (t .stores) (kindOf f) (placeOf f) s
 
-  -- the word of the stage's store in row r
+  -- the words of the stage's load and of its store in row r
+  abbrev took : ℕ → Side
+  took r = wordIf (loadMark t r s) (taken t s)
+
   abbrev said : ℕ → Side
   said r = wordIf (storeMark t r s) (value t s)
 
@@ -178,7 +181,7 @@ module _ (t : Table) (rules : Rules t) (s : ℕ) where
       ap not (rules .executed r s h m)
       ∙ sym
       (ap (agree waiting) (fate-marked t rules r s h m)
-      ∙ ap (λ (b : Bool). b && eqb 0 (address t r)) (marked-kind (loadMark t r s) (said r) .1))
+      ∙ ap (λ (b : Bool). b && eqb 0 (address t r)) (marked-kind (took r) (said r) .1))
 
   -- executed, and without a mark
   abbrev plainly : Bool → Bool → Bool
@@ -193,7 +196,7 @@ module _ (t : Table) (rules : Rules t) (s : ℕ) where
       ap₂ plainly (rules .executed r s h m) (in-all r h m)
       ∙ sym
       (ap (agree other) (fate-marked t rules r s h m)
-      ∙ ap (λ (b : Bool). b && eqb 0 (address t r)) (marked-kind (loadMark t r s) (said r) .2))
+      ∙ ap (λ (b : Bool). b && eqb 0 (address t r)) (marked-kind (took r) (said r) .2))
 
   -- Marks of one kind: every one is a mark. Those at an address are those of its row; where the stage has no mark at the address
   -- there are none.
@@ -217,12 +220,12 @@ module _ (t : Table) (rules : Rules t) (s : ℕ) where
   found a = markNumber (at-address (t .loads) a) (at-address (t .stores) a)
 
   found-row : (a r : ℕ) → r < rowsIn (t .banks) → mark t r s ≡ true → a ≡ address t r
-      → found a ≡ markKind (loadMark t r s) (said r)
+      → found a ≡ markKind (took r) (said r)
   found-row a r l m e =
       ap₂ markNumber (at-row (t .loads) (λ q. mark-load t q s) a r l m e) (at-row (t .stores) (λ q. mark-store t q s) a r l m e)
       ∙ go (loadMark t r s) (storeMark t r s) m
     where
-      go : (ld st : Bool) → (ld || st) ≡ true → markNumber ld st ≡ markKind ld (wordIf st (value t s))
+      go : (ld st : Bool) → (ld || st) ≡ true → markNumber ld st ≡ markKind (wordIf ld (taken t s)) (wordIf st (value t s))
       go true true h = refl
       go true false h = refl
       go false true h = refl
@@ -252,26 +255,27 @@ module _ (t : Table) (rules : Rules t) (s : ℕ) where
       go (marks r l m) = here (eqb a (address t r)) refl ∙ sym (ap like (fate-marked t rules r s l m))
         where
           here : (b : Bool) → eqb a (address t r) ≡ b
-              → eqb (found a) k ≡ (eqb k (markKind (loadMark t r s) (said r)) && eqb a (address t r))
+              → eqb (found a) k ≡ (eqb k (markKind (took r) (said r)) && eqb a (address t r))
           here true e =
               ap (λ (j : ℕ). eqb j k) (found-row a r l m (eqb-true a (address t r) e))
-              ∙ turned (markKind (loadMark t r s) (said r)) k
-              ∙ sym (ap (λ (b : Bool). eqb k (markKind (loadMark t r s) (said r)) && b) e
-              ∙ and-true (eqb k (markKind (loadMark t r s) (said r))))
+              ∙ turned (markKind (took r) (said r)) k
+              ∙ sym (ap (λ (b : Bool). eqb k (markKind (took r) (said r)) && b) e
+              ∙ and-true (eqb k (markKind (took r) (said r))))
           here false e =
               absent
               (found-none a
               (λ q h n i.
               eqb-false a (address t r) e
               (sym i ∙ ap (address t) (rules .one-row q r s h l n m))))
-              ∙ sym (ap (λ (b : Bool). eqb k (markKind (loadMark t r s) (said r)) && b) e
-              ∙ and-false (eqb k (markKind (loadMark t r s) (said r))))
+              ∙ sym (ap (λ (b : Bool). eqb k (markKind (took r) (said r)) && b) e
+              ∙ and-false (eqb k (markKind (took r) (said r))))
 
-  stage-law : (i : Instruction) (f : Entered.Fate) → tested (referenceBy i f) ≡ agree (referenceBy i f) (fateAt t s)
+  stage-law : (i : Instruction) (f : Entered.Fate)
+      → tested (referenceBy untold i f) ≡ agree (referenceBy untold i f) (fateAt t s)
   stage-law i Waiting = of-waiting (fated t s)
   stage-law i (Executed v a) = go (kind i)
     where
-      go : (k : Kind) → tested (accessBy k v a) ≡ agree (accessBy k v a) (fateAt t s)
+      go : (k : Kind) → tested (accessBy untold k v a) ≡ agree (accessBy untold k v a) (fateAt t s)
       go Computing = of-other (fated t s)
       go Loading = access-law 1 a (λ z. omega arith) (λ z. omega arith)
       go Storing = access-law 2 a (λ z. omega arith) (λ z. omega arith)

@@ -179,7 +179,7 @@ module _ (program : List ℕ) (lent : ℕ) (X : Plain) (w : List ℕ) (fit : Fit
         counted = fit .counted;
         alike =
             all-take g (set (X .entries) p e) (all-set g (X .entries) (fit .alike) p e (fit .alike p))
-            (survivorsOf X p f);
+            (survivorsOf X w p f);
       })
 
   commit-fits : Fitting program lent (commits program X w .state)

@@ -51,6 +51,7 @@ use Rattle.machine_model.specs.Window.{
   addressBy,
   registerSeen,
   referenceBy,
+  untold,
   reference,
   with₂,
   evaluate,
@@ -70,7 +71,7 @@ use Rattle.machine_model.specs.Calls.{
 use Rattle.machine_model.specs.Calls.{survivorsOf, answerBy, loadDistance, respond}
 use Rattle.machine_model.specs.Contract.{squashSays, entryOf, plain, agree, Sound, Meets}
 use Rattle.machine_model.specs.computed.Parts.{actionOf, second}
-use Rattle.machine_model.proofs.Comparing.{agree-same, agree-waiting}
+use Rattle.machine_model.proofs.Comparing.{agree-words, agree-waiting}
 use Rattle.machine_model.proofs.Sounding.{length-entries, entry-at}
 use Rattle.machine_model.proofs.Operands.{fateAfter, outcome-unready, outcome-ready, reference-ready, value-ready}
 use Rattle.machine_model.proofs.Operands.{distance-ready}
@@ -78,9 +79,9 @@ use Rattle.machine_model.proofs.Answering.{Passed, passed-lent, refused
 
 -- ---- fates
 
-pub waits-waiting : (i : Instruction) (f : Fate) → waits f ≡ true → referenceBy i f ≡ waiting
-waits-waiting i Waiting e = refl
-waits-waiting i (Executed v a) e = absurd (let z : _≡_ {A = ℕ} 0 1 = cc in omega arith)
+pub waits-waiting : (μ : ℕ → ℕ) (i : Instruction) (f : Fate) → waits f ≡ true → referenceBy μ i f ≡ waiting
+waits-waiting μ i Waiting e = refl
+waits-waiting μ i (Executed v a) e = absurd (let z : _≡_ {A = ℕ} 0 1 = cc in omega arith)
 
 -- ---- numbers
 
@@ -133,23 +134,23 @@ module _ (m : Machine) (program w : List ℕ) (p : ℕ) (passed : Passed m progr
   done = not (waits (entryAt (now .entries) p .fate))
 
   abbrev stuck : Option Fate → Bool
-  stuck o = eqb (survivorsOf now p (known o)) 0
+  stuck o = eqb (survivorsOf now w p (known o)) 0
 
   abbrev result : Option Fate → Result
   result o =
-      judged (number absent done (unknown o) (stuck o)) now w [] (executing now w p (known o) (survivorsOf now p (known o)))
+      judged (number absent done (unknown o) (stuck o)) now w [] (executing now w p (known o) (survivorsOf now w p (known o)))
 
   past-validate : respond program (execute p) now w ≡ result (evaluated now w p)
   unfolding respond
   past-validate =
       let o = evaluated now w p in
-      ap (λ (k : ℕ). judged k now w [] (executing now w p (known o) (survivorsOf now p (known o))))
+      ap (λ (k : ℕ). judged k now w [] (executing now w p (known o) (survivorsOf now w p (known o))))
       (passed-lent m program w passed (when absent 7 ∷ when done 8 ∷ when (unknown o) 9 ∷ when (stuck o) 10 ∷ []))
 
   turned-down : (k : ℕ) → (k ≡ 0 → ⊥) → number absent done (unknown (evaluated now w p)) (stuck (evaluated now w p)) ≡ k
       → Meets program m (execute p) w (refused k) m w []
   turned-down k not-zero e =
-      let r = executing now w p (known (evaluated now w p)) (survivorsOf now p (known (evaluated now w p))) in
+      let r = executing now w p (known (evaluated now w p)) (survivorsOf now w p (known (evaluated now w p))) in
       refused-meets program m (execute p) w k (passed .sound)
       (past-validate ∙ ap (λ (j : ℕ). judged j now w [] r) e ∙ judged-refused k now w [] r not-zero)
 
@@ -207,13 +208,13 @@ module _ (m : Machine) (program w : List ℕ) (p : ℕ) (passed : Passed m progr
         abbrev left : ℕ
         left = survivors (view (m .table)) p (fateBy memorySeen act)
 
-        fate-is : referenceBy (own .instruction) fate ≡ fateBy memorySeen act
+        fate-is : referenceBy memorySeen (own .instruction) fate ≡ fateBy memorySeen act
         fate-is =
             reference-ready (own .instruction) (registersSeen (sOf (own .instruction)))
             (registersSeen (second (own .instruction))) act memorySeen ready
 
-        fate-at : referenceBy (entryAt (now .entries) p .instruction) fate ≡ fateBy memorySeen act
-        fate-at = ap (λ (x : Entry). referenceBy (x .instruction) fate) here ∙ fate-is
+        fate-at : referenceBy memorySeen (entryAt (now .entries) p .instruction) fate ≡ fateBy memorySeen act
+        fate-at = ap (λ (x : Entry). referenceBy memorySeen (x .instruction) fate) here ∙ fate-is
 
         value-at : loadValue (entryAt (now .entries) p .instruction) fate ≡ value
         value-at =
@@ -250,7 +251,7 @@ module _ (m : Machine) (program w : List ℕ) (p : ℕ) (passed : Passed m progr
             sym (executed-at (m .table) p live)
             ∙ ap hasExecuted
             (agree-waiting there
-            (ap (λ (f : Reference.Fate). agree f there) (sym (waits-waiting (own .instruction) (own .fate) idle))
+            (ap (λ (f : Reference.Fate). agree f there) (sym (waits-waiting untold (own .instruction) (own .fate) idle))
             ∙ passed .sound .agrees p live))
 
         module _ (q : Effect) (found : q ≡ effectAt (m .table) p w act) where
@@ -383,10 +384,11 @@ module _ (m : Machine) (program w : List ℕ) (p : ℕ) (passed : Passed m progr
               go q h true e =
                   subst (λ (j : ℕ). agree (reference (entryOf next j)) (fateOf (at (view after .refs) j)) ≡ true)
                   (sym (eqb-true q p e))
-                  (ap₂ agree (ap reference entry-here ∙ fate-is)
+                  (ap₂ agree (ap reference entry-here)
                   (ap (λ (P : State). fateOf (at (P .refs) p)) same
-                  ∙ ap fateOf (getD-set-same refs p _ blank (omega (arith, bounds .0, length-left))))
-                  ∙ agree-same (fateBy memorySeen act))
+                  ∙ ap fateOf (getD-set-same refs p _ blank (omega (arith, bounds .0, length-left)))
+                  ∙ sym fate-is)
+                  ∙ agree-words untold memorySeen (own .instruction) fate)
               go q h false e =
                   let differ = eqb-false q p e in
                   ap₂ agree (ap reference (entry-there q (omega (arith, bounds .1)) differ))

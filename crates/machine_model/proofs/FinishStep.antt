@@ -23,7 +23,7 @@ use Rattle.table.specs.Reference.{fateOf, at}
 use Rattle.table.specs.View.{stageOf, tabulate, value, view}
 use Rattle.table.proofs.Sizes.{Sizes}
 use Rattle.table.proofs.Fates.{length-refs}
-use Rattle.engine.specs.computed.Steps.{rebuilt, remade, within, cutMarks, marking}
+use Rattle.engine.specs.computed.Steps.{rebuilt, remade, within, cutMarks, marking, keeping}
 use Rattle.engine.proofs.Lengths.{fits, oldest-small}
 use Rattle.engine.proofs.Reaching.{within-length}
 use Rattle.lookup.specs.declared.Mark.{Mark}
@@ -39,7 +39,7 @@ use Rattle.machine_model.specs.declared.Entry.{Entry}
 use Rattle.machine_model.specs.declared.Machine.{Machine}
 use Rattle.engine.specs.declared.Effect.{Effect}
 use Rattle.machine_model.specs.declared.Squashed.the-variants as squashed
-use Rattle.machine_model.specs.Window.{blankEntry, addressBy, misaligned, registerSeen, reference}
+use Rattle.machine_model.specs.Window.{blankEntry, addressBy, misaligned, registerSeen, untold, reference}
 use Rattle.machine_model.specs.Calls.{Plain, issue, execute, commit, matchesProgram, waits, valueBy, writing}
 use Rattle.machine_model.specs.Calls.{answerBy, registersAfter, target, begun, ready}
 use Rattle.machine_model.specs.Contract.{squashSays, entryOf, plain, agree, Meets}
@@ -74,7 +74,7 @@ abbrev issuedHere : Machine → ℕ → List ℕ → Instruction → Machine
 issuedHere m number numbers i =
     let t = m .table in
     record {
-      table = rebuilt t (t .oldest) 1 number 0 numbers (t .addresses) (t .loads) (t .stores) (t .values);
+      table = rebuilt t (t .oldest) 1 number 0 numbers (t .addresses) (t .loads) (t .stores) (t .values) (t .taken);
       window = set (m .window) (t .oldest) (record { instruction = i; index = m .next; fate = Waiting; distance = 0 });
       registers = m .registers;
       count = m .count;
@@ -142,6 +142,7 @@ module _ (program : List ℕ) (m : Machine) (w : List ℕ) (passes : validateOf 
                   loads = l .loads;
                   stores = l .stores;
                   values = l .values;
+                  taken = l .taken;
                 };
                 window = simp length-set (sized .window);
                 registers = sized .registers;
@@ -188,12 +189,12 @@ pub record Prepared (program : List ℕ) (m : Machine) (w : List ℕ) (u : Machi
   pub executed : waits (getD (u .window) (u .table .oldest) blankEntry .fate) ≡ false
 
 -- the machine after the oldest, at stage o, took its course
-abbrev took : Machine → ℕ → Effect → ℕ → List ℕ → List ℕ → List ℕ → List ℕ → ℕ → Machine
-took b o q done addresses loads stores values next =
+abbrev took : Machine → ℕ → Effect → ℕ → List ℕ → List ℕ → List ℕ → List ℕ → List ℕ → ℕ → Machine
+took b o q done addresses loads stores values words next =
     let t = b .table in
     let e = getD (b .window) o blankEntry in
     record {
-      table = remade t (t .oldest) (q .left) done addresses loads stores values;
+      table = remade t (t .oldest) (q .left) done addresses loads stores values words;
       window = set (b .window) o
           (record {
             instruction = e .instruction;
@@ -266,7 +267,7 @@ module _ {program : List ℕ} {m : Machine} {w : List ℕ} {b : Machine}
       (hy : y ≡ getD (b .registers) (second (own .instruction)) 0) {act : Action}
       (ha : act ≡ actionOf (own .instruction) x y) {q : Effect}
       (hq : q
-      ≡ effectOf (t .banks) (t .rows) n o (t .live) (t .addresses) (t .loads) (t .stores) (t .values) 0 w act) where
+      ≡ effectOf (t .banks) (t .rows) n o (t .live) (t .addresses) (t .loads) (t .stores) (t .values) (t .taken) 0 w act) where
     idle-here : waits (entryOf b 0 .fate) ≡ true
     idle-here = ap (λ (s : ℕ). waits (getD (b .window) s blankEntry .fate)) here ∙ idle
 
@@ -284,7 +285,7 @@ module _ {program : List ℕ} {m : Machine} {w : List ℕ} {b : Machine}
         hq
         ∙ circle along
         (λ (k j : ℕ).
-        effectOf (t .banks) (t .rows) j k (t .live) (t .addresses) (t .loads) (t .stores) (t .values) 0 w act)
+        effectOf (t .banks) (t .rows) j k (t .live) (t .addresses) (t .loads) (t .stores) (t .values) (t .taken) 0 w act)
 
     -- it never stalls
     stays : q .left ≡ 0 → ⊥
@@ -294,7 +295,7 @@ module _ {program : List ℕ} {m : Machine} {w : List ℕ} {b : Machine}
         let x = entryOf b 0 in
         oldest-leaves (view t) (fits t rules .some-row) (omega (arith, length-refs t, along .some))
         (agree-waiting f
-        (ap (λ (g : Reference.Fate). agree g f) (sym (waits-waiting (x .instruction) (x .fate) idle-here))
+        (ap (λ (g : Reference.Fate). agree g f) (sym (waits-waiting untold (x .instruction) (x .fate) idle-here))
         ∙ passed-here .sound .agrees 0 (along .some)))
         (fateBy (forwarded (view t) w 0) act)
         (sym (effect-left t rules 0 (along .some) w act) ∙ ap (λ (k : Effect). k .left) (sym effect-is) ∙ e)
@@ -302,23 +303,24 @@ module _ {program : List ℕ} {m : Machine} {w : List ℕ} {b : Machine}
     pub taken-bounds : (0 < q .left) × (q .left ≤ t .live) × (q .row < slots)
     taken-bounds = found-bounds t (passed-here .sound .rules) 0 (along .some) w act effect-is stays
 
-    module _ {done : ℕ} {cutLoads cutStores addresses loads stores values : List ℕ} {f : Entry} {next : ℕ}
+    module _ {done : ℕ} {cutLoads cutStores addresses loads stores values words : List ℕ} {f : Entry} {next : ℕ}
         (hd : done ≡ bitOr (t .executed) (2 ^ o)) (hl : cutLoads ≡ cutMarks (t .banks) o n (t .live) (q .left) (t .loads))
         (hs : cutStores ≡ cutMarks (t .banks) o n (t .live) (q .left) (t .stores))
         (ka : addresses ≡ cond (q .load || q .store) (set (t .addresses) (q .row) (q .word)) (t .addresses))
         (kl : loads ≡ marking cutLoads (q .load) (q .row) o)
         (ks : stores ≡ marking cutStores (q .store) (q .row) o)
-        (kv : values ≡ cond (q .store) (set (t .values) o (q .value)) (t .values))
+        (kv : values ≡ keeping (t .values) (q .store) o (q .value))
+        (kw : words ≡ keeping (t .taken) (q .load) o (q .taken))
         (hf : f ≡ getD (b .window) (stage o n (q .left)) blankEntry)
         (hn : next ≡ cond (ltb (q .left) (t .live)) (f .index) (b .next)) where
       abbrev taken : Machine
-      taken = took b o q done addresses loads stores values next
+      taken = took b o q done addresses loads stores values words next
 
       table-is : taken .table ≡ applyEffect t q o
       table-is =
           let cuts : List ℕ → ℕ → ℕ → List ℕ = λ l j k. cutMarks (t .banks) j k (t .live) (q .left) l in
-          effect-made t q o done addresses cutLoads loads cutStores stores values (hl ∙ circle along (cuts (t .loads)))
-          (hs ∙ circle along (cuts (t .stores))) hd ka kl ks kv
+          effect-made t q o done addresses cutLoads loads cutStores stores values words (hl ∙ circle along (cuts (t .loads)))
+          (hs ∙ circle along (cuts (t .stores))) hd ka kl ks kv kw
 
       next-is : next ≡ cond (ltb (q .left) (t .live)) (entryOf b (q .left) .index) (b .next)
       next-is =
@@ -353,6 +355,8 @@ module _ {program : List ℕ} {m : Machine} {w : List ℕ} {b : Machine}
               stores = rw ks (marks cutStores (q .store) (rw hs (cuts (t .stores) (l .stores))));
               values =
                   rw kv (length-either (q .store) (t .values) o (q .value) stagesMost (l .values));
+              taken =
+                  rw kw (length-either (q .load) (t .taken) o (q .taken) stagesMost (l .taken));
             };
             window = simp length-set (along .sized .window);
             registers = along .sized .registers;
@@ -473,6 +477,7 @@ module _ {program : List ℕ} {m : Machine} {w : List ℕ} {u : Machine} (prepar
                 loads = rw kl (within-length (rowsIn (u .table .banks)) (u .table .loads) stay ∙ l .loads);
                 stores = rw ks (within-length (rowsIn (u .table .banks)) (u .table .stores) stay ∙ l .stores);
                 values = l .values;
+                taken = l .taken;
               };
               window = prepared .along .sized .window;
               registers =

@@ -64,7 +64,7 @@ oldest-leaves P rows live w (accessed a l s) z = go (touched a (P .refs)) s z
   where
     go : (t : Bool) (s : Side) → cond t (keptInRow P 0 a s) (allocateRow P 0 (bank (P .banks) a)) ≡ 0 → ⊥
     go true lacks y = omega arith
-    go true (holds v) y = omega (arith, checked-after P 0 a live)
+    go true (holds v) y = omega (arith, checked-after P 0 a v live)
     go false s y = never-stalls P (bank (P .banks) a) rows live w y
 
 -- what ready comes to from the state begun

@@ -162,7 +162,7 @@ ready-numbers (some a) none f act e = absurd (let z : _≡_ {A = ℕ} 0 1 = cc i
 ready-numbers (some a) (some b) f act e = (a, b, cc)
 
 reference-after : (i : Instruction) (x y : ℕ) (μ : ℕ → ℕ)
-    → referenceBy i (fateAfter μ (actionOf i x y)) ≡ fateBy μ (actionOf i x y)
+    → referenceBy μ i (fateAfter μ (actionOf i x y)) ≡ fateBy μ (actionOf i x y)
 reference-after (Add d s imm) x y μ = refl
 reference-after (Sum d s r) x y μ = refl
 reference-after (Load d s imm) x y μ = refl
@@ -171,7 +171,7 @@ reference-after (Byte d s imm) x y μ = refl
 reference-after (Half d s imm) x y μ = refl
 
 pub reference-ready : (i : Instruction) (x y : Option ℕ) (act : Action) (μ : ℕ → ℕ)
-    → with₂ x y (actionOf i) ≡ some act → referenceBy i (fateAfter μ act) ≡ fateBy μ act
+    → with₂ x y (actionOf i) ≡ some act → referenceBy μ i (fateAfter μ act) ≡ fateBy μ act
 reference-ready i x y act μ e =
     let n = ready-numbers x y (actionOf i) act e in
     rw (n .2) at (reference-after i (n .0) (n .1) μ)

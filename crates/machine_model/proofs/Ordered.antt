@@ -64,7 +64,7 @@ module _ (checks : List Check) (rises : rising checks ≡ true) (said : Answer)
 abbrev accepted : List ℕ → Call → Plain → List ℕ → Result
 accepted program issue X memory = issuing program X memory
 accepted program (execute p) X memory =
-    executing X memory p (known (evaluated X memory p)) (survivorsOf X p (known (evaluated X memory p)))
+    executing X memory p (known (evaluated X memory p)) (survivorsOf X memory p (known (evaluated X memory p)))
 accepted program (squash p) X memory = squashing X memory p
 accepted program commit X memory = committing X memory
 accepted program (finish k list) X memory = drained list (finishes program k (length list) X memory)

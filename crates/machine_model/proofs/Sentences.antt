@@ -12,7 +12,7 @@ use native.Mathlib.Nat.{eq-or-lt-of-le, le-of-suc-le-suc, not-suc-le-zero, le-re
 use native.Mathlib.Omega.{arith}
 use lib.ListN.{length, getD, take}
 use lib.Seq.{take-suc}
-use Rattle.table.specs.Reference.{accessed, holds, ref, at}
+use Rattle.table.specs.Reference.{Side, accessed, holds, ref, at}
 use Rattle.lookup.specs.Forwarding.{seen, distance}
 use Rattle.lookup.proofs.Sentences.{CameFrom, distance-memory, distance-store, seen-none}
 use Rattle.machine_model.specs.declared.Instruction.{Instruction}
@@ -229,7 +229,7 @@ module _ (X : Plain) (memory : List ℕ) (p r s imm v a : ℕ) (load : entryAt (
 
   pub from-memory : loadDistance X p (Executed v a) ≡ 0
       → (v ≡ getD memory a 0)
-      × ((k m u : ℕ) (l : Bool) → k < p → at (X .buffer .refs) k ≡ ref m (accessed a l (holds u)) → ⊥)
+      × ((k m u : ℕ) (l : Side) → k < p → at (X .buffer .refs) k ≡ ref m (accessed a l (holds u)) → ⊥)
   from-memory e =
       let none = distance-memory (X .buffer .refs) p a (sym far ∙ e) in
       (sym takes ∙ seen-none (X .buffer .refs) p a (getD memory a 0) inside none, none)

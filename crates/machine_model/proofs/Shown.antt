@@ -13,7 +13,7 @@ use Rattle.machine_model.specs.Program.{programFits}
 use Rattle.machine_model.specs.Window.{registerSeen}
 use Rattle.machine_model.specs.Calls.{finishes, respond}
 use Rattle.machine_model.specs.Examples.{Example, toldBy, seenOf, AllShown, told, played, examples}
-use Rattle.machine_model.specs.Examples.{openings, refusals, unlikes, runs, parts, distances}
+use Rattle.machine_model.specs.Examples.{openings, refusals, unlikes, runs, parts, distances, sameWords}
 
 -- an equation of lists is one of each row
 each : (rows : List Example) → map seenOf rows ≡ map toldBy rows → AllShown rows
@@ -21,6 +21,6 @@ each [] h = tt
 each (e ∷ rows) h = (cc, each rows cc)
 
 pub shown : AllShown examples
-unfolding openings refusals unlikes runs parts distances told played respond finishes seen distance keptYounger touched every
-    count last home bank sizesFit programFits registerSeen
+unfolding openings refusals unlikes runs parts distances sameWords told played respond finishes seen distance keptYounger touched
+    every count last home bank sizesFit programFits registerSeen
 shown = each examples refl

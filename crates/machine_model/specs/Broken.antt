@@ -58,6 +58,7 @@ machine B R n W oldest live executed addresses loads stores window =
         loads = take slots (loads ++ replicate slots 0);
         stores = take slots (stores ++ replicate slots 0);
         values = take stagesMost (5 ∷ replicate stagesMost 0);
+        taken = take stagesMost (0 ∷ 5 ∷ replicate stagesMost 0);
       };
       window = take stagesMost (window ++ replicate stagesMost blankEntry);
       registers = replicate 8 0;

@@ -10,6 +10,7 @@ use lib.Dec.{eqb, leb, ltb}
 use lib.ListN.{length, getD, take, drop, set, replicate}
 use Rattle.marks.specs.Counting.{every}
 use Rattle.table.specs.Limits.{sizesFit}
+use Rattle.table.specs.Reference
 use Rattle.table.specs.Reference.{State, fateOf, at}
 use Rattle.table.specs.Moves.{issued, squashTo, retire}
 use Rattle.lookup.specs.Forwarding.{seen, distance}
@@ -84,12 +85,16 @@ abbrev pub issueChecks : List ℕ → Plain → List Check
 issueChecks program X =
     programCheck program X ∷ when (eqb (length (X .entries)) (X .buffer .stages)) 5 ∷ when (leb (X .count) (X .next)) 6 ∷ []
 
+-- the memory as the entry at position p sees it
+abbrev pub memorySeen : Plain → List ℕ → ℕ → ℕ → ℕ
+memorySeen X memory p a = seen (take p (X .buffer .refs)) a (getD memory a 0)
+
 -- what the entry at position p comes to over the registers and the memory that it sees
 abbrev pub evaluated : Plain → List ℕ → ℕ → Option Fate
 evaluated X memory p =
     evaluate (entryAt (X .entries) p .instruction)
     (λ (k : ℕ). registerSeen (take p (X .entries)) k (some (getD (X .registers) k 0)))
-    (λ (a : ℕ). seen (take p (X .buffer .refs)) a (getD memory a 0))
+    (memorySeen X memory p)
 
 abbrev pub known : Option Fate → Fate
 known none = Waiting
@@ -99,16 +104,20 @@ abbrev pub unknown : Option Fate → Bool
 unknown none = true
 unknown (some f) = false
 
+-- what the entry at position p is to the buffer once it has executed to fate f
+abbrev pub referenceAt : Plain → List ℕ → ℕ → Fate → Reference.Fate
+referenceAt X memory p f = referenceBy (memorySeen X memory p) (entryAt (X .entries) p .instruction) f
+
 -- how many entries stay
-abbrev pub survivorsOf : Plain → ℕ → Fate → ℕ
-survivorsOf X p f = survivors (X .buffer) p (referenceBy (entryAt (X .entries) p .instruction) f)
+abbrev pub survivorsOf : Plain → List ℕ → ℕ → Fate → ℕ
+survivorsOf X memory p f = survivors (X .buffer) p (referenceAt X memory p f)
 
 abbrev pub executeChecks : List ℕ → Plain → List ℕ → ℕ → List Check
 executeChecks program X memory p =
     wrongLength (X .buffer .words) memory ∷ programCheck program X ∷ when (leb (length (X .entries)) p) 7
     ∷ when (not (waits (entryAt (X .entries) p .fate))) 8
     ∷ when (unknown (evaluated X memory p)) 9
-    ∷ when (eqb (survivorsOf X p (known (evaluated X memory p))) 0) 10
+    ∷ when (eqb (survivorsOf X memory p (known (evaluated X memory p))) 0) 10
     ∷ []
 
 abbrev pub squashChecks : List ℕ → Plain → ℕ → List Check
@@ -199,7 +208,7 @@ executing X memory p f left =
           executed (loadValue (entryAt (X .entries) p .instruction) f) (loadDistance X p f)
           (cond (ltb left (length (X .entries))) (some left) none);
       state = record {
-        buffer = executes (X .buffer) p (referenceBy (entryAt (X .entries) p .instruction) f);
+        buffer = executes (X .buffer) p (referenceAt X memory p f);
         entries = take left (set (X .entries) p (entryWith (entryAt (X .entries) p) f (loadDistance X p f)));
         registers = X .registers;
         count = X .count;
@@ -212,7 +221,7 @@ executing X memory p f left =
 abbrev pub executions : List ℕ → Plain → List ℕ → ℕ → Result
 executions program X memory p =
     unlessRefused program (execute p) X memory
-    (executing X memory p (known (evaluated X memory p)) (survivorsOf X p (known (evaluated X memory p))))
+    (executing X memory p (known (evaluated X memory p)) (survivorsOf X memory p (known (evaluated X memory p))))
 
 -- ---- squash
 abbrev pub squashing : Plain → List ℕ → ℕ → Result

@@ -1,7 +1,7 @@
 -- What every call of the machine promises, for every machine, program, memory, position, limit and list.
 -- Assumes nothing.
 use mathlib.Core.Path.{_≡_}
-use mathlib.Core.Bool.{Bool, true, false, _&&_}
+use mathlib.Core.Bool.{Bool, true, _&&_}
 use mathlib.Core.List.{List}
 use mathlib.Core.Option.{Option, none, some}
 use Prim.Native.Nat.{ℕ, _/_, _<_}
@@ -75,11 +75,11 @@ plain m =
     }
 
 -- the marks of an access as a number: a load's, a store's, both; 5 stands for neither, which no table has
-abbrev pub markKind : Bool → Side → ℕ
-markKind true lacks = 1
-markKind false (holds v) = 2
-markKind true (holds v) = 3
-markKind false lacks = 5
+abbrev pub markKind : Side → Side → ℕ
+markKind (holds w) lacks = 1
+markKind lacks (holds v) = 2
+markKind (holds w) (holds v) = 3
+markKind lacks lacks = 5
 
 -- a fate as two numbers: executed or not and with which marks, and the address
 abbrev pub kindOf : Reference.Fate → ℕ

@@ -441,11 +441,14 @@ parts =
     ∷ usual (A 1 0 511 ++ H 1 0 8 ++ H 1 0 10)
     (three (asks (execute 0) (executed 0 0 none) ∷ asks (execute 1) (executed 0 0 none) ∷ asks (execute 2) (executed 0 0 none)
     ∷ asks commit (committed 0 1 1 511 0) ∷ asks commit (committed 1 6 8 511 0) ∷ asks commit (committed 2 6 10 33489407 0) ∷ []))
-    -- One that went before an older store of its word is squashed, and so is a load that went before one of these.
+    -- One that went before an older store of its word is squashed, and so is a load that went before one of these, unless the
+    -- word stays what it took.
     ∷ early (S 0 0 2 ++ B 0 0 9) 0 (executed 0 0 (some 1)) ∷ early (S 0 0 2 ++ H 0 0 10) 0 (executed 0 0 (some 1))
     ∷ early (B 0 0 8 ++ B 0 0 9) 0 (executed 0 0 (some 1)) ∷ early (B 0 0 8 ++ H 0 0 8) 0 (executed 0 0 (some 1))
     ∷ early (H 0 0 8 ++ B 0 0 11) 0 (executed 0 0 (some 1)) ∷ early (H 0 0 8 ++ H 0 0 10) 0 (executed 0 0 (some 1))
-    ∷ early (B 0 0 9 ++ L 1 0 2) 12 (executed 0 0 (some 1)) ∷ early (H 0 0 10 ++ L 1 0 2) 12 (executed 0 0 (some 1))
+    ∷ early (B 0 0 8 ++ L 1 0 2) 12 (executed 0 0 (some 1)) ∷ early (H 0 0 8 ++ L 1 0 2) 12 (executed 0 0 (some 1))
+    ∷ early (B 0 0 9 ++ L 1 0 2) 12 (executed 0 0 none) ∷ early (H 0 0 10 ++ L 1 0 2) 12 (executed 0 0 none)
+    ∷ early (B 0 0 9 ++ B 0 0 8) 0 (executed 0 0 none) ∷ early (H 0 0 10 ++ H 0 0 8) 0 (executed 0 0 none)
     -- not by the next word's, nor by a load; a store that is met first ends the walk
     ∷ early (S 0 0 1 ++ B 0 0 8) 0 (executed 0 0 none) ∷ early (B 0 0 7 ++ B 0 0 8) 0 (executed 0 0 none)
     ∷ early (L 1 0 2 ++ B 0 0 8) 0 (executed 12 0 none) ∷ early (B 0 0 8 ++ S 0 0 2) 0 (executed 0 0 none)
@@ -546,6 +549,62 @@ distances =
     ∷ asks commit (committed 0 3 1 5 3) ∷ [])
     ∷ []
 
+-- ---- a store of the word already there
+
+-- four instructions over a memory of zeros
+abbrev pub zeros : List ℕ → List Step → Example
+zeros program steps = row 1 4 4 8 program (replicate 8 0) done (four steps)
+
+unfoldable pub sameWords : List Example
+sameWords =
+    -- The load took 13, and then the store of 13 executes: it is kept, and commits with the distance that it came.
+    usual (A 1 0 13 ++ S 1 0 3 ++ L 2 0 3)
+    (three (asks (execute 2) (executed 13 0 none) ∷ asks (execute 0) (executed 0 0 none) ∷ asks (execute 1) (executed 0 0 none)
+    ∷ asks (execute 2) (refused 8) ∷ asks commit (committed 0 1 1 13 0) ∷ asks commit (committed 1 4 3 13 0)
+    ∷ asks commit (committed 2 3 2 13 0) ∷ []))
+    -- of another word: it is squashed
+    ∷ usual (A 1 0 14 ++ S 1 0 3 ++ L 2 0 3)
+    (three (asks (execute 2) (executed 13 0 none) ∷ asks (execute 0) (executed 0 0 none) ∷ asks (execute 1) (executed 0 0 (some 2))
+    ∷ []))
+    -- It took its word from a store two positions older; a nearer one stores the same word, or another.
+    ∷ zeros (A 1 0 7 ++ S 1 0 5 ++ S 1 0 5 ++ L 2 0 5)
+    (asks (execute 0) (executed 0 0 none) ∷ asks (execute 1) (executed 0 0 none) ∷ asks (execute 3) (executed 7 2 none)
+    ∷ asks (execute 2) (executed 0 0 none) ∷ asks commit (committed 0 1 1 7 0) ∷ asks commit (committed 1 4 5 7 0)
+    ∷ asks commit (committed 2 4 5 7 0) ∷ asks commit (committed 3 3 2 7 2) ∷ [])
+    ∷ zeros (A 1 0 7 ++ S 1 0 5 ++ S 0 0 5 ++ L 2 0 5)
+    (asks (execute 0) (executed 0 0 none) ∷ asks (execute 1) (executed 0 0 none) ∷ asks (execute 3) (executed 7 2 none)
+    ∷ asks (execute 2) (executed 0 0 (some 3)) ∷ asks commit (committed 0 1 1 7 0) ∷ asks commit (committed 1 4 5 7 0)
+    ∷ asks commit (committed 2 4 5 0 0) ∷ asks issue (named 0) ∷ asks (execute 0) (executed 0 0 none)
+    ∷ asks commit (committed 3 3 2 0 0) ∷ [])
+    -- A byte's store is met by the word that it took, 0; a load behind it, which took the word that it made, is kept with it.
+    ∷ zeros (A 1 0 1 ++ S 0 0 0 ++ B 1 0 1 ++ L 2 0 0)
+    (asks (execute 0) (executed 0 0 none) ∷ asks (execute 2) (executed 0 0 none) ∷ asks (execute 3) (executed 256 1 none)
+    ∷ asks (execute 1) (executed 0 0 none) ∷ asks commit (committed 0 1 1 1 0) ∷ asks commit (committed 1 4 0 0 0)
+    ∷ asks commit (committed 2 5 1 256 0) ∷ asks commit (committed 3 3 2 256 1)
+    ∷ looks (0 ∷ 1 ∷ 256 ∷ 0 ∷ 0 ∷ 0 ∷ 0 ∷ 0 ∷ []) (256 ∷ replicate 7 0) ∷ [])
+    -- It is not met by the word that it made.
+    ∷ zeros (A 1 0 256 ++ A 2 0 1 ++ S 1 0 0 ++ B 2 0 1)
+    (asks (execute 0) (executed 0 0 none) ∷ asks (execute 1) (executed 0 0 none) ∷ asks (execute 3) (executed 0 0 none)
+    ∷ asks (execute 2) (executed 0 0 (some 3)) ∷ [])
+    -- A half word that leaves the word as it was, of a larger register.
+    ∷ zeros (A 1 0 65536 ++ H 1 0 14 ++ L 2 0 3 ++ H 1 0 12)
+    (asks (execute 2) (executed 0 0 none) ∷ asks (execute 0) (executed 0 0 none) ∷ asks (execute 3) (executed 0 0 none)
+    ∷ asks (execute 1) (executed 0 0 none) ∷ asks commit (committed 0 1 1 65536 0) ∷ asks commit (committed 1 6 14 0 0)
+    ∷ asks commit (committed 2 3 2 0 0) ∷ asks commit (committed 3 6 12 0 0) ∷ [])
+    -- A finish executes the store: the load stays as it was, and commits without executing again.
+    ∷ usual (A 1 0 13 ++ S 1 0 3 ++ L 2 0 3)
+    (three (asks (execute 2) (executed 13 0 none)
+    ∷ drains 2 (replicate 10 7) (finished 2) (0 ∷ 1 ∷ 1 ∷ 13 ∷ 0 ∷ 1 ∷ 4 ∷ 3 ∷ 13 ∷ 0 ∷ [])
+    ∷ asks (execute 0) (refused 8) ∷ asks commit (committed 2 3 2 13 0) ∷ []))
+    -- The table's word decides, not the entry's value and not memory's. Here the entry holds 13, as memory does, and the table 0.
+    ∷ usual (A 1 0 13 ++ S 1 0 3 ++ L 2 0 3)
+    (three (spoil 2 (record { instruction = Load 2 0 3; index = 2; fate = Executed 13 3; distance = 0 })
+    ∷ asks (execute 0) (executed 0 0 none) ∷ asks (execute 1) (executed 0 0 (some 2)) ∷ []))
+    ∷ usual (A 1 0 0 ++ S 1 0 3 ++ L 2 0 3)
+    (three (spoil 2 (record { instruction = Load 2 0 3; index = 2; fate = Executed 13 3; distance = 0 })
+    ∷ asks (execute 0) (executed 0 0 none) ∷ asks (execute 1) (executed 0 0 none) ∷ []))
+    ∷ []
+
 -- the whole table
 abbrev pub examples : List Example
-examples = openings ++ refusals ++ unlikes ++ runs ++ parts ++ distances
+examples = openings ++ refusals ++ unlikes ++ runs ++ parts ++ distances ++ sameWords

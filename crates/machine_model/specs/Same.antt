@@ -1,5 +1,5 @@
--- When two machines count as equal: they differ only in the place of a row in its bank, in values without a store mark, or in
--- what stands at free rows and at stages that are not live, entries of the window among it.
+-- When two machines count as equal: they differ only in the place of a row in its bank, in values without a store mark, in words
+-- taken without a load mark, or in what stands at free rows and at stages that are not live, entries of the window among it.
 -- Assumes nothing.
 use mathlib.Core.Path.{_≡_}
 use Prim.Native.Nat.{ℕ}

@@ -63,19 +63,23 @@ unfoldable pub registerSeen : List Entry → ℕ → Option ℕ → Option ℕ
 registerSeen [] k w = w
 registerSeen (e ∷ es) k w = registerSeen es k (cond (writesTo (e .instruction) k) (valueOf (e .fate)) w)
 
--- what an executed instruction of this kind is to the buffer
-abbrev pub accessBy : Kind → ℕ → ℕ → Reference.Fate
-accessBy Computing v a = other
-accessBy Loading v a = loaded a
-accessBy Storing v a = stored a v
-accessBy Merging v a = merged (wordOf a) v
+-- what an executed instruction of this kind is to the buffer, where the memory is seen as μ
+abbrev pub accessBy : (ℕ → ℕ) → Kind → ℕ → ℕ → Reference.Fate
+accessBy μ Computing v a = other
+accessBy μ Loading v a = loaded a (μ a)
+accessBy μ Storing v a = stored a v
+accessBy μ Merging v a = merged (wordOf a) (μ (wordOf a)) v
 
-abbrev pub referenceBy : Instruction → Fate → Reference.Fate
-referenceBy i Waiting = waiting
-referenceBy i (Executed v a) = accessBy (kind i) v a
+abbrev pub referenceBy : (ℕ → ℕ) → Instruction → Fate → Reference.Fate
+referenceBy μ i Waiting = waiting
+referenceBy μ i (Executed v a) = accessBy μ (kind i) v a
+
+-- The same of an entry. The word that its load took is the table's to keep: 0 stands for it here, and nothing goes by it.
+abbrev pub untold : ℕ → ℕ
+untold a = 0
 
 abbrev pub reference : Entry → Reference.Fate
-reference e = referenceBy (e .instruction) (e .fate)
+reference e = referenceBy untold (e .instruction) (e .fate)
 
 -- two known numbers
 abbrev pub with₂ : {A : Type 0} → Option ℕ → Option ℕ → (ℕ → ℕ → A) → Option A

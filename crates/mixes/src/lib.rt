@@ -26,11 +26,11 @@ pub fn bits(seed: u64) -> usize
     (seed / 65536 % 32768) as usize
 }
 
-// A register's word: 32 high bits of a state.
-pub fn word_drawn(seed: u64) -> u32
-    ensures { λ r. ⌜ r ≡ seed / 134217728 % 4294967296 ⌝ }
+// One of four words, so that stores of a word already there are drawn.
+pub fn word_drawn(drawn: usize) -> u32
+    ensures { λ r. ⌜ r ≡ drawn / 4096 % 4 * 305419896 ⌝ }
 {
-    (seed / 134217728 % 4294967296) as u32
+    (drawn / 4096 % 4 * 305419896) as u32
 }
 
 // The checksum with one more number: turned left by one, plus the number.
@@ -146,8 +146,8 @@ fn spoil_marks(t: Table, x: usize) -> Table
     n
 }
 
-// A table with one number or the marks of one row changed, which mostly breaks a rule. Sizes only grow: rows that a smaller size
-// would leave outside are none of the table's in C.
+// A table with one number, the marks of one row or the words taken changed, which mostly breaks a rule; words never do. Sizes
+// only grow: rows that a smaller size would leave outside are none of the table's in C.
 pub fn spoil(t: Table, what: usize, x: usize) -> Table
     ensures { λ r. ⌜ (r .next ≡ t .next) × (r .numbers ≡ t .numbers) × (r .values ≡ t .values) ⌝ }
 {
@@ -186,6 +186,11 @@ pub fn spoil(t: Table, what: usize, x: usize) -> Table
     }
     if what == 10 {
         return spoil_marks(n, x);
+    }
+    if what == 11 {
+        let words = [word_drawn(x); STAGES];
+        n.taken = words;
+        return n;
     }
     if (banks <= r / ROWS) | (rows <= r % ROWS) {
         return n;

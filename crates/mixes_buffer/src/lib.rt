@@ -139,13 +139,14 @@ pub extern "C" fn mixes_buffer(
                 t = loaded.table;
                 executed_tally(said)
             } else if kind < whole {
-                let stored = buffer::execute_store(t, ticket, address, word as u32, memory);
+                let value = mixes::word_drawn(word);
+                let stored = buffer::execute_store(t, ticket, address, value, memory);
                 let said = stored.answer;
                 t = stored.table;
                 executed_tally(said)
             } else if kind < 30 {
                 let byte = byte_drawn(word);
-                let value = mixes::word_drawn(second);
+                let value = mixes::word_drawn(word);
                 let merged = buffer::execute_part(t, ticket, part_drawn(word), byte, value, memory);
                 let said = merged.answer;
                 t = merged.table;

@@ -136,17 +136,17 @@ fn spoil_entry(e: machine::Entry, what: usize, x: usize) -> machine::Entry {
 // A machine with its table, an entry or its count changed.
 fn spoil_machine(m: Machine, what: usize, x: usize) -> Machine {
     let mut n = m;
-    if what < 11 {
+    if what < 12 {
         let t = m.table;
         n.table = mixes::spoil(t, what, x);
         return n;
     }
-    if what == 11 {
+    if what == 12 {
         n.count = std::num::wrapping_add_u32(m.count, 1);
         return n;
     }
     let window = m.window;
-    if what == 12 {
+    if what == 13 {
         let s = x / 128 % STAGES;
         let e = window[s];
         n.window[s] = spoil_entry(e, x % 4, x);
@@ -155,7 +155,7 @@ fn spoil_machine(m: Machine, what: usize, x: usize) -> Machine {
     let t = m.table;
     let s = mixes::stage_drawn(t.oldest, t.stages, x / 128);
     let e = window[s];
-    if what == 13 {
+    if what == 14 {
         n.window[s] = spoil_entry(e, 3 + x % 8, x);
         return n;
     }

@@ -18,7 +18,7 @@ use Rattle.table.specs.Bank.{bank}
 use Rattle.table.specs.Reference.{Side, Fate, waiting, other, accessed, ref, numberOf, fateOf, at, State}
 use Rattle.table.specs.Rules.{Live, Rules}
 use Rattle.table.specs.Same.{SameRow, Same}
-use Rattle.table.specs.View.{stageOf, address, loadMark, storeMark, mark, value, wordIf, access, fateAt, refAt}
+use Rattle.table.specs.View.{stageOf, address, loadMark, storeMark, mark, value, taken, wordIf, access, fateAt, refAt}
 use Rattle.table.specs.View.{tabulate, view}
 use Rattle.table.proofs.Lists.{tabulate-same}
 use Rattle.table.proofs.Fates.{no-load, no-store, access-same, Fated, waits, bare, marks, fated}
@@ -44,7 +44,7 @@ module _ (t u : Table) (rules : Rules t) (rules′ : Rules u) (same : Same t u) 
       go (marks r h m) =
           let (q, w) = same .there r s h m in
           fate-marked u rules′ q s (w .row) (ap₂ _||_ (w .loads s) (w .stores s) ∙ m)
-          ∙ access-same t u r q s (w .address) (w .loads s) (w .stores s) (w .values s)
+          ∙ access-same t u r q s (w .address) (w .loads s) (w .stores s) (w .values s) (w .taken s)
           ∙ sym (fate-marked t rules r s h m)
 
   same-ref : (p : ℕ) → p < t .live → refAt u p ≡ refAt t p
@@ -82,7 +82,7 @@ same-view t u rules rules′ same =
 impossible : {A : Type 0} → _≡_ {A = ℕ} 0 1 → A
 impossible e = absurd (omega arith)
 
--- the word of a store mark tells the mark
+-- the word of a mark tells the mark
 side-tells : (st of : Bool) (v w : ℕ) → wordIf st v ≡ wordIf of w → (st ≡ of) × (of ≡ true → v ≡ w)
 side-tells true true v w e = (refl, λ _. cc e)
 side-tells true false v w e = impossible (cc e)
@@ -93,7 +93,7 @@ side-tells false false v w e = (refl, λ m. absurd (true≢false (sym m)))
 abbrev ran : Fate → Bool
 ran waiting = false
 ran other = true
-ran (accessed a l w) = true
+ran (accessed a l s) = true
 
 module _ (t : Table) (rules : Rules t) (s : ℕ) where
   fate-ran : ran (fateAt t s) ≡ has (t .executed) s
@@ -105,7 +105,7 @@ module _ (t : Table) (rules : Rules t) (s : ℕ) where
       go (marks r h m) = ap ran (fate-marked t rules r s h m) ∙ sym (rules .executed r s h m)
 
   -- the row that says so of a stage
-  said : (a : ℕ) (l : Bool) (w : Side) → fateAt t s ≡ accessed a l w
+  said : (a : ℕ) (l w : Side) → fateAt t s ≡ accessed a l w
       → (r : ℕ) × (r < rowsIn (t .banks)) × (mark t r s ≡ true) × (access t r s ≡ accessed a l w)
   said a l w f = go (fated t s)
     where
@@ -141,7 +141,7 @@ module _ (t u : Table) (rules : Rules t) (rules′ : Rules u) (one : view u ≡ 
   row-there : (r s : ℕ) → r < rowsIn (t .banks) → mark t r s ≡ true
       → (q : ℕ) × (q < rowsIn (u .banks)) × (mark u q s ≡ true) × (access u q s ≡ access t r s)
   row-there r s h m =
-      said u rules′ s (address t r) (loadMark t r s) (wordIf (storeMark t r s) (value t s))
+      said u rules′ s (address t r) (wordIf (loadMark t r s) (taken t s)) (wordIf (storeMark t r s) (value t s))
       (fate-over s (rules .live r s h m) ∙ fate-marked t rules r s h m)
 
   -- and it is row q, where that has a mark and r's address
@@ -168,27 +168,32 @@ row-over t u rules rules′ one r s h m =
         loads = λ k. alike q l n a k .0;
         stores = λ k. alike q l n a k .1;
         values = λ k. alike q l n a k .2;
+        taken = λ k. alike q l n a k .3;
       },
     )
   where
-    -- rows of one address bear the same marks
+    -- rows of one address bear the same marks, with the same words
     alike : (q : ℕ) → q < rowsIn (u .banks) → mark u q s ≡ true → address u q ≡ address t r → (k : ℕ)
         → (loadMark u q k ≡ loadMark t r k) × (storeMark u q k ≡ storeMark t r k) × (storeMark t r k ≡ true → value u k ≡ value t k)
+        × (loadMark t r k ≡ true → taken u k ≡ taken t k)
     alike q l n a k = go (mark t r k) refl (mark u q k) refl
       where
         go : (b : Bool) → mark t r k ≡ b → (c : Bool) → mark u q k ≡ c
             → (loadMark u q k ≡ loadMark t r k) × (storeMark u q k ≡ storeMark t r k)
-            × (storeMark t r k ≡ true → value u k ≡ value t k)
+            × (storeMark t r k ≡ true → value u k ≡ value t k) × (loadMark t r k ≡ true → taken u k ≡ taken t k)
         go true e c f =
             let w = said-over t u rules rules′ one r q s k h l n a e .1 in
-            let side : wordIf (storeMark u q k) (value u k) ≡ wordIf (storeMark t r k) (value t k) = cc w in
-            let told = side-tells (storeMark u q k) (storeMark t r k) (value u k) (value t k) side in
-            (cc w, told .0, told .1)
+            let store : wordIf (storeMark u q k) (value u k) ≡ wordIf (storeMark t r k) (value t k) = cc w in
+            let load : wordIf (loadMark u q k) (taken u k) ≡ wordIf (loadMark t r k) (taken t k) = cc w in
+            let stored = side-tells (storeMark u q k) (storeMark t r k) (value u k) (value t k) store in
+            let loaded = side-tells (loadMark u q k) (loadMark t r k) (taken u k) (taken t k) load in
+            (loaded .0, stored .0, stored .1, loaded .1)
         go false e true f = absurd (true≢false (sym (said-over u t rules′ rules (sym one) q r s k l h m (sym a) f .0) ∙ e))
         go false e false f = (
           no-load u q k f ∙ sym (no-load t r k e),
           no-store u q k f ∙ sym (no-store t r k e),
           λ x. absurd (true≢false (sym x ∙ no-store t r k e)),
+          λ x. absurd (true≢false (sym x ∙ no-load t r k e)),
         )
 
 pub view-same : (t u : Table) → Rules t → Rules u → view u ≡ view t → Same t u

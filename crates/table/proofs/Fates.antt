@@ -12,9 +12,9 @@ use lib.ListN.{length}
 use Rattle.marks.specs.Stages.{has}
 use Rattle.table.specs.declared.Table.{Table}
 use Rattle.table.specs.Limits.{rowsIn}
-use Rattle.table.specs.Reference.{Fate, waiting, other, accessed, holds, blank, at}
+use Rattle.table.specs.Reference.{Side, Fate, waiting, other, accessed, blank, at}
 use Rattle.table.specs.Rules.{Rules}
-use Rattle.table.specs.View.{address, loadMark, storeMark, mark, value, wordIf, access, markFate, fateAt, refAt}
+use Rattle.table.specs.View.{address, loadMark, storeMark, mark, value, taken, wordIf, access, markFate, fateAt, refAt}
 use Rattle.table.specs.View.{view}
 use Rattle.table.proofs.Lists.{length-tabulate, at-tabulate}
 
@@ -42,17 +42,20 @@ mark-kind t r s = either (loadMark t r s) (storeMark t r s)
     either true b h = inl refl
     either false b h = inr h
 
-pub side-same : (st : Bool) (v w : ℕ) → (st ≡ true → v ≡ w) → wordIf st v ≡ wordIf st w
-side-same true v w f = ap holds (f refl)
-side-same false v w f = refl
+-- one mark, with one word where it is set, is one side
+pub side-same : (m n : Bool) (v w : ℕ) → m ≡ n → (n ≡ true → v ≡ w) → wordIf m v ≡ wordIf n w
+side-same m true v w e f = ap₂ wordIf e (f refl)
+side-same m false v w e f = ap (λ (b : Bool). wordIf b v) e
 
--- rows with one address, and with one mark and one word at a stage, say one thing of it
+-- rows with one address, and with one mark and one word of each kind at a stage, say one thing of it
 pub access-same : (t u : Table) (r q s : ℕ) → address u q ≡ address t r → loadMark u q s ≡ loadMark t r s
-    → storeMark u q s ≡ storeMark t r s → (storeMark t r s ≡ true → value u s ≡ value t s) → access u q s ≡ access t r s
-access-same t u r q s a l m v =
-    ap₂ (λ (b : ℕ) (ld : Bool). accessed b ld (wordIf (storeMark u q s) (value u s))) a l
-    ∙ ap (accessed (address t r) (loadMark t r s))
-    (ap (λ (st : Bool). wordIf st (value u s)) m ∙ side-same (storeMark t r s) (value u s) (value t s) v)
+    → storeMark u q s ≡ storeMark t r s → (storeMark t r s ≡ true → value u s ≡ value t s)
+    → (loadMark t r s ≡ true → taken u s ≡ taken t s) → access u q s ≡ access t r s
+access-same t u r q s a l m v w =
+    ap₂ (λ (b : ℕ) (load : Side). accessed b load (wordIf (storeMark u q s) (value u s))) a
+    (side-same (loadMark u q s) (loadMark t r s) (taken u s) (taken t s) l w)
+    ∙ ap (accessed (address t r) (wordIf (loadMark t r s) (taken t s)))
+    (side-same (storeMark u q s) (storeMark t r s) (value u s) (value t s) m v)
 
 row-same : (m n : Bool) (x y d e : Fate) → m ≡ n → (n ≡ true → x ≡ y) → d ≡ e → cond m x d ≡ cond n y e
 row-same m true x y d e same marked below = ap (λ (b : Bool). cond b x d) same ∙ marked refl
@@ -62,26 +65,28 @@ module _ (t u : Table) (s : ℕ)
     (loads : (r : ℕ) → r < rowsIn (t .banks) → loadMark u r s ≡ loadMark t r s)
     (stores : (r : ℕ) → r < rowsIn (t .banks) → storeMark u r s ≡ storeMark t r s)
     (addresses : (r : ℕ) → r < rowsIn (t .banks) → mark t r s ≡ true → address u r ≡ address t r)
-    (values : (r : ℕ) → r < rowsIn (t .banks) → storeMark t r s ≡ true → value u s ≡ value t s) where
+    (values : (r : ℕ) → r < rowsIn (t .banks) → storeMark t r s ≡ true → value u s ≡ value t s)
+    (words : (r : ℕ) → r < rowsIn (t .banks) → loadMark t r s ≡ true → taken u s ≡ taken t s) where
   marks-same : (k : ℕ) → k ≤ rowsIn (t .banks) → markFate u s k ≡ markFate t s k
   unfolding markFate
   marks-same zero h = refl
   marks-same (suc k) h =
       row-same (mark u k s) (mark t k s) (access u k s) (access t k s) (markFate u s k) (markFate t s k)
       (ap₂ _||_ (loads k h) (stores k h))
-      (λ m. access-same t u k k s (addresses k h m) (loads k h) (stores k h) (values k h))
+      (λ m. access-same t u k k s (addresses k h m) (loads k h) (stores k h) (values k h) (words k h))
       (marks-same k (omega arith))
 
--- two tables with as many banks and the same marks at a stage, and the same addresses and values there, give it one fate
+-- two tables with as many banks and the same marks at a stage, and the same addresses and words there, give it one fate
 pub fates-same : (t u : Table) (s : ℕ) → u .banks ≡ t .banks → has (u .executed) s ≡ has (t .executed) s
     → ((r : ℕ) → r < rowsIn (t .banks) → loadMark u r s ≡ loadMark t r s)
     → ((r : ℕ) → r < rowsIn (t .banks) → storeMark u r s ≡ storeMark t r s)
     → ((r : ℕ) → r < rowsIn (t .banks) → mark t r s ≡ true → address u r ≡ address t r)
-    → ((r : ℕ) → r < rowsIn (t .banks) → storeMark t r s ≡ true → value u s ≡ value t s) → fateAt u s ≡ fateAt t s
-fates-same t u s banks executed loads stores addresses values =
+    → ((r : ℕ) → r < rowsIn (t .banks) → storeMark t r s ≡ true → value u s ≡ value t s)
+    → ((r : ℕ) → r < rowsIn (t .banks) → loadMark t r s ≡ true → taken u s ≡ taken t s) → fateAt u s ≡ fateAt t s
+fates-same t u s banks executed loads stores addresses values words =
     ap₂ (λ (b : Bool) (f : Fate). cond b f waiting) executed
     (ap (λ (n : ℕ). markFate u s (rowsIn n)) banks
-    ∙ marks-same t u s loads stores addresses values (rowsIn (t .banks)) (le-refl (rowsIn (t .banks))))
+    ∙ marks-same t u s loads stores addresses values words (rowsIn (t .banks)) (le-refl (rowsIn (t .banks))))
 
 -- a stage by its marks: not executed, executed without a mark, or with a mark of row r
 pub data Fated (t : Table) (s : ℕ) : Type 0 where

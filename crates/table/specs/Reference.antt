@@ -1,32 +1,31 @@
 -- The plain state: what 01 says of a table, as a list of live references in program order, oldest first.
 -- Assumes nothing.
-use mathlib.Core.Bool.{Bool, true, false}
 use mathlib.Core.List.{List}
 use Prim.Native.Nat.{ℕ}
 use lib.ListN.{getD}
 
--- The word of a reference's store, or that it has none.
+-- One side of an access, its load or its store: the word that was loaded or stored, or that it has no such side.
 pub data Side : Type 0 where
   lacks : Side
   holds : ℕ → Side
 
--- What became of a reference (its status): not executed; executed without memory; or executed to an address, with whether it
--- loaded there and the word that it stored there.
+-- What became of a reference (its status): not executed; executed without memory; or executed to an address, with the word that
+-- its load took there and the word that it stored there.
 pub data Fate : Type 0 where
   waiting : Fate
   other : Fate
-  accessed : ℕ → Bool → Side → Fate
+  accessed : ℕ → Side → Side → Fate
 
--- a load of an address; a store at an address of a word
-abbrev pub loaded : ℕ → Fate
-loaded a = accessed a true lacks
+-- a load of an address that took the word w; a store at an address of the word v
+abbrev pub loaded : ℕ → ℕ → Fate
+loaded a w = accessed a (holds w) lacks
 
 abbrev pub stored : ℕ → ℕ → Fate
-stored a v = accessed a false (holds v)
+stored a v = accessed a lacks (holds v)
 
--- a load of an address and a store there of the word made of what was loaded
-abbrev pub merged : ℕ → ℕ → Fate
-merged a v = accessed a true (holds v)
+-- a load of an address that took w and a store there of v, the word made of it
+abbrev pub merged : ℕ → ℕ → ℕ → Fate
+merged a w v = accessed a (holds w) (holds v)
 
 -- A live reference: its issue number (sequence tag) and its fate.
 pub data Ref : Type 0 where

@@ -1,6 +1,6 @@
--- The plain state of a table. It forgets a row's place in its bank, values without a store mark, and what stands at free
--- rows, at rows of banks that the sizes do not give and at stages that are not live (specs/Same.antt says that it forgets
--- nothing else).
+-- The plain state of a table. It forgets a row's place in its bank, values without a store mark, words taken without a load
+-- mark, and what stands at free rows, at rows of banks that the sizes do not give and at stages that are not live
+-- (specs/Same.antt says that it forgets nothing else).
 -- Assumes nothing.
 use mathlib.Core.Bool.{Bool, true, false, cond, _||_}
 use mathlib.Core.List.{List, [], _∷_, _++_}
@@ -35,14 +35,18 @@ mark t r s = loadMark t r s || storeMark t r s
 abbrev pub value : Table → ℕ → ℕ
 value t s = getD (t .values) s 0
 
--- a store mark stands for the word v
+-- the word that the load of stage s took
+abbrev pub taken : Table → ℕ → ℕ
+taken t s = getD (t .taken) s 0
+
+-- a mark stands for the word v
 abbrev pub wordIf : Bool → ℕ → Side
 wordIf true v = holds v
 wordIf false v = lacks
 
 -- what the marks of row r at stage s say
 abbrev pub access : Table → ℕ → ℕ → Fate
-access t r s = accessed (address t r) (loadMark t r s) (wordIf (storeMark t r s) (value t s))
+access t r s = accessed (address t r) (wordIf (loadMark t r s) (taken t s)) (wordIf (storeMark t r s) (value t s))
 
 -- what the marks of the first k rows say of stage s; without a mark it executed without memory
 unfoldable pub markFate : Table → ℕ → ℕ → Fate

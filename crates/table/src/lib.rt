@@ -21,8 +21,8 @@ pub const SLOTS: usize = BANKS * ROWS;
 pub const WORDS: usize = 4096;
 
 // Row i of bank b is at b * ROWS + i of the arrays by row. A mark word (load or store bits) has bit s for stage s.
-// `executed` has the stages whose reference has executed, and `values` the word of a store by its stage, which bears its
-// mark in one row.
+// `executed` has the stages whose reference has executed, `values` the word of a store and `taken` the word that a load took,
+// by its stage, which bears its marks in one row.
 pub struct Table {
     pub banks: usize,
     pub rows: usize,
@@ -37,6 +37,7 @@ pub struct Table {
     pub loads: [u32; SLOTS],
     pub stores: [u32; SLOTS],
     pub values: [u32; STAGES],
+    pub taken: [u32; STAGES],
 }
 
 // A reference's name (sequence tag): its stage and the number under which it was issued.

@@ -1,19 +1,17 @@
 -- The window alone, apart from any engine that disambiguates memory: its steps, and the invariant of the record theorem.
 -- What an engine owes is what the step `executing` asks of an execution: it leaves the executing entry and a prefix of the
--- younger ones, and, of a store, no load among them that saw the word before. The distance that it notes is free: only the
--- numbers of the record that `without` drops show it. Squash and eviction take a prefix, so they keep the invariant for
--- nothing; issue appends; a commit moves the oldest into registers and memory.
+-- younger ones, and a store of another word than the one already there leaves no load among them that saw the word before
+-- (Spares). The distance that it notes is free: only the numbers of the record that `without` drops show it. Squash and eviction
+-- take a prefix, so they keep the invariant for nothing; issue appends; a commit moves the oldest into registers and memory.
 -- Assumes nothing.
 use mathlib.Core.Path.{_≡_}
-use mathlib.Core.Bool.{Bool, true, false, cond, _||_}
-use mathlib.Core.List.{List, [], _∷_, _++_}
+use mathlib.Core.Bool.{Bool, false, cond, _||_}
+use mathlib.Core.List.{List, [], _∷_, _++_, map}
 use mathlib.Core.Option.{Option, some}
 use Prim.Native.Nat.{ℕ, suc, _-_, _*_, _/_, _≤_, _<_}
-use lib.Dec.{eqb}
 use lib.ListN.{length, getD, take, drop, set, replicate}
-use Rattle.table.specs.Reference
-use Rattle.table.specs.Reference.{Side, lacks, holds, waiting, other, accessed}
 use Rattle.lookup.specs.Forwarding
+use Rattle.lookup.proofs.Faithfully.{Spares}
 use Rattle.engine.specs.Execution.{written}
 use Rattle.engine.specs.Conditions.{faults}
 use Rattle.machine_model.specs.declared.Instruction.{Instruction}
@@ -30,6 +28,7 @@ use Rattle.machine_model.specs.Window.{
   misaligned,
   registerSeen,
   referenceBy,
+  untold,
   reference,
   evaluate,
 }
@@ -57,31 +56,6 @@ registersAt c p k = registerSeen (take p (c .entries)) k (some (getD (c .registe
 
 abbrev pub memoryAt : Core → ℕ → ℕ → ℕ
 memoryAt c p a = seenBy (take p (c .entries)) a (getD (c .memory) a 0)
-
--- no load of address a among these entries stands before every store to a: none of them saw the word before them
-abbrev pub clearMet : Bool → Side → Bool → Bool
-clearMet true s rest = false
-clearMet false (holds v) rest = true
-clearMet false lacks rest = rest
-
-abbrev pub clearBy : Reference.Fate → ℕ → Bool → Bool
-clearBy waiting a rest = rest
-clearBy other a rest = rest
-clearBy (accessed b l s) a rest = cond (eqb b a) (clearMet l s rest) rest
-
-unfoldable pub clear : ℕ → List Entry → Bool
-clear a [] = true
-clear a (e ∷ es) = clearBy (reference e) a (clear a es)
-
--- the entries that stay younger than one that executes to this fate: of a store, none saw the word before it
-abbrev pub SparesAt : ℕ → Side → List Entry → Type 0
-SparesAt a lacks es = Unit {0}
-SparesAt a (holds v) es = clear a es ≡ true
-
-abbrev pub Spares : Reference.Fate → List Entry → Type 0
-Spares waiting es = Unit {0}
-Spares other es = Unit {0}
-Spares (accessed a l s) es = SparesAt a s es
 
 -- the index of the first of these entries, else the next index
 abbrev pub headIndex : List Entry → ℕ → ℕ
@@ -129,7 +103,8 @@ pub data Step (program : List ℕ) (c : Core) : Core → Type 0 where
       })
   executing : (p left : ℕ) (f : Fate) (d : ℕ) → p < left → left ≤ length (c .entries) → entryAt (c .entries) p .fate ≡ Waiting
       → evaluate (entryAt (c .entries) p .instruction) (registersAt c p) (memoryAt c p) ≡ some f
-      → Spares (referenceBy (entryAt (c .entries) p .instruction) f) (take (left - suc p) (drop (suc p) (c .entries)))
+      → Spares (memoryAt c p) (referenceBy untold (entryAt (c .entries) p .instruction) f)
+      (map reference (take (left - suc p) (drop (suc p) (c .entries))))
       → Step program c (cutTo c left (take left (set (c .entries) p (entryWith (entryAt (c .entries) p) f d))))
   squashing : (k : ℕ) → Step program c (cutTo c k (take k (c .entries)))
   committing : (e : Entry) (es : List Entry) → c .entries ≡ e ∷ es → waits (e .fate) ≡ false

@@ -8,7 +8,7 @@
 -- where its commit gets 13 or 14 (ends-so). Assumes nothing.
 use mathlib.Core.Path.{_≡_, refl, sym, ap, subst, _∙_}
 use mathlib.Core.Bool.{Bool, true, false, cond, not, _&&_, _||_, true≢false, or-false}
-use mathlib.Core.List.{List, [], _∷_, _++_}
+use mathlib.Core.List.{List, [], _∷_, _++_, map}
 use mathlib.Core.Option.{Option, some, Option·some-injective}
 use Prim.Native.Nat.{ℕ, zero, suc, _+_, _-_, _*_, _/_, _%_, _≤_, _<_}
 use native.Mathlib.Nat.{not-suc-le-zero, suc-sub-suc, sub-zero}
@@ -18,9 +18,8 @@ use lib.ListN.{length, getD, take, drop, set, length-append, length-set}
 use borrow.Author.Tests.{eqb-true, leb-true, leb-false, lt-ltb, lt-leb}
 use Rattle.marks.specs.Counting.{every}
 use Rattle.marks.proofs.Counts.{every-at}
-use Rattle.table.specs.Reference
-use Rattle.table.specs.Reference.{Side, lacks, holds, waiting, other, accessed}
 use Rattle.lookup.specs.Forwarding
+use Rattle.lookup.proofs.Faithfully.{Spares, changed}
 use Rattle.engine.specs.Execution.{written}
 use Rattle.engine.proofs.Written.{set-test, seen-written}
 use Rattle.machine_model.specs.declared.Instruction.{Instruction}
@@ -29,13 +28,13 @@ use Rattle.machine_model.specs.declared.Fate.{Fate}
 use Rattle.machine_model.specs.declared.Fate.the-variants.{Waiting, Executed}
 use Rattle.machine_model.specs.declared.Entry.{Entry}
 use Rattle.machine_model.specs.Program.{decoded, instructionAt, codeOf, wellFormed, wellFormedAt, programFits, dOf}
-use Rattle.machine_model.specs.Window.{entryAt, entryWith, writesTo, valueOf, addressBy, registerSeen, referenceBy}
+use Rattle.machine_model.specs.Window.{entryAt, entryWith, writesTo, valueOf, addressBy, registerSeen, referenceBy, untold}
 use Rattle.machine_model.specs.Window.{reference, evaluate}
 use Rattle.machine_model.specs.Calls.{waits, newEntry, valueBy, registersAfter, target, committedSays}
 use Rattle.theorem.specs.Sequential.{Run, does, faultsAt, ends, step, runAfter}
 use Rattle.theorem.specs.Play.{recorded, without}
 use Rattle.theorem.proofs.Core.{Core, Step, issuing, executing, squashing, committing, seenBy, registersAt, memoryAt}
-use Rattle.theorem.proofs.Core.{clear, SparesAt, Spares, headIndex, cutTo, barred, afterCommit, Right, Good, Kept, fresh}
+use Rattle.theorem.proofs.Core.{headIndex, cutTo, barred, afterCommit, Right, Good, Kept, fresh}
 use Rattle.theorem.proofs.Distances.{without-append}
 use Rattle.theorem.proofs.Knowing.{Tells, unknown-tells, good-more}
 
@@ -91,39 +90,30 @@ told : (t : Bool) (f g : Fate) (w : Option ℕ) → f ≡ Waiting → Tells (con
 told true f g w e = subst (λ (x : Fate). Tells (valueOf x) (valueOf g)) (sym e) (unknown-tells (valueOf g))
 told false f g w e = λ v h. h
 
--- a store changes the memory where the entries that stay are clear
-changed : (r : Reference.Fate) (es : List Entry) → Spares r es → (b w : ℕ) → clear b es ≡ false → w ≡ Forwarding.wordAfter r b w
-changed waiting es spared b w h = refl
-changed other es spared b w h = refl
-changed (accessed a l s) es spared b w h = go (eqb a b) refl s spared
-  where
-    go : (t : Bool) → eqb a b ≡ t → (s : Side) → SparesAt a s es → w ≡ cond t (Forwarding.wordOr s w) w
-    go true e lacks clears = refl
-    go true e (holds v) clears = absurd (true≢false (sym clears ∙ ap (λ (x : ℕ). clear x es) (eqb-true a b e) ∙ h))
-    go false e s clears = refl
-
 module _ (program : List ℕ) (next : ℕ) (f : Fate) (d : ℕ) where
   good-set : (p left : ℕ) (es : List Entry) (ρ : ℕ → Option ℕ) (μ : ℕ → ℕ) → p < left → left ≤ length es
       → entryAt es p .fate ≡ Waiting
       → evaluate (entryAt es p .instruction) (λ (k : ℕ). registerSeen (take p es) k (ρ k)) (λ (a : ℕ). seenBy (take p es) a (μ a))
       ≡ some f
-      → Spares (referenceBy (entryAt es p .instruction) f) (take (left - suc p) (drop (suc p) es))
+      → Spares (λ (a : ℕ). seenBy (take p es) a (μ a)) (referenceBy untold (entryAt es p .instruction) f)
+      (map reference (take (left - suc p) (drop (suc p) es)))
       → Good program next ρ μ es
       → Good program (headIndex (drop left es) next) ρ μ (take left (set es p (entryWith (entryAt es p) f d)))
   unfolding registerSeen seenBy
   good-set p zero es ρ μ l m w o s g = absurd (not-suc-le-zero l)
   good-set p (suc left) [] ρ μ l m w o s g = tt
   good-set zero (suc left) (e ∷ es) ρ μ l m w o s g =
-      let spared : Spares (referenceBy (e .instruction) f) (take left es) =
-      subst (λ (n : ℕ). Spares (referenceBy (e .instruction) f) (take n es)) (suc-sub-suc left 0 ∙ sub-zero left) s in (
+      let r = referenceBy untold (e .instruction) f in
+      let spared : Spares μ r (map reference (take left es)) =
+      subst (λ (n : ℕ). Spares μ r (map reference (take n es))) (suc-sub-suc left 0 ∙ sub-zero left) s in (
         right-of (e .instruction) ρ μ f o,
         g .1,
         g .2,
         g .3 ∙ sym (head-take left es next),
         good-more program (headIndex (drop left es) next) (take left es) _ _ _ _
             (λ k. told (writesTo (e .instruction) k) (e .fate) f (ρ k) w)
-            (λ b h. ap (λ (x : Fate). Forwarding.wordAfter (referenceBy (e .instruction) x) b (μ b)) w
-            ∙ changed (referenceBy (e .instruction) f) (take left es) spared b (μ b) h)
+            (λ b h. ap (λ (x : Fate). Forwarding.wordAfter (referenceBy untold (e .instruction) x) b (μ b)) w
+            ∙ changed μ r (map reference (take left es)) spared b h)
             (good-take program next left es _ _ (g .4)),
       )
   good-set (suc p) (suc left) (e ∷ es) ρ μ l m w o s g = (
@@ -132,7 +122,11 @@ module _ (program : List ℕ) (next : ℕ) (f : Fate) (d : ℕ) where
     g .2,
     g .3 ∙ sym (head-set p left es next f d),
     good-set p left es _ _ (omega arith) (omega arith) w o
-        (subst (λ (n : ℕ). Spares (referenceBy (entryAt es p .instruction) f) (take n (drop (suc p) es)))
+        (subst
+        (λ (n : ℕ).
+        Spares (λ (a : ℕ). seenBy (take p es) a (Forwarding.wordAfter (reference e) a (μ a)))
+        (referenceBy untold (entryAt es p .instruction) f)
+        (map reference (take n (drop (suc p) es))))
         (suc-sub-suc left (suc p))
         s)
         (g .4),
@@ -150,7 +144,7 @@ abbrev past : Run → Instruction → Fate → Run
 past r i f =
     record {
       registers = registersAfter (r .registers) i (valueBy f);
-      memory = written (r .memory) (referenceBy i f);
+      memory = written (r .memory) (referenceBy untold i f);
       index = suc (r .index);
       record′ = r .record′ ++ (r .index ∷ codeOf i ∷ target i (addressBy f) ∷ valueBy f ∷ []);
     }

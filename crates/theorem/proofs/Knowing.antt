@@ -4,14 +4,10 @@
 -- there. Assumes nothing.
 use mathlib.Core.Path.{_≡_, refl, sym, ap, _∙_}
 use mathlib.Core.Bool.{Bool, true, false, cond}
-use mathlib.Core.List.{List, [], _∷_}
+use mathlib.Core.List.{List, [], _∷_, map}
 use mathlib.Core.Option.{Option, none, some, Option·none-ne-some}
 use Prim.Native.Nat.{ℕ}
-use lib.Dec.{eqb}
-use borrow.Author.Tests.{eq-eqb}
-use Rattle.table.specs.Reference
-use Rattle.table.specs.Reference.{Side, lacks, holds, waiting, other, accessed}
-use Rattle.lookup.specs.Forwarding
+use Rattle.lookup.proofs.Faithfully.{clear, SameRead, same-read, same-past}
 use Rattle.engine.specs.declared.Part.{Part}
 use Rattle.engine.specs.declared.Part.the-variants as part
 use Rattle.engine.specs.Part.{wordOf, whole}
@@ -21,8 +17,8 @@ use Rattle.machine_model.specs.declared.Fate.{Fate}
 use Rattle.machine_model.specs.declared.Fate.the-variants.{Waiting, Executed}
 use Rattle.machine_model.specs.declared.Entry.{Entry}
 use Rattle.machine_model.specs.Program.{sum}
-use Rattle.machine_model.specs.Window.{writesTo, valueOf, referenceBy, reference, with₂, partStored}
-use Rattle.theorem.proofs.Core.{clearMet, clearBy, clear, Right, Good}
+use Rattle.machine_model.specs.Window.{writesTo, valueOf, referenceBy, untold, reference, with₂, partStored}
+use Rattle.theorem.proofs.Core.{Right, Good}
 
 -- what x tells, y tells too
 abbrev pub Tells : Option ℕ → Option ℕ → Type 0
@@ -30,16 +26,6 @@ Tells x y = (v : ℕ) → x ≡ some v → y ≡ some v
 
 pub unknown-tells : (y : Option ℕ) → Tells none y
 unknown-tells y v e = absurd (Option·none-ne-some v e)
-
--- the memories agree at the address that a load read
-abbrev SameLoad : Bool → ℕ → (ℕ → ℕ) → (ℕ → ℕ) → Type 0
-SameLoad true a μ μ′ = μ a ≡ μ′ a
-SameLoad false a μ μ′ = Unit {0}
-
-abbrev SameRead : Reference.Fate → (ℕ → ℕ) → (ℕ → ℕ) → Type 0
-SameRead waiting μ μ′ = Unit {0}
-SameRead other μ μ′ = Unit {0}
-SameRead (accessed a l s) μ μ′ = SameLoad l a μ μ′
 
 more₂ : {A : Type 0} (x y x′ y′ : Option ℕ) (g : ℕ → ℕ → A) (f : A) → Tells x x′ → Tells y y′ → with₂ x y g ≡ some f
     → with₂ x′ y′ g ≡ some f
@@ -74,7 +60,7 @@ more-part part x y x′ y′ imm =
     more-read x y x′ y′ (λ b c. sum b imm) wordOf (λ b c w. whole part (sum b imm) w c)
 
 right-more : (i : Instruction) (f : Fate) (ρ ρ′ : ℕ → Option ℕ) (μ μ′ : ℕ → ℕ) → ((k : ℕ) → Tells (ρ k) (ρ′ k))
-    → SameRead (referenceBy i f) μ μ′ → Right i ρ μ f → Right i ρ′ μ′ f
+    → SameRead (referenceBy untold i f) μ μ′ → Right i ρ μ f → Right i ρ′ μ′ f
 right-more i Waiting ρ ρ′ μ μ′ k m h = tt
 right-more (Add d s imm) (Executed v a) ρ ρ′ μ μ′ k m h = more₂ (ρ s) (some imm) (ρ′ s) (some imm) _ _ (k s) (λ w e. e) h
 right-more (Sum d s r) (Executed v a) ρ ρ′ μ μ′ k m h = more₂ (ρ s) (ρ r) (ρ′ s) (ρ′ r) _ _ (k s) (k r) h
@@ -91,40 +77,18 @@ tells-past : (t : Bool) (x y y′ : Option ℕ) → Tells y y′ → Tells (cond
 tells-past true x y y′ k = λ v e. e
 tells-past false x y y′ k = k
 
-past-access : (t l : Bool) (s : Side) (rest : Bool) (w w′ : ℕ) → rest ≡ false
-    → (cond t (clearMet l s rest) rest ≡ false → w ≡ w′)
-    → cond t (Forwarding.wordOr s w) w ≡ cond t (Forwarding.wordOr s w′) w′
-past-access false l s rest w w′ e agree = agree e
-past-access true true lacks rest w w′ e agree = agree refl
-past-access true false lacks rest w w′ e agree = agree e
-past-access true l (holds v) rest w w′ e agree = refl
-
--- The memories agree at each address that is not clear. So they agree at what the oldest read, and again past it.
-module _ (μ μ′ : ℕ → ℕ) (es : List Entry) where
-  same-read : (r : Reference.Fate) → ((b : ℕ) → clearBy r b (clear b es) ≡ false → μ b ≡ μ′ b) → SameRead r μ μ′
-  same-read waiting agree = tt
-  same-read other agree = tt
-  same-read (accessed a true s) agree = agree a (rw (eq-eqb a a refl))
-  same-read (accessed a false s) agree = tt
-
-  same-past : (r : Reference.Fate) → ((b : ℕ) → clearBy r b (clear b es) ≡ false → μ b ≡ μ′ b)
-      → (b : ℕ) → clear b es ≡ false → Forwarding.wordAfter r b (μ b) ≡ Forwarding.wordAfter r b (μ′ b)
-  same-past waiting agree b e = agree b e
-  same-past other agree b e = agree b e
-  same-past (accessed a l s) agree b e = past-access (eqb a b) l s (clear b es) (μ b) (μ′ b) e (agree b)
-
 pub good-more : (program : List ℕ) (next : ℕ) (es : List Entry) (ρ ρ′ : ℕ → Option ℕ) (μ μ′ : ℕ → ℕ)
-    → ((k : ℕ) → Tells (ρ k) (ρ′ k)) → ((b : ℕ) → clear b es ≡ false → μ b ≡ μ′ b)
+    → ((k : ℕ) → Tells (ρ k) (ρ′ k)) → ((b : ℕ) → clear b (map reference es) ≡ false → μ b ≡ μ′ b)
     → Good program next ρ μ es → Good program next ρ′ μ′ es
 unfolding clear
 good-more program next [] ρ ρ′ μ μ′ k m g = tt
 good-more program next (e ∷ es) ρ ρ′ μ μ′ k m g = (
-  right-more (e .instruction) (e .fate) ρ ρ′ μ μ′ k (same-read μ μ′ es (reference e) m) (g .0),
+  right-more (e .instruction) (e .fate) ρ ρ′ μ μ′ k (same-read μ μ′ (map reference es) (reference e) m) (g .0),
   g .1,
   g .2,
   g .3,
   good-more program next es _ _ _ _
       (λ j. tells-past (writesTo (e .instruction) j) (valueOf (e .fate)) (ρ j) (ρ′ j) (k j))
-      (same-past μ μ′ es (reference e) m)
+      (same-past μ μ′ (map reference es) (reference e) m)
       (g .4),
 )

@@ -6,8 +6,8 @@
 use mathlib.Core.Bool.{Bool, true, false, cond, not, _&&_, _||_, true≢false, and-eq-true-iff}
 use mathlib.Core.List.{List, [], _∷_, _++_}
 use mathlib.Core.Option.{Option, none, some}
-use mathlib.Core.Path.{_≡_, refl, sym, ap, ap₂, fun-ext, _∙_}
-use Prim.Native.Nat.{ℕ, _*_, _/_, _%_, _≤_, _<_, zero-le}
+use mathlib.Core.Path.{_≡_, refl, sym, ap, ap₂, subst, fun-ext, _∙_}
+use Prim.Native.Nat.{ℕ, suc, _-_, _*_, _/_, _%_, _≤_, _<_, zero-le}
 use native.Mathlib.Nat.{not-suc-le-zero}
 use native.Mathlib.Numerals.{add-one}
 use native.Mathlib.Omega.{arith}
@@ -20,6 +20,10 @@ use Rattle.table.specs.Reference
 use Rattle.table.specs.Reference.{lacks, holds, waiting, other, accessed, Ref, ref, numberOf, fateOf, at}
 use Rattle.table.proofs.Sizes.{Sizes, sizes}
 use Rattle.lookup.specs.Forwarding.{seen}
+use Rattle.lookup.specs.computed.Faithful.{Faithful}
+use Rattle.lookup.proofs.Forwards.{seen-next}
+use Rattle.lookup.proofs.Faithfully.{faithful-more, faithful-next, faithful-take, faithful-drop, faithful-set}
+use Rattle.engine.proofs.Written.{seen-written}
 use Rattle.engine.specs.Execution.{written}
 use Rattle.engine.specs.Conditions.{when, refusal, faults}
 use Rattle.machine_model.specs.declared.Instruction.{Instruction}
@@ -28,7 +32,7 @@ use Rattle.machine_model.specs.declared.Fate.{Fate}
 use Rattle.machine_model.specs.declared.Fate.the-variants.{Waiting, Executed}
 use Rattle.machine_model.specs.declared.Entry.{Entry}
 use Rattle.machine_model.specs.Program.{programFits, codeOf, instructionAt, dOf, sOf, immOf, same}
-use Rattle.machine_model.specs.Window.{entryAt, entryWith, misaligned, registerSeen, referenceBy, reference, evaluate}
+use Rattle.machine_model.specs.Window.{entryAt, entryWith, misaligned, registerSeen, referenceBy, untold, reference, evaluate}
 use Rattle.machine_model.specs.Calls
 use Rattle.machine_model.specs.Calls.{
   Plain,
@@ -40,6 +44,8 @@ use Rattle.machine_model.specs.Calls.{
   evaluated,
   known,
   unknown,
+  memorySeen,
+  referenceAt,
   survivorsOf,
   loadDistance,
   executions,
@@ -47,9 +53,11 @@ use Rattle.machine_model.specs.Calls.{
 use Rattle.machine_model.specs.Calls.{squashes, commits, openChecks, opened, issueChecks, executeChecks, commitChecks}
 use Rattle.machine_model.proofs.OldestReady.{oldest-leaves}
 use Rattle.theorem.specs.computed.Linked.{Linked}
-use Rattle.theorem.proofs.Core.{issuing, executing, squashing, barred, committing}
+use Rattle.theorem.proofs.Core.{seenBy, issuing, executing, squashing, barred, committing}
 use Rattle.theorem.proofs.Keeping.{neither}
 use Rattle.theorem.proofs.Paired.{Each, each-next, each-take, each-drop, each-set, Fated, seen-paired, owed}
+use Rattle.theorem.proofs.Paired.{wordless-reference, took-reference, spares-paired, wordless-waiting}
+use Rattle.theorem.proofs.Paired.{faults-wordless, written-wordless}
 use Rattle.theorem.proofs.Links.{steps-quiet, judged-links, passes, program-passes, lent-passes, stays, goes, Links}
 
 -- ---- opening
@@ -75,6 +83,7 @@ linked-open banks rows stages words program memory z =
       paired = refl;
       live-bounded = zero-le;
       fates = λ p h. absurd (not-suc-le-zero h);
+      faithful = tt;
       alike = λ p h. absurd (not-suc-le-zero h);
     }
 
@@ -86,7 +95,7 @@ same-refl i =
     (ap₂ _&&_ (ap₂ _&&_ (eq-eqb (codeOf i) (codeOf i) refl) (eq-eqb (dOf i) (dOf i) refl)) (eq-eqb (sOf i) (sOf i) refl))
     (eq-eqb (immOf i) (immOf i) refl)
 
--- a reference bears its entry's fate, and the entry is the program's instruction at its index
+-- a reference bears its entry's fate but for a load's word, and the entry is the program's instruction at its index
 abbrev Matched : List ℕ → ℕ → Ref → Entry → Type 0
 Matched program count r e = Fated r e × (matchesProgram program count e ≡ true)
 
@@ -100,6 +109,7 @@ module _ (program : List ℕ) (X : Plain) (memory : List ℕ) (linked : Linked p
   -- where references and entries moved together and fit the window, the state is linked again
   linked-moved : (rs : List Ref) (oldest number : ℕ) (es : List Entry) (registers : List ℕ) (next : ℕ) (v : List ℕ)
       → Each (Matched program (X .count)) rs es
+      → Faithful (λ (a : ℕ). getD v a 0) rs
       → length es ≤ X .buffer .stages
       → length v ≡ length memory
       → Linked program
@@ -119,7 +129,7 @@ module _ (program : List ℕ) (X : Plain) (memory : List ℕ) (linked : Linked p
         next = next;
       })
       v
-  linked-moved rs oldest number es registers next v moved fits same =
+  linked-moved rs oldest number es registers next v moved faithful fits same =
       record {
         sized = linked .sized;
         lent = same ∙ linked .lent;
@@ -128,6 +138,7 @@ module _ (program : List ℕ) (X : Plain) (memory : List ℕ) (linked : Linked p
         paired = moved .0;
         live-bounded = fits;
         fates = λ p h. moved .1 p h .0;
+        faithful = faithful;
         alike = λ p h. moved .1 p h .1;
       }
 
@@ -145,6 +156,7 @@ module _ (program : List ℕ) (X : Plain) (memory : List ℕ) (linked : Linked p
             linked-moved _ _ _ (X .entries ++ (e ∷ [])) _ _ memory
             (each-next (Matched program (X .count)) (X .buffer .refs) (X .entries) matched (ref (X .buffer .next) waiting) e
             (refl, ap₂ _&&_ (lt-ltb (X .next) (X .count) left) (same-refl (instructionAt program (X .next)))))
+            (faithful-next (X .buffer .refs) (X .buffer .next) _ (linked .faithful))
             (omega (
               arith,
               linked .live-bounded,
@@ -168,53 +180,63 @@ is-known (some f) h = refl
 module _ (program : List ℕ) (X : Plain) (memory : List ℕ) (linked : Linked program X memory) (p : ℕ) where
   -- the entry at position p executes to fate f
   executing-links : (f : Fate) → p < length (X .entries) → waits (entryAt (X .entries) p .fate) ≡ true
-      → evaluated X memory p ≡ some f → (survivorsOf X p f ≡ 0 → ⊥)
-      → Links program X memory (Calls.executing X memory p f (survivorsOf X p f))
+      → evaluated X memory p ≡ some f → (survivorsOf X memory p f ≡ 0 → ⊥)
+      → Links program X memory (Calls.executing X memory p f (survivorsOf X memory p f))
   executing-links f live w comes runs =
       let refs = X .buffer .refs in
       let es = X .entries in
-      let left = survivorsOf X p f in
+      let left = survivorsOf X memory p f in
       let i = entryAt es p .instruction in
-      let r : Ref = ref (numberOf (at (take left refs) p)) (referenceBy i f) in
+      let μ = memorySeen X memory p in
+      let r : Ref = ref (numberOf (at (take left refs) p)) (referenceBy μ i f) in
       let d = loadDistance X p f in
       let e = entryWith (entryAt es p) f d in
       let all = fated program X memory linked in
-      let o = owed (X .buffer) es all p (omega (arith, linked .paired)) (referenceBy i f) runs in
+      let waits′ = is-waiting (entryAt es p .fate) w in
+      let idle = wordless-waiting (fateOf (at refs p)) (linked .fates p live ∙ ap (referenceBy untold i) waits′) in
+      let o =
+      owed (X .buffer) memory (linked .faithful) p (omega (arith, linked .paired)) idle (referenceBy μ i f) runs in
       let Match = Matched program (X .count) in
+      let sees : (a : ℕ) → μ a ≡ seenBy (take p es) a (getD memory a 0) = λ a.
+      seen-paired (take p refs) (take p es) a (getD memory a 0) (each-take Fated refs es all p) in
       record {
         linked =
             linked-moved program X memory linked _ _ _ (take left (set es p e)) _ _ memory
             (rw (take-set-lt left es p e (o .after))
             (each-set Match (take left refs) (take left es)
             (each-take Match refs es (matched program X memory linked) left)
-            p r e (refl, linked .alike p live)))
+            p r e (wordless-reference μ i f, linked .alike p live)))
+            (subst (Faithful (λ (a : ℕ). getD memory a 0)) (take-set-lt left refs p r (o .after))
+            (faithful-set p left refs r (λ (a : ℕ). getD memory a 0) (o .after) idle (took-reference μ i f) (o .spares)
+            (linked .faithful)))
             (omega (arith, linked .live-bounded, length-take left (set es p e), length-set es p e))
             refl;
         steps = λ numbers n.
             steps-quiet
             (goes stays
-            (executing p left f d (o .after) (omega (arith, o .within, linked .paired)) (is-waiting (entryAt es p .fate) w)
+            (executing p left f d (o .after) (omega (arith, o .within, linked .paired)) waits′
             (ap (evaluate i (λ (k : ℕ). registerSeen (take p es) k (some (getD (X .registers) k 0))))
-            (fun-ext (λ a. sym (seen-paired (take p refs) (take p es) a (getD memory a 0) (each-take Fated refs es all p))))
-            ∙ comes)
-            (o .spares)));
+            (fun-ext (λ a. sym (sees a))) ∙ comes)
+            (spares-paired μ i _ (take (left - suc p) (drop (suc p) refs)) (take (left - suc p) (drop (suc p) es)) f sees
+            (each-take Fated (drop (suc p) refs) (drop (suc p) es) (each-drop Fated refs es all (suc p)) (left - suc p))
+            (o .spares))));
       }
 
   -- what the checks of an accepted execution say
   pub execute-passed : refusal (executeChecks program X memory p) ≡ 0
       → (p < length (X .entries)) × (waits (entryAt (X .entries) p .fate) ≡ true)
       × (evaluated X memory p ≡ some (known (evaluated X memory p)))
-      × (survivorsOf X p (known (evaluated X memory p)) ≡ 0 → ⊥)
+      × (survivorsOf X memory p (known (evaluated X memory p)) ≡ 0 → ⊥)
   execute-passed z =
       let passed = sym (lent-passes program X memory linked (drop 2 (executeChecks program X memory p))) ∙ z in
       let seven = passes (leb (length (X .entries)) p) 6 _ passed in
       let eight = passes (not (waits (entryAt (X .entries) p .fate))) 7 _ (seven .1) in
       let nine = passes (unknown (evaluated X memory p)) 8 _ (eight .1) in
-      let ten = passes (eqb (survivorsOf X p (known (evaluated X memory p))) 0) 9 0 (nine .1) in (
+      let ten = passes (eqb (survivorsOf X memory p (known (evaluated X memory p))) 0) 9 0 (nine .1) in (
         leb-false (length (X .entries)) p (seven .0),
         not-false (waits (entryAt (X .entries) p .fate)) (eight .0),
         is-known (evaluated X memory p) (nine .0),
-        eqb-false (survivorsOf X p (known (evaluated X memory p))) 0 (ten .0),
+        eqb-false (survivorsOf X memory p (known (evaluated X memory p))) 0 (ten .0),
       )
 
   pub execute-links : Links program X memory (executions program X memory p)
@@ -233,6 +255,7 @@ module _ (program : List ℕ) (X : Plain) (memory : List ℕ) (linked : Linked p
         linked =
             linked-moved program X memory linked _ _ _ (take p (X .entries)) _ _ memory
             (each-take (Matched program (X .count)) (X .buffer .refs) (X .entries) (matched program X memory linked) p)
+            (faithful-take p (X .buffer .refs) _ (linked .faithful))
             (omega (arith, linked .live-bounded, length-take p (X .entries)))
             refl;
         steps = λ numbers n. steps-quiet (goes stays (squashing p));
@@ -252,6 +275,7 @@ written-length memory (accessed a l (holds v)) = length-set memory a v
 
 module _ (program : List ℕ) (X : Plain) (memory : List ℕ) (linked : Linked program X memory) where
   pub commit-links : Links program X memory (commits program X memory)
+  unfolding seen
   commit-links =
       judged-links program X memory (refusal (commitChecks program X memory)) _ linked
       (λ z.
@@ -262,15 +286,22 @@ module _ (program : List ℕ) (X : Plain) (memory : List ℕ) (linked : Linked p
       let thirteen = passes (faults (X .buffer .words) (reference e)) 12 _ (twelve .1) in
       let fourteen = passes (misaligned e) 13 0 (thirteen .1) in
       let live = eqb-false (length (X .entries)) 0 (eleven .0) in
+      let refs = X .buffer .refs in
+      let f = fateOf (at refs 0) in
       let fate = linked .fates 0 (omega arith) in
+      let fine : faults (length memory) f ≡ false =
+      faults-wordless (length memory) f ∙ ap₂ faults (linked .lent) fate ∙ thirteen .0 in
       record {
         linked =
             linked-moved program X memory linked _ _ _ (drop 1 (X .entries)) _ _ _
-            (each-drop (Matched program (X .count)) (X .buffer .refs) (X .entries) (matched program X memory linked) 1)
+            (each-drop (Matched program (X .count)) refs (X .entries) (matched program X memory linked) 1)
+            (faithful-more (drop 1 refs) _ _
+            (λ b _. seen-next refs 0 b (getD memory b 0) (omega (arith, linked .paired)) ∙ seen-written memory f b fine)
+            (faithful-drop 1 refs _ (linked .faithful)))
             (omega (arith, linked .live-bounded, length-drop 1 (X .entries)))
-            (written-length memory (fateOf (at (X .buffer .refs) 0)));
+            (written-length memory f);
         steps = λ numbers n.
-            rw (fate, add-one n)
+            rw (written-wordless memory f ∙ ap (written memory) fate, add-one n)
             (goes stays
             (committing e (drop 1 (X .entries)) (oldest-first (X .entries) live) (twelve .0)
             (ap₂ _||_ (ap (λ (k : ℕ). faults k (reference e)) (linked .lent) ∙ thirteen .0) (fourteen .0))));
@@ -320,10 +351,11 @@ module _ (program : List ℕ) (X : Plain) (memory : List ℕ) (linked : Linked p
         (skips _ 8 _ (ap (λ (f : Fate). not (waits f)) oldest ∙ ap not w)
         (skips _ 9 _ (oldest-comes X memory)
         (skips _ 10 0
-        (ne-eqb (survivorsOf X 0 (known (evaluated X memory 0))) 0
+        (ne-eqb (survivorsOf X memory 0 (known (evaluated X memory 0))) 0
         (oldest-leaves (X .buffer) (size .some-row) (omega (arith, linked .paired))
-        (linked .fates 0 live ∙ ap (referenceBy i) (oldest ∙ is-waiting (e .fate) w))
-        (referenceBy i (known (evaluated X memory 0)))))
+        (wordless-waiting (fateOf (at (X .buffer .refs) 0))
+        (linked .fates 0 live ∙ ap (referenceBy untold i) (oldest ∙ is-waiting (e .fate) w)))
+        (referenceAt X memory 0 (known (evaluated X memory 0)))))
         refl)))
 
     module _ (executed : waits (e .fate) ≡ false) (clean : barred (length memory) e ≡ false) where

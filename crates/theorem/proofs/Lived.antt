@@ -53,6 +53,7 @@ machine oldest live number ran fate registers next =
         loads = replicate 64 0;
         stores = replicate 64 0;
         values = replicate 16 0;
+        taken = replicate 16 0;
       };
       window = set (replicate 16 blankEntry) 0 (record { instruction = Add 1 0 9; index = 0; fate = fate; distance = 0 });
       registers = registers;

@@ -1,28 +1,42 @@
 -- The buffer's references beside the window's entries, position by position, and what the buffer owes the window of it: an
 -- entry sees the memory that its reference does, and an execution that does not stall leaves the executing reference, no more
--- than all, and of a store no younger load that saw the word before. The last is one walk over both lists: what stays is a
--- part of what `spared` leaves, also where the address had no row, as `spared` then leaves all. Assumes nothing.
+-- than all, and where a store puts another word than the one already there no younger load that saw the word before. The last
+-- is the law of faithful references (crates/lookup/proofs/Faithfully.antt): what stays is a part of what the store's check
+-- leaves, also where the address had no row, as the check then leaves all. Entries do not keep the word that a load took, and
+-- nothing here goes by it. Assumes nothing.
 use mathlib.Core.Bool.{Bool, true, false, cond}
-use mathlib.Core.List.{List, [], _∷_, _++_}
+use mathlib.Core.List.{List, [], _∷_, _++_, map}
+use mathlib.Core.Logic.{_⊎_, inl, inr, ⊎-elim}
 use mathlib.Core.Path.{_≡_, refl, sym, ap, subst, _∙_}
 use Prim.Native.Nat.{ℕ, zero, suc, _+_, _-_, _≤_, _<_, min}
 use native.Mathlib.Nat.{le-refl}
 use native.Mathlib.Omega.{arith}
 use lib.Dec.{eqb, ltb}
-use lib.ListN.{length, take, drop, set, length-append, length-take, length-drop, length-set, List·getD-append}
+use lib.ListN.{length, getD, take, drop, set, length-append, length-take, length-drop, length-set, List·getD-append}
 use lib.Seq.{getD-take, getD-drop, getD-set-same, getD-set-other, getD-at}
 use borrow.Author.Tests.{ltb-true, ltb-false, eqb-true, eqb-false}
 use Rattle.marks.specs.Counting.{last}
 use Rattle.table.specs.Bank.{bank}
 use Rattle.table.specs.Reference.{Side, lacks, holds, Fate, waiting, other, accessed, Ref, ref, blank, fateOf, at, State}
-use Rattle.lookup.specs.Forwarding.{wordAfter, seen}
-use Rattle.lookup.specs.Violation.{keptMet, keptFrom, keptYounger}
+use Rattle.lookup.specs.Forwarding.{wordAfter, seen, forwarded}
+use Rattle.lookup.specs.computed.Faithful.{Took, Faithful}
 use Rattle.lookup.specs.Rows.{touched, rowsInUse, youngestRow}
 use Rattle.lookup.specs.Outcome.{allocateRow, keptInRow, survivors}
 use Rattle.lookup.proofs.Violations.{checked-after, untouched-checked}
+use Rattle.lookup.proofs.Faithfully.{clearBy, clear, Spares, spares-after}
+use Rattle.engine.specs.Conditions.{faults}
+use Rattle.engine.specs.Execution.{written}
+use Rattle.engine.specs.Part.{wordOf}
+use Rattle.machine_model.specs.declared.Instruction.{Instruction}
+use Rattle.machine_model.specs.declared.Kind.{Kind}
+use Rattle.machine_model.specs.declared.Kind.the-variants.{Computing, Loading, Storing, Merging}
+use Rattle.machine_model.specs.declared.Fate as Machine
+use Rattle.machine_model.specs.declared.Fate.the-variants.{Waiting, Executed}
 use Rattle.machine_model.specs.declared.Entry.{Entry}
-use Rattle.machine_model.specs.Window.{blankEntry, entryAt, reference}
-use Rattle.theorem.proofs.Core.{seenBy, clearMet, clearBy, clear, Spares}
+use Rattle.machine_model.specs.Program.{kind}
+use Rattle.machine_model.specs.Window.{blankEntry, entryAt, accessBy, referenceBy, untold, reference}
+use Rattle.theorem.specs.computed.Linked.{wordless}
+use Rattle.theorem.proofs.Core.{seenBy}
 
 -- the lists have one length, and what stands at each position is related
 abbrev pub Each : (Ref → Entry → Type 0) → List Ref → List Entry → Type 0
@@ -75,9 +89,15 @@ module _ (P : Ref → Entry → Type 0) (rs : List Ref) (es : List Entry) (all :
           let i = eqb-false q p t in
           rw (getD-set-other rs p q r blank i, getD-set-other es p q e blankEntry i) (all .1 q l)
 
--- a reference bears its entry's fate
+-- a reference bears its entry's fate, but for the word that a load took
 abbrev pub Fated : Ref → Entry → Type 0
-Fated r e = fateOf r ≡ reference e
+Fated r e = wordless (fateOf r) ≡ reference e
+
+-- that word plays no part in what is stored,
+after-wordless : (f : Fate) (a w : ℕ) → wordAfter f a w ≡ wordAfter (wordless f) a w
+after-wordless waiting a w = refl
+after-wordless other a w = refl
+after-wordless (accessed b l s) a w = refl
 
 pub seen-paired : (rs : List Ref) (es : List Entry) (a w : ℕ) → Each Fated rs es → seen rs a w ≡ seenBy es a w
 unfolding seen seenBy
@@ -86,31 +106,24 @@ seen-paired [] (e ∷ es) a w all = absurd (omega (arith, all .0))
 seen-paired (r ∷ rs) [] a w all = absurd (omega (arith, all .0))
 seen-paired (ref n f ∷ rs) (e ∷ es) a w all =
     seen-paired rs es a (wordAfter f a w) (each-drop Fated (ref n f ∷ rs) (e ∷ es) all 1)
-    ∙ ap (λ (g : Fate). seenBy es a (wordAfter g a w)) (all .1 0 (omega arith))
+    ∙ ap (seenBy es a) (after-wordless f a w ∙ ap (λ (g : Fate). wordAfter g a w) (all .1 0 (omega arith)))
 
--- one entry before others that are clear: the walk went past it, or it is a store to the address
-clear-met : (f : Fate) (a all rest m : ℕ) (b : Bool) → suc m ≤ keptFrom f a all rest → (m ≤ rest → b ≡ true)
-    → clearBy f a b ≡ true
-clear-met waiting a all rest m b l h = h (omega arith)
-clear-met other a all rest m b l h = h (omega arith)
-clear-met (accessed c k s) a all rest m b l h = go (eqb c a) k s l
-  where
-    go : (t k : Bool) (s : Side) → suc m ≤ cond t (keptMet k s all rest) (suc rest) → cond t (clearMet k s b) b ≡ true
-    go true true s i = absurd (omega arith)
-    go true false (holds v) i = refl
-    go true false lacks i = h (omega arith)
-    go false k s i = h (omega arith)
+-- nor in which of them loaded
+clear-wordless : (f : Fate) (a : ℕ) (b : Bool) → clearBy f a b ≡ clearBy (wordless f) a b
+clear-wordless waiting a b = refl
+clear-wordless other a b = refl
+clear-wordless (accessed c lacks s) a b = refl
+clear-wordless (accessed c (holds w) s) a b = refl
 
--- entries that a store to the address spares are clear
-clear-spared : (rs : List Ref) (es : List Entry) (a m : ℕ) → Each Fated rs es → m ≤ keptYounger a rs → clear a (take m es) ≡ true
-unfolding keptYounger clear
-clear-spared rs es a zero all l = refl
-clear-spared rs [] a (suc m) all l = refl
-clear-spared [] (e ∷ es) a (suc m) all l = absurd (omega arith)
-clear-spared (ref n f ∷ rs) (e ∷ es) a (suc m) all l =
-    clear-met (reference e) a (length rs) (keptYounger a rs) m (clear a (take m es))
-    (subst (λ (g : Fate). suc m ≤ keptFrom g a (length rs) (keptYounger a rs)) (all .1 0 (omega arith)) l)
-    (clear-spared rs es a m (each-drop Fated (ref n f ∷ rs) (e ∷ es) all 1))
+clear-paired : (rs : List Ref) (es : List Entry) (a : ℕ) → Each Fated rs es → clear a (map fateOf rs) ≡ clear a (map reference es)
+unfolding clear
+clear-paired [] [] a all = refl
+clear-paired [] (e ∷ es) a all = absurd (omega (arith, all .0))
+clear-paired (r ∷ rs) [] a all = absurd (omega (arith, all .0))
+clear-paired (ref n f ∷ rs) (e ∷ es) a all =
+    ap (clearBy f a) (clear-paired rs es a (each-drop Fated (ref n f ∷ rs) (e ∷ es) all 1))
+    ∙ clear-wordless f a (clear a (map reference es))
+    ∙ ap (λ (g : Fate). clearBy g a (clear a (map reference es))) (all .1 0 (omega arith))
 
 last-le : (f : ℕ → Bool) (n : ℕ) → last f n ≤ n
 unfolding last
@@ -135,46 +148,107 @@ room-after P p h live =
     go false true e some = (ltb-true p (youngestRow (P .banks) h (P .refs)) e, last-le _ _)
     go false false e some = absurd (some refl)
 
--- what the buffer owes of an execution at position p to this fate that leaves `left`
-pub record Owed (P : State) (es : List Entry) (p left : ℕ) (f : Fate) : Type 0 where
+-- what the buffer owes of an execution at position p to this fate that leaves `left`, over this memory
+pub record Owed (P : State) (memory : List ℕ) (p left : ℕ) (f : Fate) : Type 0 where
   pub after : p < left
   pub within : left ≤ length (P .refs)
-  pub spares : Spares f (take (left - suc p) (drop (suc p) es))
+  pub spares : Spares (forwarded P memory p) f (map fateOf (take (left - suc p) (drop (suc p) (P .refs))))
 
-module _ (P : State) (es : List Entry) (all : Each Fated (P .refs) es) (p : ℕ) (live : p < length (P .refs)) where
-  -- nothing is owed to entries younger than a reference without memory
-  owed-none : (f : Fate) → Spares f (take (length (P .refs) - suc p) (drop (suc p) es)) → Owed P es p (length (P .refs)) f
+module _ (P : State) (memory : List ℕ) (faithful : Faithful (λ (a : ℕ). getD memory a 0) (P .refs)) (p : ℕ)
+    (live : p < length (P .refs)) (idle : fateOf (at (P .refs) p) ≡ waiting) where
+  -- nothing is owed to references younger than one without memory
+  owed-none : (f : Fate) → Spares (forwarded P memory p) f (map fateOf (take (length (P .refs) - suc p) (drop (suc p) (P .refs))))
+      → Owed P memory p (length (P .refs)) f
   owed-none f free = record { after = live; within = le-refl (length (P .refs)); spares = free }
 
   -- an access that leaves no more than the check of its address's row does, where it stores
-  owed-access : (a left : ℕ) (l : Bool) (s : Side) → p < left → left ≤ keptInRow P p a s → Owed P es p left (accessed a l s)
+  owed-access : (a left : ℕ) (l s : Side) → p < left → left ≤ keptInRow P p a s → Owed P memory p left (accessed a l s)
   owed-access a left l lacks h i = record { after = h; within = i; spares = tt }
   owed-access a left l (holds v) h i =
       record {
         after = h;
-        within = omega (arith, checked-after P p a live);
+        within = omega (arith, checked-after P p a v live);
         spares =
-            clear-spared (drop (suc p) (P .refs)) (drop (suc p) es) a (left - suc p)
-            (each-drop Fated (P .refs) es all (suc p)) (omega arith);
+            spares-after (P .refs) (λ (b : ℕ). getD memory b 0) p a v (left - suc p) live idle faithful (omega arith);
       }
 
   -- what stays where the address has a row is younger than p, and all where it has none
   kept-after : (a : ℕ) (s : Side) → p < keptInRow P p a s
   kept-after a lacks = live
-  kept-after a (holds v) = checked-after P p a live .0
+  kept-after a (holds v) = checked-after P p a v live .0
 
   all-kept : (a : ℕ) (s : Side) → touched a (P .refs) ≡ false → keptInRow P p a s ≡ length (P .refs)
   all-kept a lacks e = refl
-  all-kept a (holds v) e = untouched-checked P p a live e
+  all-kept a (holds v) e = untouched-checked P p a v live e
 
-  pub owed : (f : Fate) → (survivors P p f ≡ 0 → ⊥) → Owed P es p (survivors P p f) f
+  pub owed : (f : Fate) → (survivors P p f ≡ 0 → ⊥) → Owed P memory p (survivors P p f) f
   owed waiting some = owed-none waiting tt
   owed other some = owed-none other tt
   owed (accessed a l s) some = go (touched a (P .refs)) refl some
     where
       go : (t : Bool) → touched a (P .refs) ≡ t → (cond t (keptInRow P p a s) (allocateRow P p (bank (P .banks) a)) ≡ 0 → ⊥)
-          → Owed P es p (cond t (keptInRow P p a s) (allocateRow P p (bank (P .banks) a))) (accessed a l s)
+          → Owed P memory p (cond t (keptInRow P p a s) (allocateRow P p (bank (P .banks) a))) (accessed a l s)
       go true e none = owed-access a (keptInRow P p a s) l s (kept-after a s) (le-refl (keptInRow P p a s))
       go false e none =
           let h = room-after P p (bank (P .banks) a) live none in
           owed-access a (allocateRow P p (bank (P .banks) a)) l s (h .0) (rw (all-kept a s e) (h .1))
+
+-- ---- an entry that executes to fate x
+
+module _ (μ : ℕ → ℕ) (i : Instruction) where
+  -- its reference is it, but for the word that a load took
+  pub wordless-reference : (x : Machine.Fate) → wordless (referenceBy μ i x) ≡ referenceBy untold i x
+  wordless-reference Waiting = refl
+  wordless-reference (Executed v a) = go (kind i)
+    where
+      go : (k : Kind) → wordless (accessBy μ k v a) ≡ accessBy untold k v a
+      go Computing = refl
+      go Loading = refl
+      go Storing = refl
+      go Merging = refl
+
+  -- which is the one that it sees
+  pub took-reference : (x : Machine.Fate) → Took μ (referenceBy μ i x)
+  took-reference Waiting = tt
+  took-reference (Executed v a) = go (kind i)
+    where
+      go : (k : Kind) → Took μ (accessBy μ k v a)
+      go Computing = tt
+      go Loading = refl
+      go Storing = tt
+      go Merging = refl
+
+  -- what is owed to references is owed to their entries, which see the same
+  pub spares-paired : (ν : ℕ → ℕ) (rs : List Ref) (es : List Entry) (x : Machine.Fate) → ((a : ℕ) → μ a ≡ ν a) → Each Fated rs es
+      → Spares μ (referenceBy μ i x) (map fateOf rs) → Spares ν (referenceBy untold i x) (map reference es)
+  spares-paired ν rs es Waiting same all h = tt
+  spares-paired ν rs es (Executed v a) same all h = go (kind i) h
+    where
+      store : (b : ℕ) → (μ b ≡ v) ⊎ (clear b (map fateOf rs) ≡ true) → (ν b ≡ v) ⊎ (clear b (map reference es) ≡ true)
+      store b h =
+          ⊎-elim (λ (there : μ b ≡ v). inl (sym (same b) ∙ there))
+          (λ (clears : clear b (map fateOf rs) ≡ true). inr (sym (clear-paired rs es b all) ∙ clears))
+          h
+
+      go : (k : Kind) → Spares μ (accessBy μ k v a) (map fateOf rs) → Spares ν (accessBy untold k v a) (map reference es)
+      go Computing h = tt
+      go Loading h = tt
+      go Storing h = store a h
+      go Merging h = store (wordOf a) h
+
+-- ---- the word that a load took plays no part in the rest
+
+pub wordless-waiting : (f : Fate) → wordless f ≡ waiting → f ≡ waiting
+wordless-waiting waiting e = refl
+wordless-waiting other e = absurd (let z : _≡_ {A = ℕ} 0 1 = cc in omega arith)
+wordless-waiting (accessed a l s) e = absurd (let z : _≡_ {A = ℕ} 0 1 = cc in omega arith)
+
+pub faults-wordless : (words : ℕ) (f : Fate) → faults words f ≡ faults words (wordless f)
+faults-wordless words waiting = refl
+faults-wordless words other = refl
+faults-wordless words (accessed a l s) = refl
+
+pub written-wordless : (memory : List ℕ) (f : Fate) → written memory f ≡ written memory (wordless f)
+written-wordless memory waiting = refl
+written-wordless memory other = refl
+written-wordless memory (accessed a l s) = refl

@@ -63,7 +63,7 @@ oldest-fate X memory e es q = rw (q, oldest-known (coreOf X memory [] 0) e es q 
 -- where its execution is accepted, it is among those that stay
 oldest-stays : (program : List ℕ) (X : Plain) (memory : List ℕ) → Linked program X memory
     → refusal (executeChecks program X memory 0) ≡ 0
-    → 0 < survivorsOf X 0 (known (evaluated X memory 0))
+    → 0 < survivorsOf X memory 0 (known (evaluated X memory 0))
 oldest-stays program X memory l z =
     omega (arith, execute-passed program X memory l 0 z .3)
 
@@ -160,8 +160,8 @@ module _ (program memory : List ℕ) where
       let f = known (evaluated X (x .memory) 0) in
       let k = execute-accepted program X (x .memory) (h .linked) e es q w in
       accepted-then x (commit ∷ []) (refusal (executeChecks program X (x .memory) 0))
-      (executing X (x .memory) 0 f (survivorsOf X 0 f)) k
-      (executed-then x n e es q f (survivorsOf X 0 f) (oldest-fate X (x .memory) e es q)
+      (executing X (x .memory) 0 f (survivorsOf X (x .memory) 0 f)) k
+      (executed-then x n e es q f (survivorsOf X (x .memory) 0 f) (oldest-fate X (x .memory) e es q)
       (oldest-stays program X (x .memory) (h .linked) k))
       (held-plays x h (execute 0))
 

@@ -333,11 +333,12 @@ callTable =
     true mixedCommits 5 (issue ∷ execute 0 ∷ commit ∷ [])
     ∷ called mixed (0 ∷ []) (finish 9 (replicate 26 7) ∷ []) (finished 5 ∷ []) true mixedCommits 5
     (issue ∷ execute 0 ∷ commit ∷ [])
-    -- A load goes before a part and is squashed by it; the part went before a store of its word and is squashed by that.
+    -- A load goes before a part that leaves its word as it was, and is kept; the part went before a store of another word, and is
+    -- squashed by that.
     ∷ called laid (0 ∷ [])
-    (issue ∷ issue ∷ issue ∷ issue ∷ execute 0 ∷ execute 3 ∷ execute 2 ∷ issue ∷ execute 1 ∷ commit ∷ commit ∷ issue ∷ execute 0
+    (issue ∷ issue ∷ issue ∷ issue ∷ execute 0 ∷ execute 3 ∷ execute 2 ∷ execute 1 ∷ commit ∷ commit ∷ issue ∷ execute 0
     ∷ commit ∷ issue ∷ execute 0 ∷ commit ∷ [])
-    (named 0 ∷ named 1 ∷ named 2 ∷ named 3 ∷ executed 0 0 none ∷ executed 0 0 none ∷ executed 0 0 (some 3) ∷ named 3
+    (named 0 ∷ named 1 ∷ named 2 ∷ named 3 ∷ executed 0 0 none ∷ executed 0 0 none ∷ executed 0 0 none
     ∷ executed 0 0 (some 2) ∷ committed 0 1 1 511 0 ∷ committed 1 4 0 511 0 ∷ named 0 ∷ executed 0 0 none ∷ committed 2 5 0 256 0
     ∷ named 0 ∷ executed 256 0 none ∷ committed 3 3 2 256 0 ∷ [])
     true laidCommits 4 (issue ∷ execute 0 ∷ commit ∷ [])
@@ -347,6 +348,18 @@ callTable =
     (named 0 ∷ named 1 ∷ named 2 ∷ executed 0 0 none ∷ executed 0 1 none ∷ executed 0 0 none ∷ committed 0 5 3 0 0
     ∷ committed 1 3 1 0 1 ∷ [])
     true (five 0 5 3 0 0 ++ five 1 3 1 0 1) 2 (commit ∷ [])
+    -- A load is kept by a store of the word that it took, and commits with the distance that it came.
+    ∷ called (A 1 0 7 ++ S 1 0 5 ++ S 1 0 5 ++ L 2 0 5) (replicate 8 0)
+    (issue ∷ issue ∷ issue ∷ issue ∷ execute 0 ∷ execute 1 ∷ execute 3 ∷ execute 2 ∷ commit ∷ commit ∷ commit ∷ commit ∷ [])
+    (named 0 ∷ named 1 ∷ named 2 ∷ named 3 ∷ executed 0 0 none ∷ executed 0 0 none ∷ executed 7 2 none ∷ executed 0 0 none
+    ∷ committed 0 1 1 7 0 ∷ committed 1 4 5 7 0 ∷ committed 2 4 5 7 0 ∷ committed 3 3 2 7 2 ∷ [])
+    true (five 0 1 1 7 0 ++ five 1 4 5 7 0 ++ five 2 4 5 7 0 ++ five 3 3 2 7 2) 4 (issue ∷ execute 0 ∷ commit ∷ [])
+    -- A part's store is kept by a store of the word that it took, and with it a load of the word that it made.
+    ∷ called (A 1 0 1 ++ S 0 0 0 ++ B 1 0 1 ++ L 2 0 0) (replicate 8 0)
+    (issue ∷ issue ∷ issue ∷ issue ∷ execute 0 ∷ execute 2 ∷ execute 3 ∷ execute 1 ∷ commit ∷ commit ∷ commit ∷ commit ∷ [])
+    (named 0 ∷ named 1 ∷ named 2 ∷ named 3 ∷ executed 0 0 none ∷ executed 0 0 none ∷ executed 256 1 none ∷ executed 0 0 none
+    ∷ committed 0 1 1 1 0 ∷ committed 1 4 0 0 0 ∷ committed 2 5 1 256 0 ∷ committed 3 3 2 256 1 ∷ [])
+    true (five 0 1 1 1 0 ++ five 1 4 0 0 0 ++ five 2 5 1 256 0 ++ five 3 3 2 256 1) 4 (issue ∷ execute 0 ∷ commit ∷ [])
     -- A part at 4W stops a finish; one at 4W - 1 does not.
     ∷ called (A 1 0 7 ++ B 1 0 7 ++ B 1 0 8) (0 ∷ 0 ∷ []) (finish 9 (replicate 99 7) ∷ commit ∷ []) (finished 2 ∷ refused 13 ∷ [])
     false (five 0 1 1 7 0 ++ five 1 5 7 (bytes 0 0 0 7) 0) 2 (commit ∷ [])

@@ -22,14 +22,17 @@ const FORWARDS: [(&str, Forward); 5] = [
 /// Of a store on either side.
 const EITHER: Distance = |_, k, _, store| store.map_or(0, |store| k.abs_diff(store));
 
-const VIOLATIONS: [(&str, Violation); 9] = [
-    ("a load past a store", |w, k, a, _| younger(w, k).find(|&p| marked(&w.live[p], Code::loads, a))),
-    ("a load of any address", |w, k, _, _| first_load(w, k, |_| true)),
-    ("a load of the bank", |w, k, a, _| first_load(w, k, |b| w.sizes.bank(b) == w.sizes.bank(a))),
-    ("a load of the remainder by 64", |w, k, a, _| first_load(w, k, |b| b % 64 == a % 64)),
-    ("a store too", |w, k, a, _| younger(w, k).find(|&p| w.live[p].mark() == Some(a))),
-    ("not by the same word", |w, k, a, value| {
-        Stated.violation(w, k, a, value).filter(|&from| w.live[from].value() != Some(value))
+const VIOLATIONS: [(&str, Violation); 8] = [
+    ("a load past a store", |w, k, a, value| {
+        let first = younger(w, k).find(|&p| marked(&w.live[p], Code::loads, a))?;
+        took_another(&w.live[first], value).then_some(first)
+    }),
+    ("a load of any address", |w, k, _, value| first_load(w, k, value, |_| true)),
+    ("a load of the bank", |w, k, a, value| first_load(w, k, value, |b| w.sizes.bank(b) == w.sizes.bank(a))),
+    ("a load of the remainder by 64", |w, k, a, value| first_load(w, k, value, |b| b % 64 == a % 64)),
+    ("a store too", |w, k, a, value| {
+        let first = younger(w, k).find(|&p| w.live[p].mark() == Some(a))?;
+        (w.live[first].is(Code::S) || took_another(&w.live[first], value)).then_some(first)
     }),
     ("no violation", |_, _, _, _| None),
     ("everything younger", |w, k, a, value| Stated.violation(w, k, a, value).map(|_| k + 1)),
@@ -106,10 +109,14 @@ fn younger(window: &Window, k: usize) -> std::ops::Range<usize> {
     k + 1..window.live.len()
 }
 
-/// The first younger one executed to a `near` address, if it is a load.
-fn first_load(window: &Window, k: usize, near: impl Fn(u32) -> bool) -> Option<usize> {
+/// The first younger one executed to a `near` address, if it is a load that took another word.
+fn first_load(window: &Window, k: usize, word: u32, near: impl Fn(u32) -> bool) -> Option<usize> {
     let first = younger(window, k).find(|&p| window.live[p].mark().is_some_and(&near))?;
-    window.live[first].code().loads().then_some(first)
+    took_another(&window.live[first], word).then_some(first)
+}
+
+fn took_another(entry: &Entry, word: u32) -> bool {
+    entry.taken().is_some_and(|taken| taken != word)
 }
 
 /// Room by `choice` among the rows of a bank without a free one, and without one of this address.

@@ -1,11 +1,9 @@
 //! Wrong distances of right words.
 
-use super::{Mutant, Scripts, Wrong, RIGHT, SCRIPTS};
+use super::{checked, Mutant, Scripts, Wrong, RIGHT};
 use crate::events::BANKS;
-use crate::generator::generate;
 use crate::machine::{Commit, Executed, Machine};
 use crate::rules::{Rules, Stated};
-use crate::watch::watch;
 use crate::window::{Code, Entry, Window, STORES};
 
 type Count = fn(&Window, usize, usize) -> usize;
@@ -354,11 +352,6 @@ fn wrong_distances_at_places() {
         scripts.tell(&format!("0 where B is {banks} and R is {rows}"), blind);
     }
     scripts.close("distances at places");
-}
-
-/// Plays by wrong rules until a check fails.
-fn checked<R: Rules>(rules: R) {
-    (0..SCRIPTS).for_each(|seed| drop(watch(rules.clone(), &generate(seed))));
 }
 
 #[test]

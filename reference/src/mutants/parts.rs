@@ -62,7 +62,7 @@ const MISALIGNED: [(&str, Misaligned); 7] = [
     ("an odd L or S is refused", |code, number| code != Code::B && number % 2 == 1),
 ];
 
-const EXECUTES: [(&str, Execute); 10] = [
+const EXECUTES: [(&str, Execute); 9] = [
     ("an odd H does not execute", |m, k| {
         let mut tried = m.clone();
         let answer = tried.execute(k)?;
@@ -105,15 +105,6 @@ const EXECUTES: [(&str, Execute); 10] = [
             _ => false,
         };
         unmet(m, k, apart)
-    }),
-    ("a part that changes nothing squashes nothing", |m, k| {
-        let before = m.clone();
-        let word = |entry: Entry| entry.mark().unwrap_or(0);
-        let taken = |entry: Entry| match Stated.forward(&before.window, k, word(entry)) {
-            Some(store) => before.window.live[store].value(),
-            None => Some(before.memory.get(word(entry) as usize).copied().unwrap_or(0)),
-        };
-        unmet(m, k, |_, entry| entry.code().is_part() && entry.value() == taken(entry))
     }),
 ];
 
@@ -415,14 +406,15 @@ impl Rules for Lacking {
         Some(store)
     }
 
-    fn violation(&self, window: &Window, k: usize, address: u32, _value: u32) -> Option<usize> {
+    fn violation(&self, window: &Window, k: usize, address: u32, value: u32) -> Option<usize> {
         let at = |&p: &usize| window.live[p].mark() == Some(address) && !self.lacks(window, p, Lack::IsMet);
         let first = (k + 1..window.live.len()).find(at)?;
         if self.lacks(window, k, Lack::Squashes) || self.lacks(window, first, Lack::IsALoad) {
             return None;
         }
         let from = if self.lacks(window, first, Lack::IsSquashed) { first + 1 } else { first };
-        window.live[first].code().loads().then_some(from).filter(|&from| from < window.live.len())
+        let goes = window.live[first].taken().is_some_and(|taken| taken != value);
+        goes.then_some(from).filter(|&from| from < window.live.len())
     }
 
     fn room(&self, window: &Window, k: usize, address: u32) -> Result<Option<usize>, u32> {

@@ -2,7 +2,7 @@
 -- (rules-at). An early refusal is the definition's (turned-down); past it the ticket is ready (ready-at), and the effect found
 -- is the definition's (found-at). Where it leaves nothing the execution stalls; else what it changes lies in its bounds
 -- (bounds-at), and the table changed in place is the one with the effect applied (executes-meets). Assumes nothing.
-use mathlib.Core.Path.{_≡_, refl, sym, _∙_}
+use mathlib.Core.Path.{_≡_, sym, _∙_}
 use Prim.Native.Nat.{_≤_, _<_}
 use native.Mathlib.Omega.{arith}
 use Rattle.table.specs.Limits.{stagesMost, slots}
@@ -10,7 +10,7 @@ use Rattle.table.specs.Rules.{Rules}
 use Rattle.table.specs.View.{view}
 use Rattle.engine.proofs.Lengths.{Lengths, lengths-of, fits, circle-asks, effect-asks}
 use Rattle.engine.specs.computed.Effect.{effectAt}
-use Rattle.engine.proofs.Executed.{found-bounds}
+use Rattle.engine.proofs.Executed.{found-bounds, effect-made}
 use Rattle.buffer_model.specs.Refusals.{place}
 use Rattle.buffer_model.proofs.MeetingContract.{checked-rules, broken-meets}
 use Rattle.buffer_model.proofs.Executing.{earlyBy, Ready, ready, turned-down, stalls, executes-meets}
@@ -27,11 +27,11 @@ abbrev checked : tie.Else2 → tie.Else1
 checked c = c .before .before .before .before
 
 abbrev named : tie.Else3 → tie.Else2
-named c = c .before .before .before .before .before .before .before .before
+named c = c .before .before .before .before .before .before .before .before .before
 
 abbrev rowed : tie.After-answered → tie.Else3
 rowed c = c .before .before .before .before .before .before .before .before .before .before .before .before .before .before
-    .before .before .before .before
+    .before .before .before .before .before .before
 
 lengths-at : (c : tie.Start) → Lengths (c .args .t1)
 lengths-at c = lengths-of (c .args .t1) (c .good .0)
@@ -52,7 +52,7 @@ ready-at c =
 
 -- the effect found is the definition's
 found-at : (c : tie.After-effect-of)
-    → let args = entry (checked (c .before .before .before .before .before .before .before)) .args in
+    → let args = entry (checked (c .before .before .before .before .before .before .before .before)) .args in
     c .effect-of .result
     ≡ effectAt (args .t1) (place (view (args .t1)) (args .ticket)) (args .memory .now) (args .action)
 found-at c = rw (c .before .position-of .ensures) at (c .effect-of .ensures)
@@ -87,19 +87,19 @@ returns-2 c =
 
 position-of-requires : tie.Need-position-of-requires
 position-of-requires c κs =
-    let past = c .before .before .before .before .before in
+    let past = c .before .before .before .before .before .before in
     let rules = rules-at (checked past) in
     (rules .start, ready-at past .stage, omega (arith, fits _ rules .stages))
 
 effect-of-requires : tie.Need-effect-of-requires
 effect-of-requires c κs =
-    let past = c .before .before .before .before .before .before in
+    let past = c .before .before .before .before .before .before .before in
     let at = checked past in
     effect-asks _ (rules-at at) (lengths-at (entry at)) _ (rw (c .position-of .ensures) (ready-at past .live))
 
 returns-3 : tie.Need-returns-3
 returns-3 c =
-    let past = c .before .before .before .before .before .before .before .before in
+    let past = c .before .before .before .before .before .before .before .before .before in
     let args = entry (checked past) .args in
     let q = c .before .effect-of in
     stalls (args .t1) (rules-at (checked past)) (args .ticket) (args .memory .now) (args .action) (passed-at past)
@@ -143,29 +143,35 @@ set-value-requires : tie.Need-set-value-requires
 set-value-requires c κs = bounds-at (c .before .before .before .before .before .before .before .before .before .before .before
     .before .before .before .before .before) .2
 
+set-value-requires-2 : tie.Need-set-value-requires-2
+set-value-requires-2 c κs = bounds-at (c .before .before .before .before .before .before .before .before .before .before .before
+    .before .before .before .before .before .before .before) .2
+
 returns-4 : tie.Need-returns-4
 returns-4 c =
     let row = rowed c in
     let at = checked (named row) in
     let args = entry at .args in
     let q = row .before .effect-of in
-    rw (
-      c .before .set-value .ensures,
-      c .before .before .before .add-mark2 .ensures,
-      c .before .before .before .before .before .add-mark .ensures,
-      c .before .before .before .before .before .before .before .set-word .ensures,
-      c .before .before .before .before .before .before .before .before .before .before .including .ensures,
-      c .before .before .before .before .before .before .before .before .before .before .before .cut2 .ensures,
-      c .before .before .before .before .before .before .before .before .before .before .before .before .before .cut .ensures,
-    )
-    (executes-meets (args .t1) (rules-at at) (args .ticket) (args .memory .now) (args .action) (passed-at (named row))
+    let took = c .before in
+    let kept = took .before .before in
+    let stores = kept .before .before in
+    let loads = stores .before .before in
+    let words = loads .before .before in
+    let ran = words .before .before .before in
+    let less = ran .before in
+    let cut = less .before .before in
+    executes-meets (args .t1) (rules-at at) (args .ticket) (args .memory .now) (args .action) (passed-at (named row))
     (q .result) (found-at (row .before)) (lengths-at (entry at)) (row .if3 .left) _ (c .answered .ensures) _
-    (c .before .before .before .before .before .before .before .before .before .before .before .before .before .before .before
-    .squashed-from .ensures) _ refl)
+    (cut .before .before .squashed-from .ensures) _
+    (effect-made (args .t1) (q .result) (args .ticket .stage) (ran .including .result) (words .set-word .last .0)
+    (cut .cut .last .0) (loads .add-mark .last .0) (less .cut2 .last .0) (stores .add-mark2 .last .0) (kept .set-value .last .0)
+    (took .set-value2 .last .0) (cut .cut .ensures) (less .cut2 .ensures) (ran .including .ensures) (words .set-word .ensures)
+    (loads .add-mark .ensures) (stores .add-mark2 .ensures) (kept .set-value .ensures) (took .set-value2 .ensures))
 
 pub execute-spec : {M : Type 1} → statement M
 execute-spec =
     tie.close
     (tie.spec (λ c κs. search needs) returns execution-refusal-requires returns-2 position-of-requires effect-of-requires
     returns-3 squashed-from-requires cut-requires cut-requires-2 including-requires set-word-requires
-    add-mark-requires add-mark-requires-2 set-value-requires (search needs) returns-4)
+    add-mark-requires add-mark-requires-2 set-value-requires set-value-requires-2 (search needs) returns-4)

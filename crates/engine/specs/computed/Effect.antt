@@ -6,7 +6,7 @@ use Prim.Native.Nat.{ℕ}
 use lib.ListN.{getD, set}
 use Rattle.table.specs.declared.Table.{Table}
 use Rattle.table.specs.Bank.{bank}
-use Rattle.engine.specs.computed.Steps.{cut, executing, marking}
+use Rattle.engine.specs.computed.Steps.{cut, executing, marking, keeping}
 use Rattle.lookup.specs.computed.Search.{forward, placeFor, leftAfter}
 use Rattle.engine.specs.declared.Action.{Action}
 use Rattle.engine.specs.declared.Action.the-variants.{Compute, LoadAt, StoreAt, PartAt}
@@ -14,46 +14,50 @@ use Rattle.engine.specs.Part.{wordOf, whole}
 use Rattle.engine.specs.declared.Effect.{Effect}
 
 -- what an action comes to at position p of a table with these parts, over this memory
-abbrev pub effectOf : ℕ → ℕ → ℕ → ℕ → ℕ → List ℕ → List ℕ → List ℕ → List ℕ → ℕ → List ℕ → Action → Effect
-effectOf banks rows stages oldest live addresses loads stores values p memory (Compute v) =
-    record { load = false; store = false; row = 0; word = 0; left = live; value = v; address = 0; distance = 0 }
-effectOf banks rows stages oldest live addresses loads stores values p memory (LoadAt a) =
+abbrev pub effectOf : ℕ → ℕ → ℕ → ℕ → ℕ → List ℕ → List ℕ → List ℕ → List ℕ → List ℕ → ℕ → List ℕ → Action → Effect
+effectOf banks rows stages oldest live addresses loads stores values taken p memory (Compute v) =
+    record { load = false; store = false; row = 0; word = 0; left = live; value = v; address = 0; distance = 0; taken = 0 }
+effectOf banks rows stages oldest live addresses loads stores values taken p memory (LoadAt a) =
     let q = placeFor oldest stages live rows addresses loads stores (bank banks a) a p in
-    let taken = forward oldest stages stores values (q .row) p (getD memory a 0) in
+    let found = forward oldest stages stores values (q .row) p (getD memory a 0) in
     record {
       load = true;
       store = false;
       row = q .row;
       word = a;
       left = q .left;
-      value = taken .word;
+      value = found .word;
       address = a;
-      distance = taken .distance;
+      distance = found .distance;
+      taken = found .word;
     }
-effectOf banks rows stages oldest live addresses loads stores values p memory (StoreAt a v) =
+effectOf banks rows stages oldest live addresses loads stores values taken p memory (StoreAt a v) =
     let q = placeFor oldest stages live rows addresses loads stores (bank banks a) a p in
     record {
       load = false;
       store = true;
       row = q .row;
       word = a;
-      left = leftAfter oldest stages live loads stores (q .row) (q .left) p;
+      left = leftAfter oldest stages live loads stores taken (q .row) (q .left) p v;
       value = v;
       address = a;
       distance = 0;
+      taken = 0;
     }
-effectOf banks rows stages oldest live addresses loads stores values p memory (PartAt part b v) =
+effectOf banks rows stages oldest live addresses loads stores values taken p memory (PartAt part b v) =
     let a = wordOf b in
     let q = placeFor oldest stages live rows addresses loads stores (bank banks a) a p in
+    let w = forward oldest stages stores values (q .row) p (getD memory a 0) .word in
     record {
       load = true;
       store = true;
       row = q .row;
       word = a;
-      left = leftAfter oldest stages live loads stores (q .row) (q .left) p;
-      value = whole part b (forward oldest stages stores values (q .row) p (getD memory a 0) .word) v;
+      left = leftAfter oldest stages live loads stores taken (q .row) (q .left) p (whole part b w v);
+      value = whole part b w v;
       address = b;
       distance = 0;
+      taken = w;
     }
 
 -- the value that it answers: a load's, else 0
@@ -63,7 +67,7 @@ answered load store v = cond load (cond store 0 v) 0
 -- the same of a table
 abbrev pub effectAt : Table → ℕ → List ℕ → Action → Effect
 effectAt t p memory act =
-    effectOf (t .banks) (t .rows) (t .stages) (t .oldest) (t .live) (t .addresses) (t .loads) (t .stores) (t .values) p memory act
+    effectOf (t .banks) (t .rows) (t .stages) (t .oldest) (t .live) (t .addresses) (t .loads) (t .stores) (t .values) (t .taken) p memory act
 
 -- the table after an execution at stage s with this effect
 abbrev pub applyEffect : Table → Effect → ℕ → Table
@@ -72,4 +76,5 @@ applyEffect t q s =
     executing u s (cond (q .load || q .store) (set (t .addresses) (q .row) (q .word)) (t .addresses))
     (marking (u .loads) (q .load) (q .row) s)
     (marking (u .stores) (q .store) (q .row) s)
-    (cond (q .store) (set (t .values) s (q .value)) (t .values))
+    (keeping (t .values) (q .store) s (q .value))
+    (keeping (t .taken) (q .load) s (q .taken))

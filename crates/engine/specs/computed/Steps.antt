@@ -12,8 +12,8 @@ use Rattle.table.specs.Limits.{rowsIn}
 use Rattle.table.specs.View.{stageOf}
 
 -- t with another window, other issue numbers, other executed stages and other arrays, under its sizes
-abbrev pub rebuilt : Table → ℕ → ℕ → ℕ → ℕ → List ℕ → List ℕ → List ℕ → List ℕ → List ℕ → Table
-rebuilt t oldest live next executed numbers addresses loads stores values =
+abbrev pub rebuilt : Table → ℕ → ℕ → ℕ → ℕ → List ℕ → List ℕ → List ℕ → List ℕ → List ℕ → List ℕ → Table
+rebuilt t oldest live next executed numbers addresses loads stores values taken =
     record {
       banks = t .banks;
       rows = t .rows;
@@ -28,12 +28,13 @@ rebuilt t oldest live next executed numbers addresses loads stores values =
       loads = loads;
       stores = stores;
       values = values;
+      taken = taken;
     }
 
 -- the same under its issue numbers
-abbrev pub remade : Table → ℕ → ℕ → ℕ → List ℕ → List ℕ → List ℕ → List ℕ → Table
-remade t oldest live executed addresses loads stores values =
-    rebuilt t oldest live (t .next) executed (t .numbers) addresses loads stores values
+abbrev pub remade : Table → ℕ → ℕ → ℕ → List ℕ → List ℕ → List ℕ → List ℕ → List ℕ → Table
+remade t oldest live executed addresses loads stores values taken =
+    rebuilt t oldest live (t .next) executed (t .numbers) addresses loads stores values taken
 
 -- the mark words, the first n of them with nothing outside the set m
 abbrev pub within : ℕ → List ℕ → ℕ → List ℕ
@@ -45,7 +46,7 @@ narrowed t o k =
     remade t o k (t .executed) (t .addresses)
     (within (rowsIn (t .banks)) (t .loads) (firsts o (t .stages) k))
     (within (rowsIn (t .banks)) (t .stores) (firsts o (t .stages) k))
-    (t .values)
+    (t .values) (t .taken)
 
 -- mark words of so many banks and of a window of n stages from o on, of which `left` of `live` references stay
 abbrev pub cutMarks : ℕ → ℕ → ℕ → ℕ → ℕ → List ℕ → List ℕ
@@ -57,7 +58,7 @@ cut t left =
     remade t (t .oldest) left (t .executed) (t .addresses)
     (cutMarks (t .banks) (t .oldest) (t .stages) (t .live) left (t .loads))
     (cutMarks (t .banks) (t .oldest) (t .stages) (t .live) left (t .stores))
-    (t .values)
+    (t .values) (t .taken)
 
 -- a new youngest reference in the next stage, not executed
 abbrev pub grown : Table → Table
@@ -65,16 +66,16 @@ grown t =
     rebuilt t (t .oldest) (t .live + 1) ((t .next + 1) % 2 ^ 32)
     (bitAnd (t .executed) (firsts (t .oldest) (t .stages) (t .live)))
     (set (t .numbers) (stageOf t (t .live)) (t .next))
-    (t .addresses) (t .loads) (t .stores) (t .values)
+    (t .addresses) (t .loads) (t .stores) (t .values) (t .taken)
 
 -- t with stage s executed, and with these arrays
-abbrev pub executing : Table → ℕ → List ℕ → List ℕ → List ℕ → List ℕ → Table
-executing t s addresses loads stores values =
-    remade t (t .oldest) (t .live) (bitOr (t .executed) (2 ^ s)) addresses loads stores values
+abbrev pub executing : Table → ℕ → List ℕ → List ℕ → List ℕ → List ℕ → List ℕ → Table
+executing t s addresses loads stores values taken =
+    remade t (t .oldest) (t .live) (bitOr (t .executed) (2 ^ s)) addresses loads stores values taken
 
 -- stage s has executed without memory
 abbrev pub noted : Table → ℕ → Table
-noted t s = executing t s (t .addresses) (t .loads) (t .stores) (t .values)
+noted t s = executing t s (t .addresses) (t .loads) (t .stores) (t .values) (t .taken)
 
 -- the mark words with stage s more in row r
 abbrev pub withStage : List ℕ → ℕ → ℕ → List ℕ
@@ -84,8 +85,12 @@ withStage words r s = set words r (bitOr (getD words r 0) (2 ^ s))
 abbrev pub marking : List ℕ → Bool → ℕ → ℕ → List ℕ
 marking words on r s = cond on (withStage words r s) words
 
--- stage s marked in row r, which is now address a's, as a load, and as a store with the word v
-abbrev pub accessMarked : Table → ℕ → ℕ → ℕ → Bool → Bool → ℕ → Table
-accessMarked t r s a load store v =
+-- the words by stage, with v at stage s where `on`
+abbrev pub keeping : List ℕ → Bool → ℕ → ℕ → List ℕ
+keeping words on s v = cond on (set words s v) words
+
+-- stage s marked in row r, which is now address a's, as a load that took the word w, and as a store with the word v
+abbrev pub accessMarked : Table → ℕ → ℕ → ℕ → Bool → Bool → ℕ → ℕ → Table
+accessMarked t r s a load store v w =
     executing t s (set (t .addresses) r a) (marking (t .loads) load r s) (marking (t .stores) store r s)
-    (cond store (set (t .values) s v) (t .values))
+    (keeping (t .values) store s v) (keeping (t .taken) load s w)

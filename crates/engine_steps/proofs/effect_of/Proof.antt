@@ -1,8 +1,45 @@
 -- `engine_steps::effect_of` meets its contract: each arm is the definition's case of its action, and gives what the searches
--- that it calls give. Assumes nothing.
+-- that it calls give. A part's store hands what it found on from search to search (part-made). Assumes nothing.
+use mathlib.Core.Bool.{true}
+use mathlib.Core.List.{List}
+use mathlib.Core.Path.{_≡_}
+use Prim.Native.Nat.{ℕ}
+use lib.ListN.{getD}
 use borrow.Author.Needs.{needs}
+use Rattle.table.specs.Bank.{bank}
+use Rattle.lookup.specs.declared.Place.{Place}
+use Rattle.lookup.specs.declared.Taken.{Taken}
+use Rattle.lookup.specs.computed.Search.{forward, placeFor, leftAfter}
+use Rattle.engine.specs.declared.Action.the-variants.{PartAt}
+use Rattle.engine.specs.declared.Effect.{Effect}
+use Rattle.engine.specs.declared.Part.{Part}
+use Rattle.engine.specs.Part.{wordOf, whole}
+use Rattle.engine.specs.computed.Effect.{effectOf}
 use Rattle.engine_steps.proofs.effect_of.Statement.{statement}
 use Rattle.engine_steps.proofs.effect_of.Tie as tie
+
+part-made : (banks rows stages oldest live : ℕ) (addresses loads stores values taken : List ℕ) (p : ℕ) (memory : List ℕ)
+    (part : Part) (b x w v left : ℕ) (place : Place) (found : Taken)
+    → place ≡ placeFor oldest stages live rows addresses loads stores (bank banks (wordOf b)) (wordOf b) p
+    → w ≡ getD memory (wordOf b) 0
+    → found ≡ forward oldest stages stores values (place .row) p w
+    → v ≡ whole part b (found .word) x
+    → left ≡ leftAfter oldest stages live loads stores taken (place .row) (place .left) p v
+    → _≡_ {A = Effect}
+    (record {
+      load = true;
+      store = true;
+      row = place .row;
+      word = wordOf b;
+      left = left;
+      value = v;
+      address = b;
+      distance = 0;
+      taken = found .word;
+    })
+    (effectOf banks rows stages oldest live addresses loads stores values taken p memory (PartAt part b x))
+part-made banks rows stages oldest live addresses loads stores values taken p memory part b x w v left place found hp hw hf hv hl =
+    rw (hl, hv, hf, hw, hp)
 
 returns : tie.Need-returns
 returns c = rw (c .before .action .given .1)
@@ -27,14 +64,13 @@ returns-3 c =
 returns-4 : tie.Need-returns-4
 returns-4 c =
     let found = c .before .before .before .before in
-    rw (
-      found .before .before .action4 .given .1,
-      c .merge .ensures,
-      c .before .left-after2 .ensures,
-      c .before .before .forwarded2 .ensures,
-      c .before .before .before .word2 .ensures,
-      found .place-of3 .ensures .1,
-    )
+    let args = found .before .before .before .before .before .args in
+    let act = found .before .before .action4 .given .0 in
+    rw (found .before .before .action4 .given .1)
+    (part-made (args .banks) (args .rows) (args .stages) (args .oldest) (args .live) (args .addresses .now) (args .loads .now)
+    (args .stores .now) (args .values .now) (args .taken .now) (args .p) (args .memory .now) (act .0) (act .1 .0) (act .1 .1 .0)
+    _ _ _ _ _ (found .place-of3 .ensures .1) (c .before .before .before .word2 .ensures)
+    (c .before .before .forwarded2 .ensures) (c .before .merge .ensures) (c .left-after2 .ensures))
 
 pub effect-of-spec : {M : Type 1} → statement M
 effect-of-spec =

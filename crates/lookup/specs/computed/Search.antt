@@ -63,12 +63,12 @@ forward o n stores values r p w =
 abbrev pub metAt : ℕ → ℕ → ℕ → ℕ → ℕ → ℕ
 metAt o n live marks p = seek (marked o n marks) (live - suc p) (suc p)
 
--- how many references a store at position p leaves in its address's row: the first younger mark decides
-abbrev pub violationPoint : ℕ → ℕ → ℕ → ℕ → ℕ → ℕ → ℕ
-violationPoint o n live load store p =
-    cond (ltb (metAt o n live (bitOr load store) p) live && marked o n load (metAt o n live (bitOr load store) p))
-    (metAt o n live (bitOr load store) p)
-    live
+-- how many references a store of the word v at position p leaves in its address's row: the first younger mark decides, and of
+-- a load the word that its stage took
+abbrev pub violationPoint : ℕ → ℕ → ℕ → ℕ → ℕ → List ℕ → ℕ → ℕ → ℕ
+violationPoint o n live load store taken p v =
+    let q = metAt o n live (bitOr load store) p in
+    cond (ltb q live && (marked o n load q && not (eqb (getD taken (stage o n q) 0) v))) q live
 
 -- the position of a row's oldest mark; `live` where it has none
 abbrev pub oldestMark : ℕ → ℕ → ℕ → ℕ → ℕ
@@ -102,11 +102,11 @@ placeFor o n live rows addresses loads stores b a p =
     cond (eqb (rowOf rows addresses loads stores b a) 0) (allocatedRow o n live rows loads stores b p)
     (record { row = b * rowsMost + (rowOf rows addresses loads stores b a - 1); left = live })
 
--- How many stay of a store that is given row r, where `left` of them have it: a row that was taken from another address has
--- squashed already, and any other row has the marks of this address alone.
-abbrev pub leftAfter : ℕ → ℕ → ℕ → List ℕ → List ℕ → ℕ → ℕ → ℕ → ℕ
-leftAfter o n live loads stores r left p =
-    cond (ltb left live) left (violationPoint o n live (getD loads r 0) (getD stores r 0) p)
+-- How many stay of a store of the word v that is given row r, where `left` of them have it: a row that was taken from another
+-- address has squashed already, and any other row has the marks of this address alone.
+abbrev pub leftAfter : ℕ → ℕ → ℕ → List ℕ → List ℕ → List ℕ → ℕ → ℕ → ℕ → ℕ → ℕ
+leftAfter o n live loads stores taken r left p v =
+    cond (ltb left live) left (violationPoint o n live (getD loads r 0) (getD stores r 0) taken p v)
 
 -- what the marks of the first k rows say of stage s
 unfoldable pub markOf : List ℕ → List ℕ → List ℕ → List ℕ → ℕ → ℕ → Mark
@@ -122,8 +122,8 @@ markBy other = Absent
 markBy (accessed a l lacks) = Load a
 markBy (accessed a l (holds v)) = Store a v
 
--- a mark as the fate of an executed reference
+-- a mark as the fate of an executed reference; the word that a load took plays no part in its commit
 abbrev pub markedFate : Mark → Fate
 markedFate Absent = other
-markedFate (Load a) = loaded a
+markedFate (Load a) = loaded a 0
 markedFate (Store a v) = stored a v

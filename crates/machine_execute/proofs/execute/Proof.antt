@@ -51,7 +51,7 @@ abbrev staged : tie.After-known-told → tie.After-stage-at
 staged c = waiting c .before .before .before
 
 abbrev known : tie.After-effect-of → tie.After-known-told
-known c = c .before .before .before .before .before .before
+known c = c .before .before .before .before .before .before .before
 
 abbrev placed : tie.Else4 → tie.After-stage-at
 placed c = staged (known (c .before))
@@ -139,7 +139,7 @@ left-at c = circle-asks _ (rules-at (placed c)) _ (bounds-at c .0)
 
 left-small : (c : tie.After-stage-at2) → c .stage-at2 .result < stagesMost
 left-small c =
-    let at = row (c .before .before .before) in
+    let at = row (c .before .before .before .before .before) in
     rw (c .stage-at2 .ensures) (stage-small _ (rules-at (placed at)) _ (bounds-at at .0))
 
 returns : tie.Need-returns
@@ -189,7 +189,7 @@ returns-4 c =
 
 effect-of-requires : tie.Need-effect-of-requires
 effect-of-requires c κs =
-    let at = staged (c .before .before .before .before .before) in
+    let at = staged (c .before .before .before .before .before .before) in
     effect-asks _ (rules-at at) (sized-at (begun at) .lengths) _ (at .before .if2 .left)
 
 returns-5 : tie.Need-returns-5
@@ -228,14 +228,17 @@ add-mark-requires-2 c κs =
 set-value-requires : tie.Need-set-value-requires
 set-value-requires c κs = bounds-at (row (c .before)) .2
 
+set-value-requires-2 : tie.Need-set-value-requires-2
+set-value-requires-2 c κs = bounds-at (row (c .before .before .before)) .2
+
 mul-f : tie.Need-mul-f
-mul-f c = let bounds = bounds-at (row (c .before .before)) in omega arith
+mul-f c = let bounds = bounds-at (row (c .before .before .before .before)) in omega arith
 
 element-set-from-f : tie.Need-element-set-from-f
-element-set-from-f c = bounds-at (row (c .before .before)) .2
+element-set-from-f c = bounds-at (row (c .before .before .before .before)) .2
 
 stage-at-requires-2 : tie.Need-stage-at-requires-2
-stage-at-requires-2 c κs = left-at (row (c .before .before))
+stage-at-requires-2 c κs = left-at (row (c .before .before .before .before))
 
 mul-f-2 : tie.Need-mul-f-2
 mul-f-2 c = let l = left-small c in omega arith
@@ -245,7 +248,8 @@ array-copy-out-f c = left-small c
 
 returns-6 : tie.Need-returns-6
 returns-6 c =
-    let kept = c .before .before .before .before .before in
+    let took = c .before .before .before .before .before in
+    let kept = took .before .before in
     let stores = kept .before .before in
     let loads = stores .before .before in
     let words = marked stores in
@@ -264,8 +268,9 @@ returns-6 c =
     (asks-at k) (s .result) (s .ensures) q (at .before .effect-of .ensures) (at .if4 .left) _
     (effect-made t q (s .result) (ran .including .result) (words .set-word .last .0) (less .before .before .cut .last .0)
     (loads .add-mark .last .0) (less .cut2 .last .0) (stores .add-mark2 .last .0) (kept .set-value .last .0)
+    (took .set-value2 .last .0)
     (less .before .before .cut .ensures) (less .cut2 .ensures) (ran .including .ensures) (words .set-word .ensures)
-    (loads .add-mark .ensures) (stores .add-mark2 .ensures) (kept .set-value .ensures))
+    (loads .add-mark .ensures) (stores .add-mark2 .ensures) (kept .set-value .ensures) (took .set-value2 .ensures))
     (c .before .answered .result) (c .before .answered .ensures) (c .squashed-at .result) (c .squashed-at .ensures)
     (c .before .before .next-after .result)
     (c .before .before .next-after .ensures
@@ -279,5 +284,5 @@ execute-spec =
     (tie.spec (λ c κs. search needs) returns returns-2 stage-at-requires mul-e array-copy-out-e (search needs) returns-3
     wanted-at-requires (search needs) (search needs) returns-4 effect-of-requires returns-5 cut-requires
     cut-requires-2 including-requires set-word-requires add-mark-requires add-mark-requires-2 set-value-requires
-    mul-f element-set-from-f stage-at-requires-2 mul-f-2 array-copy-out-f (search needs) (search needs)
+    set-value-requires-2 mul-f element-set-from-f stage-at-requires-2 mul-f-2 array-copy-out-f (search needs) (search needs)
     (search needs) returns-6)

@@ -238,7 +238,7 @@ abbrev idle : tie.After-register2 Inv-loop μ-loop → tie.Then5 Inv-loop μ-loo
 idle c = c .before .before .before .before .before .before .before .before
 
 abbrev operands : tie.After-effect-of Inv-loop μ-loop → tie.After-register2 Inv-loop μ-loop
-operands c = c .before .before .before .before .before .before .before .before
+operands c = c .before .before .before .before .before .before .before .before .before
 
 abbrev chosen : tie.After-effect-of Inv-loop μ-loop → tie.Joined4 Inv-loop μ-loop
 chosen c = issued (idle (operands c) .before)
@@ -255,12 +255,12 @@ sizes-at c = along-sizes (begun-at c)
 
 effect-of-requires : tie.Need-effect-of-requires Inv-loop μ-loop
 effect-of-requires c κs =
-    let j = issued (idle (c .before .before .before .before .before .before .before) .before) in
+    let j = issued (idle (c .before .before .before .before .before .before .before .before) .before) in
     let a = begun-at j in
     let s = sizes-at j in
     let l = a .sized .lengths in (
       (s .some-bank, s .banks, s .some-row, s .rows, along-start a, along-room a, s .stages, a .some),
-      (l .addresses, l .loads, l .stores, l .values),
+      (l .addresses, l .loads, l .stores, l .values, l .taken),
     )
 
 -- the effect never stalls: something stays, at most what was live, and its row is one of the table's
@@ -310,13 +310,16 @@ add-mark-requires-2 c κs =
 set-value-requires : tie.Need-set-value-requires Inv-loop μ-loop
 set-value-requires c κs = oldest-below (head (chosen (marked c) .before))
 
+set-value-requires-2 : tie.Need-set-value-requires-2 Inv-loop μ-loop
+set-value-requires-2 c κs = oldest-below (head (chosen (marked (c .before .before)) .before))
+
 stage-at-requires : tie.Need-stage-at-requires Inv-loop μ-loop
-stage-at-requires c κs = let q = marked (c .before) in along-asks (begun-at (chosen q)) _ (bounds-at q .1)
+stage-at-requires c κs = let q = marked (c .before .before .before) in along-asks (begun-at (chosen q)) _ (bounds-at q .1)
 
 -- the stage after those that stay is an index of the window
 after-small : (c : tie.After-stage-at Inv-loop μ-loop) → c .stage-at .result < stagesMost
 after-small c =
-    let q = marked (c .before .before) in
+    let q = marked (c .before .before .before .before) in
     let j = chosen q in
     let a = begun-at j in
     omega (
@@ -333,10 +336,10 @@ element-copy-out-f : tie.Need-element-copy-out-f Inv-loop μ-loop
 element-copy-out-f c = after-small c
 
 mul-t79 : tie.Need-mul-t79 Inv-loop μ-loop
-mul-t79 c = omega (arith, oldest-below (head (chosen (marked (c .before .before .before)) .before)))
+mul-t79 c = omega (arith, oldest-below (head (chosen (marked (c .before .before .before .before .before)) .before)))
 
 element-set-from-m-2 : tie.Need-element-set-from-m-2 Inv-loop μ-loop
-element-set-from-m-2 c = oldest-below (head (chosen (marked (c .before .before .before)) .before))
+element-set-from-m-2 c = oldest-below (head (chosen (marked (c .before .before .before .before .before)) .before))
 
 -- where the ways meet the oldest has executed
 ready-at : (c : tie.Joined5 Inv-loop μ-loop)
@@ -351,19 +354,20 @@ ready-at c =
     ready-taken (begun-at j) (idle-at (record { before = c .before; if5 = v .0 }))
     (v .4 .ensures ∙ ap (λ (k : ℕ). getD registers k 0) (v .3 .ensures))
     (v .8 .ensures ∙ ap (λ (k : ℕ). getD registers k 0) (v .7 .ensures))
-    (v .14 .ensures)
-    (v .16 .ensures)
-    (v .22 .ensures)
-    (v .18 .ensures)
-    (v .20 .ensures)
-    (v .26 .ensures)
-    (v .28 .ensures)
-    (v .30 .ensures)
-    (v .32 .ensures)
-    (ap (λ (s : ℕ). getD (j .if4 .m .window) s blankEntry) (v .33 .ensures))
+    (v .15 .ensures)
+    (v .17 .ensures)
+    (v .23 .ensures)
+    (v .19 .ensures)
+    (v .21 .ensures)
+    (v .27 .ensures)
+    (v .29 .ensures)
+    (v .31 .ensures)
+    (v .33 .ensures)
     (v .35 .ensures)
+    (ap (λ (s : ℕ). getD (j .if4 .m .window) s blankEntry) (v .36 .ensures))
+    (v .38 .ensures)
     (c .if5 .m)
-    (v .36))
+    (v .39))
     (λ v. ready-kept (begun-at j) (sym (waits-at (c .before)) ∙ v .0 .left) (c .if5 .m) (v .1))
     (c .if5 .came)
 
@@ -591,7 +595,7 @@ finish-spec =
     cast-instruction-at instruction-at-requires mul-t69 element-set-from-m add-m mul-e element-copy-out-e
     (search needs) (search needs) register-requires (search needs) register-requires-2 (search needs)
     effect-of-requires cut-requires cut-requires-2 including-requires set-word-requires add-mark-requires
-    add-mark-requires-2 set-value-requires stage-at-requires mul-f element-copy-out-f mul-t79 element-set-from-m-2
+    add-mark-requires-2 set-value-requires set-value-requires-2 stage-at-requires mul-f element-copy-out-f mul-t79 element-set-from-m-2
     (search needs) mul-done element-copy-out-done at-stage-requires (search needs) (search needs) same-length-5
     same-length-6 returns-4 (search needs) same-length-7 same-length-8 returns-5 write-back-requires (search needs) stage-at-requires-2 sub-first-stages
     first-stages-requires sub-m keep-requires keep-requires-2 write-register-requires mul-put-commit (search needs)

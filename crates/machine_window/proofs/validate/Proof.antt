@@ -45,6 +45,7 @@ table c =
       loads = c .args .loads .now;
       stores = c .args .stores .now;
       values = [];
+      taken = [];
     }
 
 -- what each passed test says

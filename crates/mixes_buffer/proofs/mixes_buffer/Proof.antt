@@ -42,8 +42,8 @@ loop-again c =
     (w .11 .ensures))
     (⊎-elim
     (λ w.
-    mixing-called inv some told (w .13) (w .14) (w .15) refl (record { call = executeStore _ _ _; meets = w .10 .ensures })
-    (w .12 .ensures))
+    mixing-called inv some told (w .14) (w .15) (w .16) refl (record { call = executeStore _ _ _; meets = w .11 .ensures })
+    (w .13 .ensures))
     (⊎-elim
     (λ w.
     mixing-called inv some told (w .17) (w .18) (w .19) refl
@@ -71,6 +71,6 @@ mixes-buffer-spec =
     tie.close
     (tie.spec Inv-loop μ-loop (λ c κs. tt) (λ c κs. tt) (λ c κs. tt) loop-holds (λ c. omega arith) (λ c κs. tt)
     (λ c κs. tt) (λ c κs. tt) (λ c κs. tt) (λ c κs. tt) (λ c κs. tt) (λ c κs. tt) (λ c κs. tt) (λ c κs. tt) (λ c κs. tt)
-    (λ c κs. tt) (λ c κs. tt) (λ c κs. tt) (search needs) (λ c κs. tt) (λ c κs. tt) (λ c κs. tt) (λ c κs. tt)
+    (λ c κs. tt) (λ c κs. tt) (λ c κs. tt) (λ c κs. tt) (λ c κs. tt) (λ c κs. tt) (λ c κs. tt) (λ c κs. tt)
     (λ c κs. tt) (λ c κs. tt) (λ c κs. tt) (λ c κs. tt) (λ c κs. tt) (λ c κs. tt) (λ c κs. tt) (λ c κs. tt)
     (λ c. omega arith) loop-again same-length returns)
