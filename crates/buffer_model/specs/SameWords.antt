@@ -50,8 +50,8 @@ sameWords =
     ∷ issued 1 1 3
     (executeStore (τ 0 0) 0 7 ∷ executeLoad (τ 2 2) 0 ∷ executeStore (τ 1 1) 0 (bytes 1 2 3 4) ∷ [])
     (executed 0 0 none ∷ executed 7 2 none ∷ executed 0 0 (some (τ 2 2)) ∷ [])
-    -- A spared load is spared again by a further store of its word, 2, at which the walk from 1 then ends; without that one a store
-    -- of another word between squashes it.
+    -- A spared load is spared again by a further store of its word, 2, at which the walk from 1 then ends; without that one a
+    -- store of another word between squashes it.
     ∷ issued 1 1 4
     (executeLoad (τ 3 3) 0 ∷ executeStore (τ 0 0) 0 (bytes 1 2 3 4) ∷ executeStore (τ 2 2) 0 (bytes 1 2 3 4)
     ∷ executeStore (τ 1 1) 0 6 ∷ [])

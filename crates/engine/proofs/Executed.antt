@@ -158,7 +158,8 @@ module _ (t : Table) (rules : Rules t) (p : ℕ) (live : p < t .live) (w : List 
       accessed-view some =
           access-view (cut t (found .left)) left-rules (cut-lengths t lengths (found .left)) p a (found .row) v u (q .after) idle
           left-row load store some
-          ∙ ap (λ (P : State). withFate P p (accessed a (wordIf load u) (wordIf store v))) (cut-view t rules (found .left) (q .within))
+          ∙ ap (λ (P : State). withFate P p (accessed a (wordIf load u) (wordIf store v)))
+          (cut-view t rules (found .left) (q .within))
 
     pub effect-rules : (act : Action) → (effectAt t p w act .left ≡ 0 → ⊥)
         → Rules (applyEffect t (effectAt t p w act) (stageOf t p))

@@ -64,7 +64,8 @@ marks-word t s zero a v l e = absurd (let z : _≡_ {A = ℕ} 0 1 = cc in omega 
 marks-word t s (suc k) a v l e = go (loadMark t k s) (storeMark t k s) (marks-word t s k a v l) e
   where
     go : (ld st : Bool) → (markFate t s k ≡ accessed a l (holds v) → value t s ≡ v)
-        → cond (ld || st) (accessed (address t k) (wordIf ld (taken t s)) (wordIf st (value t s))) (markFate t s k) ≡ accessed a l (holds v)
+        → cond (ld || st) (accessed (address t k) (wordIf ld (taken t s)) (wordIf st (value t s))) (markFate t s k)
+        ≡ accessed a l (holds v)
         → value t s ≡ v
     go true true rest f = cc
     go false true rest f = cc

@@ -41,7 +41,10 @@ pub record Placed (t : Table) (a p : ℕ) (place : Place) : Type 0 where
 abbrev pub storeAt : Table → ℕ → ℕ → ℕ → Place
 storeAt t a v p =
     let q = placeAt t a p in
-    record { row = q .row; left = leftAfter (t .oldest) (t .stages) (t .live) (t .loads) (t .stores) (t .taken) (q .row) (q .left) p v }
+    record {
+      row = q .row;
+      left = leftAfter (t .oldest) (t .stages) (t .live) (t .loads) (t .stores) (t .taken) (q .row) (q .left) p v;
+    }
 
 module _ (t : Table) (rules : Rules t) (a p : ℕ) (live : p < t .live) where
   abbrev found : ℕ

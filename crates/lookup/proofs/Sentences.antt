@@ -229,11 +229,11 @@ module _ (P : State) (p a v : ℕ) where
       rw (has-row q n lacks (holds u) near e)
       (met-sides q n lacks (holds u) near e ∙ omega (arith, length-drop (suc q) (P .refs), near .live))
 
-  -- there is none
-  pub spared-none : p < length (P .refs)
+  -- there is none, and the address has a row of older references
+  pub keeps-none : p < length (P .refs) → touched a (P .refs) ≡ true
       → ((k : ℕ) → p < k → k < length (P .refs) → reaches a (fateOf (at (P .refs) k)) ≡ false)
-      → keptAfterStore P p a v ≡ length (P .refs)
-  spared-none h none = spared-all (P .refs) (suc p) a v h none
+      → (l : Side) → survivors P p (accessed a l (holds v)) ≡ length (P .refs)
+  keeps-none h row none l = rw row (spared-all (P .refs) (suc p) a v h none)
 
   -- The walk from position q on squashes only there: k references are left, and those passed have not executed to the address.
   squashed-at : (k q : ℕ) → p < q → q + k ≡ length (P .refs)
@@ -244,7 +244,8 @@ module _ (P : State) (p a v : ℕ) where
   squashed-at (suc k) q h l none less =
       let live : q < length (P .refs) = omega arith in
       subst (λ (n : ℕ). Violated P p a v (q + n)) (sym (spared-next (P .refs) q a v live))
-      (go (squashed-at k (suc q) (omega arith) (omega arith)) (at (P .refs) q) refl (subst (λ (n : ℕ). q + n < length (P .refs)) (spared-next (P .refs) q a v live) less))
+      (go (squashed-at k (suc q) (omega arith) (omega arith)) (at (P .refs) q) refl
+      (subst (λ (n : ℕ). q + n < length (P .refs)) (spared-next (P .refs) q a v live) less))
     where
       all : ℕ
       all = length (drop (suc q) (P .refs))
@@ -288,7 +289,8 @@ module _ (P : State) (p a v : ℕ) where
           by true i lacks (holds u) e less = absurd (omega (arith, length-drop (suc q) (P .refs)))
           by true i (holds w) s e less = word (eqb w v) refl less
             where
-              word : (t : Bool) → eqb w v ≡ t → q + cond t (suc all) 0 < length (P .refs) → Violated P p a v (q + cond t (suc all) 0)
+              word : (t : Bool) → eqb w v ≡ t → q + cond t (suc all) 0 < length (P .refs)
+                  → Violated P p a v (q + cond t (suc all) 0)
               word true j less = absurd (omega (arith, length-drop (suc q) (P .refs)))
               word false j less =
                   let here : q ≡ q + 0 = omega arith in

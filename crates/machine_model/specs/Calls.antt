@@ -28,7 +28,8 @@ use Rattle.machine_model.specs.declared.Fate.the-variants.{Waiting, Exec
 use Rattle.machine_model.specs.declared.Entry.{Entry}
 use Rattle.machine_model.specs.Program.{instructionAt, codeOf, same, kind, destination}
 use Rattle.machine_model.specs.Program.{programFits}
-use Rattle.machine_model.specs.Window.{entryAt, entryWith, addressBy, misaligned, registerSeen, referenceBy, reference, evaluate}
+use Rattle.machine_model.specs.Window.{entryAt, entryWith, addressBy, misaligned, registerSeen, referenceBy, reference}
+use Rattle.machine_model.specs.Window.{evaluate}
 
 -- The buffer's state, the window's entries in program order, the committed registers, the number of instructions opened and
 -- the index of the next to issue.

@@ -564,8 +564,8 @@ sameWords =
     ∷ asks commit (committed 2 3 2 13 0) ∷ []))
     -- of another word: it is squashed
     ∷ usual (A 1 0 14 ++ S 1 0 3 ++ L 2 0 3)
-    (three (asks (execute 2) (executed 13 0 none) ∷ asks (execute 0) (executed 0 0 none) ∷ asks (execute 1) (executed 0 0 (some 2))
-    ∷ []))
+    (three (asks (execute 2) (executed 13 0 none) ∷ asks (execute 0) (executed 0 0 none)
+    ∷ asks (execute 1) (executed 0 0 (some 2)) ∷ []))
     -- It took its word from a store two positions older; a nearer one stores the same word, or another.
     ∷ zeros (A 1 0 7 ++ S 1 0 5 ++ S 1 0 5 ++ L 2 0 5)
     (asks (execute 0) (executed 0 0 none) ∷ asks (execute 1) (executed 0 0 none) ∷ asks (execute 3) (executed 7 2 none)

@@ -174,8 +174,8 @@ row-over t u rules rules′ one r s h m =
   where
     -- rows of one address bear the same marks, with the same words
     alike : (q : ℕ) → q < rowsIn (u .banks) → mark u q s ≡ true → address u q ≡ address t r → (k : ℕ)
-        → (loadMark u q k ≡ loadMark t r k) × (storeMark u q k ≡ storeMark t r k) × (storeMark t r k ≡ true → value u k ≡ value t k)
-        × (loadMark t r k ≡ true → taken u k ≡ taken t k)
+        → (loadMark u q k ≡ loadMark t r k) × (storeMark u q k ≡ storeMark t r k)
+        × (storeMark t r k ≡ true → value u k ≡ value t k) × (loadMark t r k ≡ true → taken u k ≡ taken t k)
     alike q l n a k = go (mark t r k) refl (mark u q k) refl
       where
         go : (b : Bool) → mark t r k ≡ b → (c : Bool) → mark u q k ≡ c

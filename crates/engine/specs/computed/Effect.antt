@@ -67,7 +67,8 @@ answered load store v = cond load (cond store 0 v) 0
 -- the same of a table
 abbrev pub effectAt : Table → ℕ → List ℕ → Action → Effect
 effectAt t p memory act =
-    effectOf (t .banks) (t .rows) (t .stages) (t .oldest) (t .live) (t .addresses) (t .loads) (t .stores) (t .values) (t .taken) p memory act
+    effectOf (t .banks) (t .rows) (t .stages) (t .oldest) (t .live) (t .addresses) (t .loads) (t .stores) (t .values) (t .taken) p
+    memory act
 
 -- the table after an execution at stage s with this effect
 abbrev pub applyEffect : Table → Effect → ℕ → Table
