@@ -15,8 +15,9 @@ use Rattle.buffer_model.specs.Refusals.{openChecks}
 use Rattle.buffer_model.specs.Calls.{Call, respond}
 
 -- The call c on table t and memory m said `said` and handed back table u and memory v. Of an accepted call u may
--- be any table with this view that keeps the rules: the place of a row in its bank is free, and with it only what 01 leaves out
--- of the comparison of states (values without a store mark, free rows, stages that are not live; table's specs/Same.antt).
+-- be any table with this view that keeps the rules: the place of a row in its bank is free, and with it only what 01 and 02
+-- leave out of the comparison of states (values without a store mark, words taken without a load mark, free rows, stages that
+-- are not live; table's specs/Same.antt).
 abbrev pub Meets : Table → Call → List ℕ → Answer → Table → List ℕ → Type 0
 Meets t c m said u v = Contract.Meets Rules view t (respond c (view t) m) m [] said u v []
 

@@ -4,12 +4,11 @@
 -- Assumes nothing.
 use mathlib.Core.List.{List, [], _∷_, _++_}
 use mathlib.Core.Option.{Option, none, some}
-use lib.ListN.{replicate}
 use Rattle.table.specs.declared.Ticket.{Ticket}
 use Rattle.engine.specs.declared.Part.the-variants.{Byte, Half}
 use Rattle.engine.specs.Contract.{refused, named, executed}
 use Rattle.buffer_model.specs.Answers.{Answer}
-use Rattle.buffer_model.specs.Calls.{Call, issue, executeLoad, executeStore, executePart, executeOther, commit}
+use Rattle.buffer_model.specs.Calls.{Call, executeLoad, executeStore, executePart, commit}
 use Rattle.buffer_model.specs.Examples.{Example, τ}
 use Rattle.buffer_model.specs.PartStores.{bytes, issued}
 use Rattle.buffer_model.specs.Distances.{turned}
@@ -63,7 +62,7 @@ sameWords =
     ∷ issued 1 1 4
     (executeLoad (τ 1 1) 0 ∷ executePart (τ 2 2) Byte 0 9 ∷ executeLoad (τ 3 3) 0 ∷ executeStore (τ 0 0) 0 (bytes 1 2 3 4) ∷ [])
     (executed (bytes 1 2 3 4) 0 none ∷ executed 0 0 none ∷ executed (bytes 9 2 3 4) 1 none ∷ executed 0 0 none ∷ [])
-    -- A store met first ends it as before: the load of 2, which took the word of 1, is spared, whatever 0 stores.
+    -- A store met first ends it too: the load of 2, which took the word of 1, is spared, whatever 0 stores.
     ∷ issued 1 1 3
     (executeStore (τ 1 1) 0 7 ∷ executeLoad (τ 2 2) 0 ∷ executeStore (τ 0 0) 0 8 ∷ [])
     (executed 0 0 none ∷ executed 7 1 none ∷ executed 0 0 none ∷ [])

@@ -4,7 +4,7 @@
 -- is r's, at another stage everything is as it was, and another row has another address than a (marked-rules). The
 -- reference has the fate that its mark says, and no other fate changes, since a mark of another reference in r was of
 -- address a before, too (marked-view). Assumes nothing.
-use mathlib.Core.Bool.{Bool, true, false, cond, _||_, true≢false, or-true, or-false}
+use mathlib.Core.Bool.{Bool, true, false, _||_, true≢false, or-true, or-false}
 use mathlib.Core.List.{List}
 use mathlib.Core.Logic.{_⊎_, inl, inr, ⊎-elim}
 use mathlib.Core.Path.{_≡_, refl, sym, ap, ap₂, subst, _∙_}

@@ -19,7 +19,7 @@ use native.Mathlib.Omega.{arith}
 use lib.Dec.{eqb}
 use lib.ListN.{length, take, drop, set}
 use borrow.Author.Tests.{eqb-true, eq-eqb}
-use Rattle.table.specs.Reference.{Side, lacks, holds, Fate, waiting, other, accessed, Ref, ref, fateOf, at, State}
+use Rattle.table.specs.Reference.{Side, lacks, holds, Fate, waiting, other, accessed, Ref, ref, fateOf, at}
 use Rattle.lookup.specs.Forwarding.{wordOr, wordAfter, seen}
 use Rattle.lookup.specs.Violation.{keptMet, keptFrom, keptYounger}
 use Rattle.lookup.specs.computed.Faithful.{past, TookAt, Took, Faithful}
@@ -172,8 +172,8 @@ spares-first other μ a v all rest m b took l h = h (omega arith)
 spares-first (accessed c k s) μ a v all rest m b took l h = go (eqb c a) refl k s took l h
   where
     word : (t : Bool) (w : ℕ) → eqb w v ≡ t → μ a ≡ w → suc m ≤ cond t (suc all) 0 → (μ a ≡ v) ⊎ (false ≡ true)
-    word true w e at l = inl (at ∙ eqb-true w v e)
-    word false w e at l = absurd (omega arith)
+    word true w e there l = inl (there ∙ eqb-true w v e)
+    word false w e there l = absurd (omega arith)
 
     go : (t : Bool) → eqb c a ≡ t → (k s : Side) → TookAt μ c k → suc m ≤ cond t (keptMet k s v all rest) (suc rest)
         → (m ≤ rest → (cond t (wordOr s (μ a)) (μ a) ≡ v) ⊎ (b ≡ true)) → (μ a ≡ v) ⊎ (cond t (clearMet k s b) b ≡ true)

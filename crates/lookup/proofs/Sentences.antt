@@ -158,7 +158,7 @@ distance-store refs (suc p) d a w h e =
           taken = seen-next refs p a w h ∙ after-none (fateOf (at refs p)) a (seen (take p refs) a w) i ∙ s .taken;
         }
 
--- the nearest younger reference than the one at position p that has executed to this address is at position q
+-- the reference at position q is younger than the one at position p, and none between them has executed to this address
 pub record Nearest (refs : List Ref) (p a q : ℕ) : Type 0 where
   pub younger : p < q
   pub live : q < length refs

@@ -1,5 +1,5 @@
 -- What a store's check of its address's row leaves is what the plain list says. Both sides walk up from the store:
--- `spared` takes the references one by one (spared-next), and one that has not executed to the address is passed
+-- `keptYounger` takes the references one by one (spared-next), and one that has not executed to the address is passed
 -- (met-past). A reference has executed to the address exactly where the address's row bears a mark at its stage
 -- (touches-mark), so the search for a mark stops where the walk does, and the mark's kind, of a load with the word that it
 -- took, decides on both sides.

@@ -10,7 +10,7 @@ use lib.ListN.{length, drop}
 use Rattle.table.specs.Reference.{Side, lacks, holds, Fate, waiting, other, accessed, Ref, ref, State}
 
 -- How many stay from a reference on that has executed to the address, where an older store puts the word v there. Its load is
--- met before its store: from one that took another word on none stays. From a load that took v, or from a store, it and all
+-- met before its store: if it took another word, none stays from it on. If it took v, or if there is only a store, it and all
 -- `all` younger ones stay: the walk ends there. With neither the walk goes on, and `rest` of the younger ones stay.
 abbrev pub keptMet : Side → Side → ℕ → ℕ → ℕ → ℕ
 keptMet (holds w) s v all rest = cond (eqb w v) (suc all) 0

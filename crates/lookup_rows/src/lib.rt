@@ -172,7 +172,7 @@ pub fn place_of<'a>(
 }
 
 // How many references stay of a store of the word `v` at position `p` that is given row `r`, where `left` stay for the row's
-// sake: a younger load of the address that took another word from an older store or from memory is squashed.
+// sake: the first younger load of the address, if it took another word, is squashed.
 pub fn left_after<'a>(
     oldest: usize,
     stages: usize,

@@ -29,7 +29,7 @@ use Rattle.engine.proofs.Fated.{stored-word, told-written}
 use Rattle.machine_model.specs.declared.Entry.{Entry}
 use Rattle.machine_model.specs.declared.Machine.{Machine}
 use Rattle.machine_model.specs.Program.{codeOf, kind}
-use Rattle.machine_model.specs.Window.{blankEntry, entryAt, addressBy, misaligned, untold, reference}
+use Rattle.machine_model.specs.Window.{blankEntry, entryAt, addressBy, misaligned, reference}
 use Rattle.machine_model.specs.Calls.{commit, waits, valueBy, answerBy, registersAfter, target, committedSays, committing}
 use Rattle.machine_model.specs.Calls.{respond}
 use Rattle.machine_model.specs.Contract.{plain, agree, Meets}
@@ -118,20 +118,20 @@ module _ (program : List ℕ) (m : Machine) (w : List ℕ) (passed : Passed m pr
         executed-by (fateOf (at (view (m .table) .refs) 0))
         ∙ ap (λ (k : ℕ). not (eqb k 4)) (sym (agree-both (reference own) (fateOf (at (view (m .table) .refs) 0)) agreed .0))
         ∙ sym (executed-by (reference own))
-        ∙ not-false (hasExecuted (reference own)) (sym (waits-executed untold (own .instruction) (own .fate)) ∙ done)
+        ∙ not-false (hasExecuted (reference own)) (sym (waits-executed (own .instruction) (own .fate)) ∙ done)
 
     module _ (done : waits (own .fate) ≡ false) where
       -- what its entry and the table's word tell of its mark is what its reference's fate says
       mark-told : markWith (reference own) (value (m .table) (m .table .oldest)) ≡ markBy (fateOf (at (view (m .table) .refs) 0))
       mark-told =
           let t = m .table in
-          mark-agreed untold (own .instruction) (own .fate) (fateOf (at (view t .refs) 0)) (value t (t .oldest)) agreed (executed-too done)
+          mark-agreed (own .instruction) (own .fate) (fateOf (at (view t .refs) 0)) (value t (t .oldest)) agreed (executed-too done)
           (λ a v l e. ap (value t) (sym zeroth) ∙ stored-word t 0 a v l some e)
 
       module _ (mark : Mark) (hm : mark ≡ markWith (reference own) (value (m .table) (m .table .oldest))) where
         faults-same : faults (m .table .words) (markedFate mark) ≡ faults (m .table .words) (reference own)
         faults-same =
-            ap (λ (x : Mark). faults (m .table .words) (markedFate x)) hm ∙ mark-faults untold (m .table .words) (own .instruction) (own .fate) _
+            ap (λ (x : Mark). faults (m .table .words) (markedFate x)) hm ∙ mark-faults (m .table .words) (own .instruction) (own .fate) _
 
         -- refusal 13: its address is W or more
         pub fault-refused : faults (m .table .words) (markedFate mark) ≡ true → Meets program m commit w (refused 13) m w []

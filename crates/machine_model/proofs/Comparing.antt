@@ -21,7 +21,7 @@ use Rattle.machine_model.specs.declared.Kind.the-variants.{Computing, Lo
 use Rattle.machine_model.specs.declared.Fate.{Fate}
 use Rattle.machine_model.specs.declared.Fate.the-variants.{Waiting, Executed}
 use Rattle.machine_model.specs.Program.{codeOf, kind}
-use Rattle.machine_model.specs.Window.{accessBy, referenceBy}
+use Rattle.machine_model.specs.Window.{accessBy, referenceBy, untold}
 use Rattle.machine_model.specs.Calls.{waits}
 use Rattle.machine_model.specs.Contract.{markKind, kindOf, placeOf, agree}
 use Rattle.machine_model.specs.computed.Parts.{kindBy, placeBy, markWith}
@@ -33,11 +33,6 @@ marked-kind (holds w) lacks = (refl, refl, refl)
 marked-kind (holds w) (holds v) = (refl, refl, refl)
 marked-kind lacks lacks = (refl, refl, refl)
 marked-kind lacks (holds v) = (refl, refl, refl)
-
-pub agree-same : (f : Reference.Fate) → agree f f ≡ true
-agree-same waiting = refl
-agree-same other = refl
-agree-same (accessed a l s) = ap₂ _&&_ (eq-eqb (markKind l s) (markKind l s) refl) (eq-eqb a a refl)
 
 -- fates that agree are of one kind and place
 pub agree-both : (f g : Reference.Fate) → agree f g ≡ true → (kindOf f ≡ kindOf g) × (placeOf f ≡ placeOf g)
@@ -59,32 +54,32 @@ executed-by (accessed a l s) = sym (ap not (marked-kind l s .0))
 -- ---- what an entry is to the buffer
 
 -- its kind and place by its code
-pub kind-code : (μ : ℕ → ℕ) (i : Instruction) (v a : ℕ) → kindOf (referenceBy μ i (Executed v a)) ≡ kindBy (codeOf i)
-kind-code μ (Add d s imm) v a = refl
-kind-code μ (Sum d s r) v a = refl
-kind-code μ (Load d s imm) v a = refl
-kind-code μ (Store d s imm) v a = refl
-kind-code μ (Byte d s imm) v a = refl
-kind-code μ (Half d s imm) v a = refl
+pub kind-code : (i : Instruction) (v a : ℕ) → kindOf (referenceBy untold i (Executed v a)) ≡ kindBy (codeOf i)
+kind-code (Add d s imm) v a = refl
+kind-code (Sum d s r) v a = refl
+kind-code (Load d s imm) v a = refl
+kind-code (Store d s imm) v a = refl
+kind-code (Byte d s imm) v a = refl
+kind-code (Half d s imm) v a = refl
 
-pub place-code : (μ : ℕ → ℕ) (i : Instruction) (v a : ℕ) → placeOf (referenceBy μ i (Executed v a)) ≡ placeBy (codeOf i) a
-place-code μ (Add d s imm) v a = refl
-place-code μ (Sum d s r) v a = refl
-place-code μ (Load d s imm) v a = refl
-place-code μ (Store d s imm) v a = refl
-place-code μ (Byte d s imm) v a = refl
-place-code μ (Half d s imm) v a = refl
+pub place-code : (i : Instruction) (v a : ℕ) → placeOf (referenceBy untold i (Executed v a)) ≡ placeBy (codeOf i) a
+place-code (Add d s imm) v a = refl
+place-code (Sum d s r) v a = refl
+place-code (Load d s imm) v a = refl
+place-code (Store d s imm) v a = refl
+place-code (Byte d s imm) v a = refl
+place-code (Half d s imm) v a = refl
 
-access-executed : (μ : ℕ → ℕ) (k : Kind) (v a : ℕ) → hasExecuted (accessBy μ k v a) ≡ true
-access-executed μ Computing v a = refl
-access-executed μ Loading v a = refl
-access-executed μ Storing v a = refl
-access-executed μ Merging v a = refl
+access-executed : (k : Kind) (v a : ℕ) → hasExecuted (accessBy untold k v a) ≡ true
+access-executed Computing v a = refl
+access-executed Loading v a = refl
+access-executed Storing v a = refl
+access-executed Merging v a = refl
 
 -- an entry waits where what it is to the buffer has not executed
-pub waits-executed : (μ : ℕ → ℕ) (i : Instruction) (f : Fate) → waits f ≡ not (hasExecuted (referenceBy μ i f))
-waits-executed μ i Waiting = refl
-waits-executed μ i (Executed v a) = ap not (sym (access-executed μ (kind i) v a))
+pub waits-executed : (i : Instruction) (f : Fate) → waits f ≡ not (hasExecuted (referenceBy untold i f))
+waits-executed i Waiting = refl
+waits-executed i (Executed v a) = ap not (sym (access-executed (kind i) v a))
 
 -- whatever words loads took, it agrees
 pub agree-words : (μ ν : ℕ → ℕ) (i : Instruction) (f : Fate) → agree (referenceBy μ i f) (referenceBy ν i f) ≡ true
@@ -98,37 +93,37 @@ agree-words μ ν i (Executed v a) = go (kind i)
     go Merging = eq-eqb (wordOf a) (wordOf a) refl
 
 -- it faults by its kind and place
-pub faults-kind : (μ : ℕ → ℕ) (words : ℕ) (i : Instruction) (f : Fate)
-    → faults words (referenceBy μ i f)
-    ≡ ((ltb 0 (kindOf (referenceBy μ i f)) && ltb (kindOf (referenceBy μ i f)) 4) && leb words (placeOf (referenceBy μ i f)))
-faults-kind μ words i Waiting = refl
-faults-kind μ words i (Executed v a) = go (kind i)
+pub faults-kind : (words : ℕ) (i : Instruction) (f : Fate)
+    → faults words (referenceBy untold i f)
+    ≡ ((ltb 0 (kindOf (referenceBy untold i f)) && ltb (kindOf (referenceBy untold i f)) 4) && leb words (placeOf (referenceBy untold i f)))
+faults-kind words i Waiting = refl
+faults-kind words i (Executed v a) = go (kind i)
   where
     go : (k : Kind)
-        → let f = accessBy μ k v a in faults words f ≡ ((ltb 0 (kindOf f) && ltb (kindOf f) 4) && leb words (placeOf f))
+        → let f = accessBy untold k v a in faults words f ≡ ((ltb 0 (kindOf f) && ltb (kindOf f) 4) && leb words (placeOf f))
     go Computing = refl
     go Loading = refl
     go Storing = refl
     go Merging = refl
 
 -- and so does the mark that it tells
-pub mark-faults : (μ : ℕ → ℕ) (words : ℕ) (i : Instruction) (f : Fate) (v : ℕ)
-    → faults words (markedFate (markWith (referenceBy μ i f) v)) ≡ faults words (referenceBy μ i f)
-mark-faults μ words i Waiting v = refl
-mark-faults μ words i (Executed x a) v = go (kind i)
+pub mark-faults : (words : ℕ) (i : Instruction) (f : Fate) (v : ℕ)
+    → faults words (markedFate (markWith (referenceBy untold i f) v)) ≡ faults words (referenceBy untold i f)
+mark-faults words i Waiting v = refl
+mark-faults words i (Executed x a) v = go (kind i)
   where
-    go : (k : Kind) → faults words (markedFate (markWith (accessBy μ k x a) v)) ≡ faults words (accessBy μ k x a)
+    go : (k : Kind) → faults words (markedFate (markWith (accessBy untold k x a) v)) ≡ faults words (accessBy untold k x a)
     go Computing = refl
     go Loading = refl
     go Storing = refl
     go Merging = refl
 
 -- where it accesses memory it has a side
-some-side : (μ : ℕ → ℕ) (i : Instruction) (f : Fate) → kindOf (referenceBy μ i f) ≡ 5 → ⊥
-some-side μ i Waiting = λ z. omega arith
-some-side μ i (Executed v a) = go (kind i)
+some-side : (i : Instruction) (f : Fate) → kindOf (referenceBy untold i f) ≡ 5 → ⊥
+some-side i Waiting = λ z. omega arith
+some-side i (Executed v a) = go (kind i)
   where
-    go : (k : Kind) → kindOf (accessBy μ k v a) ≡ 5 → ⊥
+    go : (k : Kind) → kindOf (accessBy untold k v a) ≡ 5 → ⊥
     go Computing = λ z. omega arith
     go Loading = λ z. omega arith
     go Storing = λ z. omega arith
@@ -148,10 +143,10 @@ mark-by (accessed a (holds u) (holds w)) v h n e = ap (mark.Store a) (e a w (hol
 mark-by (accessed a lacks lacks) v h n e = absurd (n refl)
 
 -- the mark that an executed entry tells, with the table's word, is that of the fate that it agrees with
-pub mark-agreed : (μ : ℕ → ℕ) (i : Instruction) (f : Fate) (g : Reference.Fate) (v : ℕ) → agree (referenceBy μ i f) g ≡ true
+pub mark-agreed : (i : Instruction) (f : Fate) (g : Reference.Fate) (v : ℕ) → agree (referenceBy untold i f) g ≡ true
     → hasExecuted g ≡ true → ((a w : ℕ) (l : Side) → g ≡ accessed a l (holds w) → v ≡ w)
-    → markWith (referenceBy μ i f) v ≡ markBy g
-mark-agreed μ i f g v agreed done word =
-    let both = agree-both (referenceBy μ i f) g agreed in
+    → markWith (referenceBy untold i f) v ≡ markBy g
+mark-agreed i f g v agreed done word =
+    let both = agree-both (referenceBy untold i f) g agreed in
     ap₂ (λ (k a : ℕ). markOfKind k a v) (both .0) (both .1)
-    ∙ mark-by g v done (λ z. some-side μ i f (both .0 ∙ z)) word
+    ∙ mark-by g v done (λ z. some-side i f (both .0 ∙ z)) word

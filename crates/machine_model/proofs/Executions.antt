@@ -79,9 +79,9 @@ use Rattle.machine_model.proofs.Answering.{Passed, passed-lent, refused
 
 -- ---- fates
 
-pub waits-waiting : (μ : ℕ → ℕ) (i : Instruction) (f : Fate) → waits f ≡ true → referenceBy μ i f ≡ waiting
-waits-waiting μ i Waiting e = refl
-waits-waiting μ i (Executed v a) e = absurd (let z : _≡_ {A = ℕ} 0 1 = cc in omega arith)
+pub waits-waiting : (i : Instruction) (f : Fate) → waits f ≡ true → referenceBy untold i f ≡ waiting
+waits-waiting i Waiting e = refl
+waits-waiting i (Executed v a) e = absurd (let z : _≡_ {A = ℕ} 0 1 = cc in omega arith)
 
 -- ---- numbers
 
@@ -251,7 +251,7 @@ module _ (m : Machine) (program w : List ℕ) (p : ℕ) (passed : Passed m progr
             sym (executed-at (m .table) p live)
             ∙ ap hasExecuted
             (agree-waiting there
-            (ap (λ (f : Reference.Fate). agree f there) (sym (waits-waiting untold (own .instruction) (own .fate) idle))
+            (ap (λ (f : Reference.Fate). agree f there) (sym (waits-waiting (own .instruction) (own .fate) idle))
             ∙ passed .sound .agrees p live))
 
         module _ (q : Effect) (found : q ≡ effectAt (m .table) p w act) where

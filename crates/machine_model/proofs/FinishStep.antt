@@ -39,7 +39,7 @@ use Rattle.machine_model.specs.declared.Entry.{Entry}
 use Rattle.machine_model.specs.declared.Machine.{Machine}
 use Rattle.engine.specs.declared.Effect.{Effect}
 use Rattle.machine_model.specs.declared.Squashed.the-variants as squashed
-use Rattle.machine_model.specs.Window.{blankEntry, addressBy, misaligned, registerSeen, untold, reference}
+use Rattle.machine_model.specs.Window.{blankEntry, addressBy, misaligned, registerSeen, reference}
 use Rattle.machine_model.specs.Calls.{Plain, issue, execute, commit, matchesProgram, waits, valueBy, writing}
 use Rattle.machine_model.specs.Calls.{answerBy, registersAfter, target, begun, ready}
 use Rattle.machine_model.specs.Contract.{squashSays, entryOf, plain, agree, Meets}
@@ -295,7 +295,7 @@ module _ {program : List ℕ} {m : Machine} {w : List ℕ} {b : Machine}
         let x = entryOf b 0 in
         oldest-leaves (view t) (fits t rules .some-row) (omega (arith, length-refs t, along .some))
         (agree-waiting f
-        (ap (λ (g : Reference.Fate). agree g f) (sym (waits-waiting untold (x .instruction) (x .fate) idle-here))
+        (ap (λ (g : Reference.Fate). agree g f) (sym (waits-waiting (x .instruction) (x .fate) idle-here))
         ∙ passed-here .sound .agrees 0 (along .some)))
         (fateBy (forwarded (view t) w 0) act)
         (sym (effect-left t rules 0 (along .some) w act) ∙ ap (λ (k : Effect). k .left) (sym effect-is) ∙ e)

@@ -1,5 +1,5 @@
 -- What each call of the machine comes to, over the plain state and the memory. Forwarding, violation, eviction and stall are
--- the buffer's (`seen`, `survivors`, `executes`). First the conditions under which a call is turned down, then what it comes
+-- the buffer's (`forwarded`, `survivors`, `executes`). First the conditions under which a call is turned down, then what it comes
 -- to where none holds.
 -- Assumes nothing.
 use mathlib.Core.Bool.{Bool, true, false, cond, not, _&&_, _||_}
@@ -13,7 +13,7 @@ use Rattle.table.specs.Limits.{sizesFit}
 use Rattle.table.specs.Reference
 use Rattle.table.specs.Reference.{State, fateOf, at}
 use Rattle.table.specs.Moves.{issued, squashTo, retire}
-use Rattle.lookup.specs.Forwarding.{seen, distance}
+use Rattle.lookup.specs.Forwarding.{forwarded, distance}
 use Rattle.lookup.specs.Outcome.{survivors, executes}
 use Rattle.engine.specs.Conditions.{Check, when, refusal, wrongLength, faults}
 use Rattle.engine.specs.Contract
@@ -86,16 +86,12 @@ abbrev pub issueChecks : List ℕ → Plain → List Check
 issueChecks program X =
     programCheck program X ∷ when (eqb (length (X .entries)) (X .buffer .stages)) 5 ∷ when (leb (X .count) (X .next)) 6 ∷ []
 
--- the memory as the entry at position p sees it
-abbrev pub memorySeen : Plain → List ℕ → ℕ → ℕ → ℕ
-memorySeen X memory p a = seen (take p (X .buffer .refs)) a (getD memory a 0)
-
 -- what the entry at position p comes to over the registers and the memory that it sees
 abbrev pub evaluated : Plain → List ℕ → ℕ → Option Fate
 evaluated X memory p =
     evaluate (entryAt (X .entries) p .instruction)
     (λ (k : ℕ). registerSeen (take p (X .entries)) k (some (getD (X .registers) k 0)))
-    (memorySeen X memory p)
+    (forwarded (X .buffer) memory p)
 
 abbrev pub known : Option Fate → Fate
 known none = Waiting
@@ -107,7 +103,7 @@ unknown (some f) = false
 
 -- what the entry at position p is to the buffer once it has executed to fate f
 abbrev pub referenceAt : Plain → List ℕ → ℕ → Fate → Reference.Fate
-referenceAt X memory p f = referenceBy (memorySeen X memory p) (entryAt (X .entries) p .instruction) f
+referenceAt X memory p f = referenceBy (forwarded (X .buffer) memory p) (entryAt (X .entries) p .instruction) f
 
 -- how many entries stay
 abbrev pub survivorsOf : Plain → List ℕ → ℕ → Fate → ℕ

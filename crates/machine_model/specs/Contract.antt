@@ -102,8 +102,8 @@ pub record Sound (m : Machine) : Type 0 where
   pub agrees : (p : ℕ) → p < m .table .live → agree (reference (entryOf m p)) (fateOf (at (view (m .table) .refs) p)) ≡ true
 
 -- The call c with this program on machine m and memory w said `said` and handed back machine u, memory v and the list as
--- `kept`. As in the buffer, of an accepted call u may be any machine with this plain state that is sound: free are a row's
--- place in its bank and what stands where nothing is live, entries of the window among it.
+-- `kept`. As in the buffer, of an accepted call u may be any machine with this plain state that is sound: free is what
+-- specs/Same.antt leaves out, a row's place in its bank, words without their mark, and what stands where nothing is live.
 abbrev pub Meets : List ℕ → Machine → Call → List ℕ → Answer → Machine → List ℕ → List ℕ → Type 0
 Meets program m c w said u v kept = Contract.Meets Sound plain m (respond program c (plain m) w) w (lentTo c) said u v kept
 

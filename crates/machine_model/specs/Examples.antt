@@ -23,7 +23,8 @@ use Rattle.machine_model.specs.Calls.{openChecks, opened}
 
 -- A call and its answer, a list lent to it coming back as it was; a finish with its limit and list, its answer, and the list
 -- as it left it; the committed registers and the memory. And what a user can get wrong: another program and memory are lent
--- from here on; the entry at a position is another one, and its reference with it (damage that 2 does not see).
+-- from here on; the entry at a position is another one, and its reference with it, whose load took 0 (damage that 2 does not
+-- see).
 pub data Step : Type 0 where
   asks : Call → Answer → Step
   drains : ℕ → List ℕ → Answer → List ℕ → Step
@@ -441,7 +442,7 @@ parts =
     ∷ usual (A 1 0 511 ++ H 1 0 8 ++ H 1 0 10)
     (three (asks (execute 0) (executed 0 0 none) ∷ asks (execute 1) (executed 0 0 none) ∷ asks (execute 2) (executed 0 0 none)
     ∷ asks commit (committed 0 1 1 511 0) ∷ asks commit (committed 1 6 8 511 0) ∷ asks commit (committed 2 6 10 33489407 0) ∷ []))
-    -- One that went before an older store of its word is squashed, and so is a load that went before one of these, unless the
+    -- One that went before an older store to its word is squashed, and so is a load that went before one of these, unless the
     -- word stays what it took.
     ∷ early (S 0 0 2 ++ B 0 0 9) 0 (executed 0 0 (some 1)) ∷ early (S 0 0 2 ++ H 0 0 10) 0 (executed 0 0 (some 1))
     ∷ early (B 0 0 8 ++ B 0 0 9) 0 (executed 0 0 (some 1)) ∷ early (B 0 0 8 ++ H 0 0 8) 0 (executed 0 0 (some 1))
@@ -596,13 +597,31 @@ sameWords =
     (three (asks (execute 2) (executed 13 0 none)
     ∷ drains 2 (replicate 10 7) (finished 2) (0 ∷ 1 ∷ 1 ∷ 13 ∷ 0 ∷ 1 ∷ 4 ∷ 3 ∷ 13 ∷ 0 ∷ [])
     ∷ asks (execute 0) (refused 8) ∷ asks commit (committed 2 3 2 13 0) ∷ []))
-    -- The table's word decides, not the entry's value and not memory's. Here the entry holds 13, as memory does, and the table 0.
+    -- The table's word decides, not the entry's value, not memory's and not the one that the store sees. Here the entry holds 13,
+    -- as memory does, and the table 0: of a load and of a part's store, met by a word and by a part.
     ∷ usual (A 1 0 13 ++ S 1 0 3 ++ L 2 0 3)
     (three (spoil 2 (record { instruction = Load 2 0 3; index = 2; fate = Executed 13 3; distance = 0 })
     ∷ asks (execute 0) (executed 0 0 none) ∷ asks (execute 1) (executed 0 0 (some 2)) ∷ []))
     ∷ usual (A 1 0 0 ++ S 1 0 3 ++ L 2 0 3)
     (three (spoil 2 (record { instruction = Load 2 0 3; index = 2; fate = Executed 13 3; distance = 0 })
     ∷ asks (execute 0) (executed 0 0 none) ∷ asks (execute 1) (executed 0 0 none) ∷ []))
+    ∷ usual (A 1 0 13 ++ S 1 0 3 ++ B 2 0 12)
+    (three (spoil 2 (record { instruction = Byte 2 0 12; index = 2; fate = Executed 13 12; distance = 0 })
+    ∷ asks (execute 0) (executed 0 0 none) ∷ asks (execute 1) (executed 0 0 (some 2)) ∷ []))
+    ∷ usual (A 1 0 0 ++ S 1 0 3 ++ H 2 0 12)
+    (three (spoil 2 (record { instruction = Half 2 0 12; index = 2; fate = Executed 13 12; distance = 0 })
+    ∷ asks (execute 0) (executed 0 0 none) ∷ asks (execute 1) (executed 0 0 none) ∷ []))
+    ∷ usual (A 1 0 0 ++ B 1 0 12 ++ L 2 0 3)
+    (three (spoil 2 (record { instruction = Load 2 0 3; index = 2; fate = Executed 13 3; distance = 0 })
+    ∷ asks (execute 0) (executed 0 0 none) ∷ asks (execute 1) (executed 0 0 none) ∷ []))
+    ∷ usual (A 1 0 13 ++ H 1 0 12 ++ L 2 0 3)
+    (three (spoil 2 (record { instruction = Load 2 0 3; index = 2; fate = Executed 13 3; distance = 0 })
+    ∷ asks (execute 0) (executed 0 0 none) ∷ asks (execute 1) (executed 0 0 (some 2)) ∷ []))
+    -- The walk ends at a load with the word stored, though a load behind it took another.
+    ∷ usual (S 0 0 3 ++ L 1 0 3 ++ L 2 0 3)
+    (three (asks (execute 2) (executed 13 0 none)
+    ∷ spoil 1 (record { instruction = Load 1 0 3; index = 1; fate = Executed 13 3; distance = 0 })
+    ∷ asks (execute 0) (executed 0 0 none) ∷ []))
     ∷ []
 
 -- the whole table

@@ -11,6 +11,7 @@ use mathlib.Core.Option.{Option, some}
 use Prim.Native.Nat.{ℕ, suc, _-_, _*_, _/_, _≤_, _<_}
 use lib.ListN.{length, getD, take, drop, set, replicate}
 use Rattle.lookup.specs.Forwarding
+use Rattle.lookup.specs.computed.Faithful.{past}
 use Rattle.lookup.proofs.Faithfully.{Spares}
 use Rattle.engine.specs.Execution.{written}
 use Rattle.engine.specs.Conditions.{faults}
@@ -122,9 +123,7 @@ Good program next ρ μ [] = Unit {0}
 Good program next ρ μ (e ∷ es) =
     Right (e .instruction) ρ μ (e .fate) × (e .instruction ≡ instructionAt program (e .index)) × (e .index < length program / 4)
     × (successor e ≡ headIndex es next)
-    × Good program next (λ (k : ℕ). cond (writesTo (e .instruction) k) (valueOf (e .fate)) (ρ k))
-    (λ (a : ℕ). Forwarding.wordAfter (reference e) a (μ a))
-    es
+    × Good program next (λ (k : ℕ). cond (writesTo (e .instruction) k) (valueOf (e .fate)) (ρ k)) (past (reference e) μ) es
 
 -- What is kept: registers, memory and the record without its distances are those of the sequential run after as many steps as
 -- were committed, whose next index is the oldest entry's, and the window is good over them. The record has perCommit numbers a

@@ -15,7 +15,7 @@ use native.Mathlib.Nat.{not-suc-le-zero, suc-sub-suc, sub-zero}
 use native.Mathlib.Omega.{arith}
 use lib.Dec.{eqb, leb, ltb, leb·suc-suc, leb·suc-zero}
 use lib.ListN.{length, getD, take, drop, set, length-append, length-set}
-use borrow.Author.Tests.{eqb-true, leb-true, leb-false, lt-ltb, lt-leb}
+use borrow.Author.Tests.{leb-true, leb-false, lt-ltb, lt-leb}
 use Rattle.marks.specs.Counting.{every}
 use Rattle.marks.proofs.Counts.{every-at}
 use Rattle.lookup.specs.Forwarding

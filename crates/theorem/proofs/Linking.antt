@@ -1,8 +1,9 @@
 -- The machine's calls over the plain state are steps of the window alone: the buffer meets what an engine owes. Each accepted
 -- call is one step, whose conditions are the checks that it passed; for an execution the buffer owes the rest (Paired). The
--- references move with the entries, so the result is linked again. Where the window is empty and instructions are left, issue
--- is accepted; execution of an oldest entry that waits is accepted, as its operands are the committed registers and it never
--- stalls; and so is the commit of an oldest entry that executed and is not barred by 13 or 14. Assumes nothing.
+-- references move with the entries and stay faithful (crates/lookup/proofs/Faithfully.antt says why a load is right that a store
+-- spares), so the result is linked again. Where the window is empty and instructions are left, issue is accepted; execution of
+-- an oldest entry that waits is accepted, as its operands are the committed registers and it never stalls; and so is the commit
+-- of an oldest entry that executed and is not barred by 13 or 14. Assumes nothing.
 use mathlib.Core.Bool.{Bool, true, false, cond, not, _&&_, _||_, true≢false, and-eq-true-iff}
 use mathlib.Core.List.{List, [], _∷_, _++_}
 use mathlib.Core.Option.{Option, none, some}
@@ -19,7 +20,7 @@ use Rattle.table.specs.Limits.{sizesFit}
 use Rattle.table.specs.Reference
 use Rattle.table.specs.Reference.{lacks, holds, waiting, other, accessed, Ref, ref, numberOf, fateOf, at}
 use Rattle.table.proofs.Sizes.{Sizes, sizes}
-use Rattle.lookup.specs.Forwarding.{seen}
+use Rattle.lookup.specs.Forwarding.{seen, forwarded}
 use Rattle.lookup.specs.computed.Faithful.{Faithful}
 use Rattle.lookup.proofs.Forwards.{seen-next}
 use Rattle.lookup.proofs.Faithfully.{faithful-more, faithful-next, faithful-take, faithful-drop, faithful-set}
@@ -44,7 +45,6 @@ use Rattle.machine_model.specs.Calls.{
   evaluated,
   known,
   unknown,
-  memorySeen,
   referenceAt,
   survivorsOf,
   loadDistance,
@@ -187,7 +187,7 @@ module _ (program : List ℕ) (X : Plain) (memory : List ℕ) (linked : Linked p
       let es = X .entries in
       let left = survivorsOf X memory p f in
       let i = entryAt es p .instruction in
-      let μ = memorySeen X memory p in
+      let μ = forwarded (X .buffer) memory p in
       let r : Ref = ref (numberOf (at (take left refs) p)) (referenceBy μ i f) in
       let d = loadDistance X p f in
       let e = entryWith (entryAt es p) f d in

@@ -123,7 +123,7 @@ part-calls =
     ∷ squash 0
     ∷ []
 
--- The half word goes first and is squashed by the byte, a store of its word. It goes again, and the load takes its word from
+-- The half word goes first and is squashed by the byte, a store to its word. It goes again, and the load takes its word from
 -- one position older. The finish commits three and leaves the odd one executed, whose commit is refused.
 pub part-answered : answersOf parts part-opening part-calls
     ≡ named 0 ∷ named 1 ∷ named 2 ∷ executed 0 0 none ∷ executed 0 0 none ∷ executed 0 0 (some 2)

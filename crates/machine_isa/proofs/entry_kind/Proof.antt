@@ -1,7 +1,6 @@
 -- `machine_isa::entry_kind` meets its contract: an executed entry's kind goes by its code. Assumes nothing.
 use mathlib.Core.Path.{sym}
 use borrow.Author.Needs.{needs}
-use Rattle.machine_model.specs.Window.{untold}
 use Rattle.machine_model.proofs.Comparing.{kind-code}
 use Rattle.machine_isa.proofs.entry_kind.Statement.{statement}
 use Rattle.machine_isa.proofs.entry_kind.Tie as tie
@@ -10,7 +9,7 @@ returns-2 : tie.Need-returns-2
 returns-2 c =
     let told = c .before .before in
     rw (told .enum-told2 .given .1, c .kind-by .ensures, c .before .code-of .ensures)
-    (sym (kind-code untold (told .before .before .args .e .instruction) _ _))
+    (sym (kind-code (told .before .before .args .e .instruction) _ _))
 
 pub entry-kind-spec : {M : Type 1} → statement M
 entry-kind-spec =

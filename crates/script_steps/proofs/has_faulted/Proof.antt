@@ -4,7 +4,6 @@ use mathlib.Core.Path.{sym, ap₂, _∙_}
 use Prim.Native.Nat.{ℕ}
 use lib.Dec.{ltb, leb}
 use borrow.Author.Needs.{needs}
-use Rattle.machine_model.specs.Window.{untold}
 use Rattle.machine_model.proofs.Comparing.{faults-kind}
 use Rattle.script_steps.proofs.has_faulted.Statement.{statement}
 use Rattle.script_steps.proofs.has_faulted.Tie as tie
@@ -15,7 +14,7 @@ returns c =
     ap₂ (λ (a b : Bool). a || b)
     (ap₂ (λ (k p : ℕ). (ltb 0 k && ltb k 4) && leb (entry .words) p) (c .before .before .entry-kind .ensures)
     (c .before .entry-place .ensures)
-    ∙ sym (faults-kind untold (entry .words) (entry .e .instruction) (entry .e .fate)))
+    ∙ sym (faults-kind (entry .words) (entry .e .instruction) (entry .e .fate)))
     (c .is-misaligned .ensures)
 
 pub has-faulted-spec : {M : Type 1} → statement M

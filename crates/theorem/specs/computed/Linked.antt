@@ -10,18 +10,18 @@ use Rattle.table.specs.Reference
 use Rattle.table.specs.Reference.{Side, lacks, holds, waiting, other, accessed, fateOf, at}
 use Rattle.lookup.specs.computed.Faithful.{Faithful}
 use Rattle.machine_model.specs.Program.{programFits}
-use Rattle.machine_model.specs.Window.{entryAt, reference}
+use Rattle.machine_model.specs.Window.{entryAt, untold, reference}
 use Rattle.machine_model.specs.Calls.{Plain, matchesProgram}
 
 -- a fate without the word that its load took, which an entry does not keep
-abbrev pub unread : Side → Side
-unread lacks = lacks
-unread (holds w) = holds 0
+abbrev pub wordlessSide : Side → Side
+wordlessSide lacks = lacks
+wordlessSide (holds w) = holds (untold w)
 
 abbrev pub wordless : Reference.Fate → Reference.Fate
 wordless waiting = waiting
 wordless other = other
-wordless (accessed a l s) = accessed a (unread l) s
+wordless (accessed a l s) = accessed a (wordlessSide l) s
 
 -- The sizes lie in their limits, memory has its length, the program is the one opened, references and entries are paired and
 -- fit the window, each load side holds the word that its reference sees, and each entry is the program's instruction at its
