@@ -1,7 +1,7 @@
 -- Loops: the searches step by step. Finds: what they find. Forwards, Violations, Firsts, Bankrows: what they find is what the
 -- list of references says. Rowed: the row found is one of the table's.
--- Places: the row and what is left, whole. Telling: what the marks of a stage say. Sentences, Eviction: 01's and 02's sentences of
--- the definitions. Faithfully: why a load that a store spares is right.
+-- Places: the row and what is left, whole. Telling: what the marks of a stage say. Sentences, Eviction: 01's and 02's sentences
+-- of the definitions. Faithfully: why a load that a store spares is right.
 pub mod Loops
 pub mod Finds
 pub mod Forwards

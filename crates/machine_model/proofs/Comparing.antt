@@ -94,8 +94,8 @@ agree-words μ ν i (Executed v a) = go (kind i)
 
 -- it faults by its kind and place
 pub faults-kind : (words : ℕ) (i : Instruction) (f : Fate)
-    → faults words (referenceBy untold i f)
-    ≡ ((ltb 0 (kindOf (referenceBy untold i f)) && ltb (kindOf (referenceBy untold i f)) 4) && leb words (placeOf (referenceBy untold i f)))
+    → let g = referenceBy untold i f in
+    faults words g ≡ ((ltb 0 (kindOf g) && ltb (kindOf g) 4) && leb words (placeOf g))
 faults-kind words i Waiting = refl
 faults-kind words i (Executed v a) = go (kind i)
   where

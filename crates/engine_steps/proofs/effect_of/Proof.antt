@@ -38,7 +38,8 @@ part-made : (banks rows stages oldest live : ℕ) (addresses loads stores values
       taken = found .word;
     })
     (effectOf banks rows stages oldest live addresses loads stores values taken p memory (PartAt part b x))
-part-made banks rows stages oldest live addresses loads stores values taken p memory part b x w v left place found hp hw hf hv hl =
+part-made banks rows stages oldest live addresses loads stores values taken p memory part b x w v left place found hp hw hf hv
+    hl =
     rw (hl, hv, hf, hw, hp)
 
 returns : tie.Need-returns

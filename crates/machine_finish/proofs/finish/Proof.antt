@@ -595,7 +595,8 @@ finish-spec =
     cast-instruction-at instruction-at-requires mul-t69 element-set-from-m add-m mul-e element-copy-out-e
     (search needs) (search needs) register-requires (search needs) register-requires-2 (search needs)
     effect-of-requires cut-requires cut-requires-2 including-requires set-word-requires add-mark-requires
-    add-mark-requires-2 set-value-requires set-value-requires-2 stage-at-requires mul-f element-copy-out-f mul-t79 element-set-from-m-2
+    add-mark-requires-2 set-value-requires set-value-requires-2 stage-at-requires mul-f element-copy-out-f mul-t79
+    element-set-from-m-2
     (search needs) mul-done element-copy-out-done at-stage-requires (search needs) (search needs) same-length-5
     same-length-6 returns-4 (search needs) same-length-7 same-length-8 returns-5 write-back-requires (search needs) stage-at-requires-2 sub-first-stages
     first-stages-requires sub-m keep-requires keep-requires-2 write-register-requires mul-put-commit (search needs)
