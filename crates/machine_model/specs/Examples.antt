@@ -6,7 +6,7 @@
 use mathlib.Core.Path.{_≡_}
 use mathlib.Core.Bool.{cond}
 use mathlib.Core.List.{List, [], _∷_, _++_}
-use mathlib.Core.Option.{none, some}
+use mathlib.Core.Option.{Option, none, some}
 use Prim.Native.Nat.{ℕ}
 use lib.Dec.{eqb}
 use lib.ListN.{replicate, set}
@@ -556,6 +556,16 @@ distances =
 abbrev pub zeros : List ℕ → List Step → Example
 zeros program steps = row 1 4 4 8 program (replicate 8 0) done (four steps)
 
+-- an entry of this instruction and index that holds 13 at this address; `spoil` has its load take 0
+abbrev pub took13 : Instruction → ℕ → ℕ → Entry
+took13 i index a = record { instruction = i; index = index; fate = Executed 13 a; distance = 0 }
+
+-- the third entry is such a one; the two before it execute, and the second squashes from here
+abbrev pub misread : List ℕ → Instruction → ℕ → Option ℕ → Example
+misread program i a gone =
+    usual program
+    (three (spoil 2 (took13 i 2 a) ∷ asks (execute 0) (executed 0 0 none) ∷ asks (execute 1) (executed 0 0 gone) ∷ []))
+
 unfoldable pub sameWords : List Example
 sameWords =
     -- The load took 13, and then the store of 13 executes: it is kept, and commits with the distance that it came.
@@ -599,28 +609,16 @@ sameWords =
     ∷ asks (execute 0) (refused 8) ∷ asks commit (committed 2 3 2 13 0) ∷ []))
     -- The table's word decides, not the entry's value, not memory's and not the one that the store sees. Here the entry holds 13,
     -- as memory does, and the table 0: of a load and of a part's store, met by a word and by a part.
-    ∷ usual (A 1 0 13 ++ S 1 0 3 ++ L 2 0 3)
-    (three (spoil 2 (record { instruction = Load 2 0 3; index = 2; fate = Executed 13 3; distance = 0 })
-    ∷ asks (execute 0) (executed 0 0 none) ∷ asks (execute 1) (executed 0 0 (some 2)) ∷ []))
-    ∷ usual (A 1 0 0 ++ S 1 0 3 ++ L 2 0 3)
-    (three (spoil 2 (record { instruction = Load 2 0 3; index = 2; fate = Executed 13 3; distance = 0 })
-    ∷ asks (execute 0) (executed 0 0 none) ∷ asks (execute 1) (executed 0 0 none) ∷ []))
-    ∷ usual (A 1 0 13 ++ S 1 0 3 ++ B 2 0 12)
-    (three (spoil 2 (record { instruction = Byte 2 0 12; index = 2; fate = Executed 13 12; distance = 0 })
-    ∷ asks (execute 0) (executed 0 0 none) ∷ asks (execute 1) (executed 0 0 (some 2)) ∷ []))
-    ∷ usual (A 1 0 0 ++ S 1 0 3 ++ H 2 0 12)
-    (three (spoil 2 (record { instruction = Half 2 0 12; index = 2; fate = Executed 13 12; distance = 0 })
-    ∷ asks (execute 0) (executed 0 0 none) ∷ asks (execute 1) (executed 0 0 none) ∷ []))
-    ∷ usual (A 1 0 0 ++ B 1 0 12 ++ L 2 0 3)
-    (three (spoil 2 (record { instruction = Load 2 0 3; index = 2; fate = Executed 13 3; distance = 0 })
-    ∷ asks (execute 0) (executed 0 0 none) ∷ asks (execute 1) (executed 0 0 none) ∷ []))
-    ∷ usual (A 1 0 13 ++ H 1 0 12 ++ L 2 0 3)
-    (three (spoil 2 (record { instruction = Load 2 0 3; index = 2; fate = Executed 13 3; distance = 0 })
-    ∷ asks (execute 0) (executed 0 0 none) ∷ asks (execute 1) (executed 0 0 (some 2)) ∷ []))
+    ∷ misread (A 1 0 13 ++ S 1 0 3 ++ L 2 0 3) (Load 2 0 3) 3 (some 2)
+    ∷ misread (A 1 0 0 ++ S 1 0 3 ++ L 2 0 3) (Load 2 0 3) 3 none
+    ∷ misread (A 1 0 13 ++ S 1 0 3 ++ B 2 0 12) (Byte 2 0 12) 12 (some 2)
+    ∷ misread (A 1 0 0 ++ S 1 0 3 ++ H 2 0 12) (Half 2 0 12) 12 none
+    ∷ misread (A 1 0 0 ++ B 1 0 12 ++ L 2 0 3) (Load 2 0 3) 3 none
+    ∷ misread (A 1 0 13 ++ H 1 0 12 ++ L 2 0 3) (Load 2 0 3) 3 (some 2)
     -- The walk ends at a load with the word stored, though a load behind it took another.
     ∷ usual (S 0 0 3 ++ L 1 0 3 ++ L 2 0 3)
     (three (asks (execute 2) (executed 13 0 none)
-    ∷ spoil 1 (record { instruction = Load 1 0 3; index = 1; fate = Executed 13 3; distance = 0 })
+    ∷ spoil 1 (took13 (Load 1 0 3) 1 3)
     ∷ asks (execute 0) (executed 0 0 none) ∷ []))
     ∷ []
 
