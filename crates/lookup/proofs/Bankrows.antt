@@ -30,33 +30,27 @@ use Rattle.table.proofs.Owning.{RowFor, row-of-mark, mark-position}
 use Rattle.lookup.specs.declared.Place.{Place}
 use Rattle.lookup.specs.Rows.{touches, touched, allocatesRow, rowsInUse, youngestRow}
 use Rattle.lookup.specs.Outcome.{allocateRow}
-use Rattle.lookup.specs.computed.Search.{find, chosen, belongs, free, marked, bankMark, allocatedRow, rowOf}
-use Rattle.lookup.proofs.Loops.{seek-le, chosen-lt}
-use Rattle.lookup.proofs.Finds.{find-zero, find-at, seek-before, seek-at, chosen-most}
+use Rattle.lookup.specs.Chosen.{OldestAt, firstMark, chosen, chosenRow}
+use Rattle.lookup.specs.computed.Search.{find, belongs, openedAt, allocatedRow, rowOf}
+use Rattle.lookup.proofs.Finds.{find-zero, find-at, chosen-lt, chosen-most}
+use Rattle.lookup.proofs.Oldest.{freeIn, free-bare, marked-held, held-marked, before, first-le, first-here}
+use Rattle.lookup.proofs.Oldest.{size, row-lt, row-bank, row-rest, first-mark, first-apart}
+use Rattle.lookup.proofs.Tail.{evicts-chosen}
 use Rattle.lookup.proofs.Firsts.{touched-at, touched-some, older-at, older-some, opens-from, opens-to}
 use Rattle.lookup.proofs.Firsts.{youngest-chosen}
 use Rattle.lookup.proofs.Violations.{touches-mark}
 
--- the i-th row of bank h: it is free; it has marks; it has one at position q; its oldest mark
-abbrev freeIn : Table → ℕ → ℕ → Bool
-freeIn t h i = free (t .loads) (t .stores) h i
-
+-- the i-th row of bank h has marks
 abbrev heldIn : Table → ℕ → ℕ → Bool
 heldIn t h i = not (freeIn t h i)
 
-abbrev markedIn : Table → ℕ → ℕ → ℕ → Bool
-markedIn t h i q = marked (t .oldest) (t .stages) (marksOf (t .loads) (t .stores) (h * rowsMost + i)) q
+-- one more than the row of bank h whose oldest mark is at position p; 0 where there is none
+abbrev openedIn : Table → ℕ → ℕ → ℕ
+openedIn t h p = openedAt (t .oldest) (t .stages) (t .live) (t .rows) (t .loads) (t .stores) h p
 
-abbrev first : Table → ℕ → ℕ → ℕ
-first t h i = bankMark (t .oldest) (t .stages) (t .live) (t .loads) (t .stores) h i
-
--- the i-th row of bank h has its oldest mark at position p
-abbrev opened : Table → ℕ → ℕ → ℕ → Bool
-opened t h p i = heldIn t h i && eqb (first t h i) p
-
--- the row of bank h whose oldest mark is at position p
+-- that row
 rowAt : Table → ℕ → ℕ → ℕ
-rowAt t h p = find (opened t h p) (t .rows) - 1
+rowAt t h p = openedIn t h p - 1
 
 abbrev placed : ℕ → ℕ → Place
 placed r k = record { row = r; left = k }
@@ -65,14 +59,13 @@ placed r k = record { row = r; left = k }
 abbrev pub takenBy : Table → ℕ → ℕ → Place
 takenBy t h p = allocatedRow (t .oldest) (t .stages) (t .live) (t .rows) (t .loads) (t .stores) h p
 
--- the place of the chosen row, whose oldest mark is m, if it may be evicted
-abbrev evictedAt : Table → ℕ → ℕ → ℕ → Place
-evictedAt t h p m = cond (ltb p m) (placed (h * rowsMost + chosen (first t h) (t .rows)) m) (placed 0 0)
-
-evicted-left : (t : Table) (h p m : ℕ) → evictedAt t h p m .left ≡ cond (ltb p m) m 0
-evicted-left t h p m = go (ltb p m)
+chosen-left : (t : Table) (h p : ℕ)
+    → let m = firstMark t h (chosen (firstMark t h) (t .rows)) in chosenRow t h p .left ≡ cond (ltb p m) m 0
+chosen-left t h p = go (ltb p (firstMark t h (chosen (firstMark t h) (t .rows))))
   where
-    go : (x : Bool) → cond x (placed (h * rowsMost + chosen (first t h) (t .rows)) m) (placed 0 0) .left ≡ cond x m 0
+    go : (x : Bool)
+        → let i = chosen (firstMark t h) (t .rows) in
+        cond x (placed (h * rowsMost + i) (firstMark t h i)) (placed 0 0) .left ≡ cond x (firstMark t h i) 0
     go true = refl
     go false = refl
 
@@ -80,27 +73,7 @@ evicted-left t h p m = go (ltb p m)
 abbrev Good : Table → ℕ → ℕ → Place → Type 0
 Good t a p x = (x .left ≡ 0 → ⊥) → (p < x .left) × (x .left ≤ t .live) × RowFor t a (x .row) (x .left)
 
--- the marks of a row as one set
-marks-of : (t : Table) (r s : ℕ) → has (marksOf (t .loads) (t .stores) r) s ≡ mark t r s
-marks-of t r s = has-or (getD (t .loads) r 0) (getD (t .stores) r 0) s
-
--- a row without marks has none at any stage, and one with marks has one
-free-bare : (t : Table) (r s : ℕ) → eqb (marksOf (t .loads) (t .stores) r) 0 ≡ true → mark t r s ≡ false
-free-bare t r s e =
-    sym (marks-of t r s) ∙ ap (λ (w : ℕ). has w s) (eqb-true (marksOf (t .loads) (t .stores) r) 0 e) ∙ has-zero s
-
-marked-held : (t : Table) (r s : ℕ) → mark t r s ≡ true → eqb (marksOf (t .loads) (t .stores) r) 0 ≡ false
-marked-held t r s m = not-eq-not {b = false} .0 (λ e. true≢false (sym m ∙ free-bare t r s e))
-
-held-marked : (t : Table) (r : ℕ) → eqb (marksOf (t .loads) (t .stores) r) 0 ≡ false → (s : ℕ) × (mark t r s ≡ true)
-held-marked t r e =
-    let w = member (marksOf (t .loads) (t .stores) r) (eqb-false (marksOf (t .loads) (t .stores) r) 0 e) in
-    (w .0, sym (marks-of t r (w .0)) ∙ w .1)
-
 module _ (t : Table) (rules : Rules t) where
-  size : Sizes (t .banks) (t .rows) (t .stages) (t .words)
-  size = sizes (t .banks) (t .rows) (t .stages) (t .words) (rules .sizes)
-
   fate-at : (p : ℕ) → p < t .live → fateOf (at (view t .refs) p) ≡ fateAt t (stageOf t p)
   fate-at p l = ap fateOf (at-refs t p l)
 
@@ -158,22 +131,12 @@ module _ (t : Table) (rules : Rules t) where
           ∙ find-zero (belongs (t .addresses) (t .loads) (t .stores) (bank (t .banks) a) a) (t .rows) e (w .0 % rowsMost)
           (rules .in-rows (w .0) (w .1) (w .2) (w .3)))
 
-  -- the i-th row of a bank
-  row-lt : (h i : ℕ) → h < t .banks → i < t .rows → h * rowsMost + i < rowsIn (t .banks)
-  row-lt h i b l = omega (arith, size .rows)
-
-  row-bank : (h i : ℕ) → i < t .rows → (h * rowsMost + i) / rowsMost ≡ h
-  row-bank h i l = omega (arith, size .rows)
-
-  row-rest : (h i : ℕ) → i < t .rows → (h * rowsMost + i) % rowsMost ≡ i
-  row-rest h i l = omega (arith, size .rows)
-
   pub row-some : (a i : ℕ) → rowOf (t .rows) (t .addresses) (t .loads) (t .stores) (bank (t .banks) a) a ≡ suc i
       → (touched a (view t .refs) ≡ true) × RowFor t a (bank (t .banks) a * rowsMost + i) (t .live)
   row-some a i e =
       let w = find-at (belongs (t .addresses) (t .loads) (t .stores) (bank (t .banks) a) a) (t .rows) i e in
       let r = bank (t .banks) a * rowsMost + i in
-      let h : r < rowsIn (t .banks) = row-lt (bank (t .banks) a) i (bank-lt (t .banks) a (size .some-bank)) (w .0) in
+      let h : r < rowsIn (t .banks) = row-lt t rules (bank (t .banks) a) i (bank-lt (t .banks) a (size t rules .some-bank)) (w .0) in
       let both = and-eq-true-iff (not (eqb (marksOf (t .loads) (t .stores) r) 0)) (eqb (address t r) a) .0 (w .1) in
       let m = held-marked t r (not-true (eqb (marksOf (t .loads) (t .stores) r) 0) (both .0)) in
       let q : address t r ≡ a = eqb-true (address t r) a (both .1) in (
@@ -182,81 +145,48 @@ module _ (t : Table) (rules : Rules t) where
       )
 
   module _ (h : ℕ) (bound : h < t .banks) where
-    -- the oldest mark of a row: none before it, and one there unless the row is free
-    before : (i p : ℕ) → p < first t h i → mark t (h * rowsMost + i) (stageOf t p) ≡ false
-    before i p l =
-        sym (marks-of t (h * rowsMost + i) (stageOf t p)) ∙ seek-before (markedIn t h i) (t .live) 0 p zero-le l
-
-    first-le : (i : ℕ) → first t h i ≤ t .live
-    first-le i = omega (arith, seek-le (markedIn t h i) (t .live) 0)
-
-    first-mark : (i : ℕ) → i < t .rows → freeIn t h i ≡ false
-        → (first t h i < t .live) × (mark t (h * rowsMost + i) (stageOf t (first t h i)) ≡ true)
-    first-mark i l e =
-        let here = seek-at (markedIn t h i) (t .live) 0 (omega (arith, soon)) in
-        (soon, sym (marks-of t (h * rowsMost + i) (stageOf t (first t h i))) ∙ here)
-      where
-        late : t .live ≤ first t h i → ⊥
-        late c =
-            let m = held-marked t (h * rowsMost + i) e in
-            let w = mark-position t rules (h * rowsMost + i) (m .0) (row-lt h i bound l) (m .1) in
-            true≢false (sym (ap (mark t (h * rowsMost + i)) (w .2) ∙ m .1) ∙ before i (w .0) (omega arith))
-
-        soon : first t h i < t .live
-        soon = lt-of-not-le late
-
     first-opens : (i : ℕ) → i < t .rows → freeIn t h i ≡ false
-        → allocatesRow (t .banks) h (view t .refs) (first t h i) ≡ true
+        → allocatesRow (t .banks) h (view t .refs) (firstMark t h i) ≡ true
     first-opens i l e =
-        opens-from (t .banks) h (view t .refs) (first t h i) (address t (h * rowsMost + i)) (here (first t h i) (m .0) ∙ m .1)
-        (sym (rules .in-bank (h * rowsMost + i) (stageOf t (first t h i)) (row-lt h i bound l) (m .1)) ∙ row-bank h i l)
+        opens-from (t .banks) h (view t .refs) (firstMark t h i) (address t (h * rowsMost + i)) (here (firstMark t h i) (m .live) ∙ m .here)
+        (sym (rules .in-bank (h * rowsMost + i) (stageOf t (firstMark t h i)) (row-lt t rules h i bound l) (m .here)) ∙ row-bank t rules h i l)
         (not-eq-not {b = false} .0 none)
       where
-        m : (first t h i < t .live) × (mark t (h * rowsMost + i) (stageOf t (first t h i)) ≡ true)
-        m = first-mark i l e
+        m : OldestAt t (h * rowsMost + i) (firstMark t h i)
+        m = first-mark t rules h bound i l e
 
         here : (p : ℕ) → p < t .live
             → touches (address t (h * rowsMost + i)) (fateOf (at (view t .refs) p)) ≡ mark t (h * rowsMost + i) (stageOf t p)
-        here p = at-mark (h * rowsMost + i) (stageOf t (first t h i)) p (row-lt h i bound l) (m .1)
+        here p = at-mark (h * rowsMost + i) (stageOf t (firstMark t h i)) p (row-lt t rules h i bound l) (m .here)
 
-        none : touched (address t (h * rowsMost + i)) (take (first t h i) (view t .refs)) ≡ true → ⊥
+        none : touched (address t (h * rowsMost + i)) (take (firstMark t h i) (view t .refs)) ≡ true → ⊥
         none d =
-            let n : first t h i ≤ length (view t .refs) = omega (arith, length-refs t, m .0) in
-            let w = older-some (address t (h * rowsMost + i)) (view t .refs) (first t h i) n d in
-            true≢false (sym (w .2) ∙ here (w .0) (omega (arith, m .0)) ∙ before i (w .0) (w .1))
-
-    first-apart : (i j : ℕ) → i < t .rows → j < t .rows → freeIn t h i ≡ false → freeIn t h j ≡ false
-        → first t h i ≡ first t h j → i ≡ j
-    first-apart i j l k e d q =
-        let m = ap (λ (p : ℕ). mark t (h * rowsMost + j) (stageOf t p)) q ∙ first-mark j k d .1 in
-        omega (
-          arith,
-          rules .one-row (h * rowsMost + i) (h * rowsMost + j) (stageOf t (first t h i)) (row-lt h i bound l) (row-lt h j bound k)
-              (first-mark i l e .1) m,
-        )
+            let n : firstMark t h i ≤ length (view t .refs) = omega (arith, length-refs t, m .live) in
+            let w = older-some (address t (h * rowsMost + i)) (view t .refs) (firstMark t h i) n d in
+            true≢false (sym (w .2) ∙ here (w .0) (omega (arith, m .live)) ∙ before t h i (w .0) (w .1))
 
     -- a row's mark, where no older reference touches its address, is its oldest
     oldest-is : (i p : ℕ) → i < t .rows → p < t .live → mark t (h * rowsMost + i) (stageOf t p) ≡ true
-        → touched (address t (h * rowsMost + i)) (take p (view t .refs)) ≡ false → (freeIn t h i ≡ false) × (first t h i ≡ p)
+        → touched (address t (h * rowsMost + i)) (take p (view t .refs)) ≡ false → (freeIn t h i ≡ false) × (firstMark t h i ≡ p)
     oldest-is i p k l m u = (held, omega (arith, lt-of-not-le late, lt-of-not-le soon))
       where
         held : freeIn t h i ≡ false
         held = marked-held t (h * rowsMost + i) (stageOf t p) m
 
-        late : p < first t h i → ⊥
-        late c = true≢false (sym m ∙ before i p c)
+        late : p < firstMark t h i → ⊥
+        late c = true≢false (sym m ∙ before t h i p c)
 
-        soon : first t h i < p → ⊥
+        soon : firstMark t h i < p → ⊥
         soon c =
-            let f = first-mark i k held in
+            let f = first-mark t rules h bound i k held in
             true≢false
             (sym
-            (older-at (address t (h * rowsMost + i)) (view t .refs) p (first t h i) c (omega (arith, length-refs t))
-            (at-mark (h * rowsMost + i) (stageOf t p) (first t h i) (row-lt h i bound k) m (f .0) ∙ f .1))
+            (older-at (address t (h * rowsMost + i)) (view t .refs) p (firstMark t h i) c (omega (arith, length-refs t))
+            (at-mark (h * rowsMost + i) (stageOf t p) (firstMark t h i) (row-lt t rules h i bound k) m (f .live) ∙ f .here))
             ∙ u)
 
     opens-first : (p : ℕ) → p < t .live → allocatesRow (t .banks) h (view t .refs) p ≡ true
-        → (i : ℕ) × (i < t .rows) × (freeIn t h i ≡ false) × (first t h i ≡ p)
+        → (i : ℕ) × (i < t .rows) × (freeIn t h i ≡ false) × (firstMark t h i ≡ p)
     opens-first p l e =
         let w = opens-to (t .banks) h (view t .refs) p e in
         let m = mark-of-touch (w .0) p l (w .1) in
@@ -272,39 +202,40 @@ module _ (t : Table) (rules : Rules t) where
     -- as many rows are in use as positions open
     rows-used : count (heldIn t h) (t .rows) ≤ rowsInUse (t .banks) h (view t .refs)
     rows-used =
-        count-into (heldIn t h) (allocatesRow (t .banks) h (view t .refs)) (t .rows) (length (view t .refs)) (first t h)
+        count-into (heldIn t h) (allocatesRow (t .banks) h (view t .refs)) (t .rows) (length (view t .refs)) (firstMark t h)
         (λ i l e.
         let held = not-true (freeIn t h i) e in
-        (omega (arith, length-refs t, first-mark i l held .0), first-opens i l held))
-        (λ i j l k e d. first-apart i j l k (not-true (freeIn t h i) e) (not-true (freeIn t h j) d))
+        (omega (arith, length-refs t, first-mark t rules h bound i l held .live), first-opens i l held))
+        (λ i j l k e d. first-apart t rules h bound i j l k (not-true (freeIn t h i) e) (not-true (freeIn t h j) d))
 
     row-at-opens : (p : ℕ) → p < t .live → allocatesRow (t .banks) h (view t .refs) p ≡ true
-        → (rowAt t h p < t .rows) × (freeIn t h (rowAt t h p) ≡ false) × (first t h (rowAt t h p) ≡ p)
+        → (rowAt t h p < t .rows) × (freeIn t h (rowAt t h p) ≡ false) × (firstMark t h (rowAt t h p) ≡ p)
     unfolding rowAt
-    row-at-opens p l e = go (find (opened t h p) (t .rows)) refl
+    row-at-opens p l e = go (openedIn t h p) refl
       where
-        go : (k : ℕ) → find (opened t h p) (t .rows) ≡ k
-            → (k - 1 < t .rows) × (freeIn t h (k - 1) ≡ false) × (first t h (k - 1) ≡ p)
+        go : (k : ℕ) → openedIn t h p ≡ k
+            → (k - 1 < t .rows) × (freeIn t h (k - 1) ≡ false) × (firstMark t h (k - 1) ≡ p)
         go zero q =
             let o = opens-first p l e in
             absurd
             (true≢false
-            (sym (ap₂ _&&_ (ap not (o .2)) (eq-eqb (first t h (o .0)) p (o .3)))
-            ∙ find-zero (opened t h p) (t .rows) q (o .0) (o .1)))
+            (sym (eq-eqb (firstMark t h (o .0)) p (o .3))
+            ∙ find-zero (λ (i : ℕ). eqb (firstMark t h i) p) (t .rows) q (o .0) (o .1)))
         go (suc i) q =
-            let w = find-at (opened t h p) (t .rows) i q in
-            let both = and-eq-true-iff (heldIn t h i) (eqb (first t h i) p) .0 (w .1) in
+            let w = find-at (λ (i : ℕ). eqb (firstMark t h i) p) (t .rows) i q in
+            let is = eqb-true (firstMark t h i) p (w .1) in
+            let m = first-here t h i (omega (arith, is, l)) in
             let s : suc i - 1 ≡ i = omega arith in
-            rw s (w .0, not-true (freeIn t h i) (both .0), eqb-true (first t h i) p (both .1))
+            rw s (w .0, marked-held t (h * rowsMost + i) (stageOf t (firstMark t h i)) m, is)
 
     used-rows : rowsInUse (t .banks) h (view t .refs) ≤ count (heldIn t h) (t .rows)
     used-rows =
         count-into (allocatesRow (t .banks) h (view t .refs)) (heldIn t h) (length (view t .refs)) (t .rows) (rowAt t h)
         (λ p l e. let o = at-row p l e in (o .0, ap not (o .1)))
-        (λ p q l k e d same. sym (at-row p l e .2) ∙ ap (first t h) same ∙ at-row q k d .2)
+        (λ p q l k e d same. sym (at-row p l e .2) ∙ ap (firstMark t h) same ∙ at-row q k d .2)
       where
         at-row : (p : ℕ) → p < length (view t .refs) → allocatesRow (t .banks) h (view t .refs) p ≡ true
-            → (rowAt t h p < t .rows) × (freeIn t h (rowAt t h p) ≡ false) × (first t h (rowAt t h p) ≡ p)
+            → (rowAt t h p < t .rows) × (freeIn t h (rowAt t h p) ≡ false) × (firstMark t h (rowAt t h p) ≡ p)
         at-row p l e = row-at-opens p (omega (arith, length-refs t)) e
 
     -- a free row is found exactly where fewer rows are used than there are
@@ -321,15 +252,15 @@ module _ (t : Table) (rules : Rules t) where
 
     -- the oldest mark of the row that is chosen where none is free
     most : find (freeIn t h) (t .rows) ≡ 0
-        → first t h (chosen (first t h) (t .rows)) ≡ youngestRow (t .banks) h (view t .refs)
+        → firstMark t h (chosen (firstMark t h) (t .rows)) ≡ youngestRow (t .banks) h (view t .refs)
     most e =
-        let i = chosen (first t h) (t .rows) in
-        let l : i < t .rows = chosen-lt (first t h) (t .rows) (size .some-row) in
+        let i = chosen (firstMark t h) (t .rows) in
+        let l : i < t .rows = chosen-lt (firstMark t h) (t .rows) (size t rules .some-row) in
         let held = find-zero (freeIn t h) (t .rows) e i l in
-        let m : first t h i < length (view t .refs) = omega (arith, length-refs t, first-mark i l held .0) in
-        let y = youngest-chosen (t .banks) h (view t .refs) (first t h i) m (first-opens i l held) in
+        let m : firstMark t h i < length (view t .refs) = omega (arith, length-refs t, first-mark t rules h bound i l held .live) in
+        let y = youngest-chosen (t .banks) h (view t .refs) (firstMark t h i) m (first-opens i l held) in
         let o = opens-first (youngestRow (t .banks) h (view t .refs)) (omega (arith, length-refs t)) (y .1) in
-        omega (arith, chosen-most (first t h) (t .rows) (o .0) (o .1))
+        omega (arith, chosen-most (firstMark t h) (t .rows) (o .0) (o .1))
 
     -- the place taken, by what the search for a free row finds
     takes-free : (p i : ℕ) → find (freeIn t h) (t .rows) ≡ suc i → takenBy t h p ≡ placed (h * rowsMost + i) (t .live)
@@ -337,17 +268,16 @@ module _ (t : Table) (rules : Rules t) where
         let s : suc i - 1 ≡ i = omega arith in
         rw (e, eqb·suc-zero i, s)
 
-    takes-full : (p : ℕ) → find (freeIn t h) (t .rows) ≡ 0
-        → takenBy t h p ≡ evictedAt t h p (first t h (chosen (first t h) (t .rows)))
-    takes-full p e = rw e
+    takes-full : (p : ℕ) → find (freeIn t h) (t .rows) ≡ 0 → takenBy t h p ≡ chosenRow t h p
+    takes-full p e = rw e (evicts-chosen t rules h bound e p)
 
     takes : (p : ℕ) → takenBy t h p .left ≡ allocateRow (view t) p h
     takes p = go (find (freeIn t h) (t .rows)) refl
       where
         go : (k : ℕ) → find (freeIn t h) (t .rows) ≡ k → takenBy t h p .left ≡ allocateRow (view t) p h
         go zero e =
-            ap (λ (x : Place). x .left) (takes-full p e ∙ ap (evictedAt t h p) (most e))
-            ∙ evicted-left t h p (youngestRow (t .banks) h (view t .refs))
+            ap (λ (x : Place). x .left) (takes-full p e) ∙ chosen-left t h p
+            ∙ ap (λ (m : ℕ). cond (ltb p m) m 0) (most e)
             ∙ rw (le-ltb (rowsInUse (t .banks) h (view t .refs)) (t .rows) (full e))
         go (suc i) e =
             let w = find-at (freeIn t h) (t .rows) i e in
@@ -359,9 +289,9 @@ module _ (t : Table) (rules : Rules t) where
         → ((p : ℕ) → p < k → mark t (h * rowsMost + i) (stageOf t p) ≡ false) → RowFor t a (h * rowsMost + i) k
     bare-row a i k b u l none =
         record {
-          row = row-lt h i bound l;
-          in-bank = row-bank h i l ∙ sym b;
-          in-rows = rw (row-rest h i l) l;
+          row = row-lt t rules h i bound l;
+          in-bank = row-bank t rules h i l ∙ sym b;
+          in-rows = rw (row-rest t rules h i l) l;
           own = λ p c m. absurd (true≢false (sym m ∙ none p c));
           only = λ q p d c m e. absurd (other-row q (stageOf t p) d m e);
         }
@@ -374,17 +304,17 @@ module _ (t : Table) (rules : Rules t) where
         → Good t a p (takenBy t h p)
     takes-row a p b l u = go (find (freeIn t h) (t .rows)) refl
       where
-        evict : (i : ℕ) → i < t .rows → (x : Bool) → ltb p (first t h i) ≡ x
-            → Good t a p (cond x (placed (h * rowsMost + i) (first t h i)) (placed 0 0))
+        evict : (i : ℕ) → i < t .rows → (x : Bool) → ltb p (firstMark t h i) ≡ x
+            → Good t a p (cond x (placed (h * rowsMost + i) (firstMark t h i)) (placed 0 0))
         evict i k true q some =
-            (ltb-true p (first t h i) q, first-le i, bare-row a i (first t h i) b u k (before i))
+            (ltb-true p (firstMark t h i) q, first-le t h i, bare-row a i (firstMark t h i) b u k (before t h i))
         evict i k false q some = absurd (some refl)
 
         go : (k : ℕ) → find (freeIn t h) (t .rows) ≡ k → Good t a p (takenBy t h p)
         go zero e =
-            let i = chosen (first t h) (t .rows) in
+            let i = chosen (firstMark t h) (t .rows) in
             subst (Good t a p) (sym (takes-full p e))
-            (evict i (chosen-lt (first t h) (t .rows) (size .some-row)) (ltb p (first t h i)) refl)
+            (evict i (chosen-lt (firstMark t h) (t .rows) (size t rules .some-row)) (ltb p (firstMark t h i)) refl)
         go (suc i) e =
             let w = find-at (freeIn t h) (t .rows) i e in
             subst (Good t a p) (sym (takes-free p i e))
@@ -397,10 +327,10 @@ module _ (t : Table) (rules : Rules t) where
   -- what is left where a row is taken, and the row: for an address without one
   pub taken-room : (a p : ℕ) → p < t .live → touched a (view t .refs) ≡ false
       → takenBy t (bank (t .banks) a) p .left ≡ allocateRow (view t) p (bank (t .banks) a)
-  taken-room a p l u = takes (bank (t .banks) a) (bank-lt (t .banks) a (size .some-bank)) p
+  taken-room a p l u = takes (bank (t .banks) a) (bank-lt (t .banks) a (size t rules .some-bank)) p
 
   pub taken-row : (a p : ℕ) → p < t .live → touched a (view t .refs) ≡ false
       → (takenBy t (bank (t .banks) a) p .left ≡ 0 → ⊥)
       → (p < takenBy t (bank (t .banks) a) p .left) × (takenBy t (bank (t .banks) a) p .left ≤ t .live)
       × RowFor t a (takenBy t (bank (t .banks) a) p .row) (takenBy t (bank (t .banks) a) p .left)
-  taken-row a p = takes-row (bank (t .banks) a) (bank-lt (t .banks) a (size .some-bank)) a p refl
+  taken-row a p = takes-row (bank (t .banks) a) (bank-lt (t .banks) a (size t rules .some-bank)) a p refl

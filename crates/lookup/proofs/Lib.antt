@@ -7,10 +7,13 @@ pub mod Finds
 pub mod Forwards
 pub mod Violations
 pub mod Firsts
+pub mod Oldest
+pub mod Tail
 pub mod Bankrows
 pub mod Rowed
 pub mod Places
 pub mod Telling
 pub mod Sentences
 pub mod Eviction
+pub mod Cases
 pub mod Faithfully

@@ -1,15 +1,17 @@
--- One turn of each loop: `find` at q looks at q - 1, `seek` up to a bound looks at q, `chosen` below i + 1 looks at i.
+-- One turn of each loop: `find` at q looks at q - 1, `seek` up to a bound looks at q. A search from n down may pass over numbers
+-- that do not pass (finding-jump).
 -- Each law is the definition's own clause, with the number that the code holds in the place of the successor.
 -- Assumes nothing.
 use mathlib.Core.Bool.{Bool, true, false, cond}
-use mathlib.Core.Path.{_≡_, refl, sym, _∙_}
-use Prim.Native.Nat.{ℕ, zero, suc, _+_, _-_, _≤_, _<_, suc-le-suc}
-use native.Mathlib.Nat.{le-refl, le-suc, le-step}
+use mathlib.Core.Logic.{⊎-elim}
+use mathlib.Core.Path.{_≡_, refl, sym, ap, _∙_}
+use Prim.Native.Nat.{ℕ, zero, suc, _+_, _-_, _≤_, _<_}
+use native.Mathlib.Nat.{le-refl, le-step, le-of-suc-le-suc, eq-or-lt-of-le}
 use native.Mathlib.Numerals.{add-one}
 use native.Mathlib.Omega.{arith}
-use lib.Dec.{ltb, eqb·suc-zero}
-use borrow.Author.Tests.{ne-eqb, lt-ltb, le-ltb}
-use Rattle.lookup.specs.computed.Search.{find, below, seek, chosen}
+use lib.Dec.{eqb·suc-zero}
+use borrow.Author.Tests.{ne-eqb}
+use Rattle.lookup.specs.computed.Search.{find, below, seek}
 
 find-clause : (f : ℕ → Bool) (n : ℕ) → find f (suc n) ≡ cond (f n) (suc n) (find f n)
 unfolding find
@@ -28,6 +30,16 @@ pub find-none : (f : ℕ → Bool) (q : ℕ) → q ≤ 0 → find f q ≡ 0
 unfolding find
 find-none f q h = let z : q ≡ 0 = omega arith in rw z
 
+-- what does not pass is passed over
+find-skip : (f : ℕ → Bool) (k q : ℕ) → k ≤ q → ((p : ℕ) → k ≤ p → p < q → f p ≡ false) → find f q ≡ find f k
+unfolding find
+find-skip f k zero l none = let z : k ≡ 0 = omega arith in rw z
+find-skip f k (suc q) l none =
+    ⊎-elim (λ (e : k ≡ suc q). ap (find f) (sym e))
+    (λ (m : k < suc q).
+    rw (none q (le-of-suc-le-suc m) (le-refl (suc q))) (find-skip f k q (le-of-suc-le-suc m) (λ p i j. none p i (le-step j))))
+    (eq-or-lt-of-le l)
+
 -- a search from n down that has come to q
 pub record Finding (f : ℕ → Bool) (n q : ℕ) : Type 0 where
   pub within : q ≤ n
@@ -45,6 +57,10 @@ module _ {f : ℕ → Bool} {n q : ℕ} (finding : Finding f n q) where
 
   pub finding-none : q ≤ 0 → (0 ≤ n) × (0 ≡ find f n)
   finding-none h = (omega arith, sym (finding .same ∙ find-none f q h))
+
+  -- none from k on passes
+  pub finding-jump : (k : ℕ) → k ≤ q → ((p : ℕ) → k ≤ p → p < q → f p ≡ false) → Finding f n k
+  finding-jump k l none = record { within = omega (arith, finding .within); same = finding .same ∙ find-skip f k q l none }
 
   -- how far below n it has come
   pub below-hit : 0 < q → f (q - 1) ≡ true → n - (q - 1) ≡ below n (find f n)
@@ -95,29 +111,3 @@ seek-le f (suc k) q = go (f q) (seek-le f k (suc q))
     go : (t : Bool) → seek f k (suc q) ≤ suc q + k → cond t q (seek f k (suc q)) ≤ q + suc k
     go true l = omega arith
     go false l = omega arith
-
-pub chosen-hit : (f : ℕ → ℕ) (i : ℕ) → f (chosen f i) < f i → chosen f (i + 1) ≡ i
-unfolding chosen
-chosen-hit f i h = rw (add-one i) (rw (lt-ltb (f (chosen f i)) (f i) h))
-
-pub chosen-miss : (f : ℕ → ℕ) (i : ℕ) → f i ≤ f (chosen f i) → chosen f (i + 1) ≡ chosen f i
-unfolding chosen
-chosen-miss f i h = rw (add-one i) (rw (le-ltb (f (chosen f i)) (f i) h))
-
-pub chosen-le : (f : ℕ → ℕ) (n : ℕ) → chosen f n ≤ n
-unfolding chosen
-chosen-le f zero = le-refl 0
-chosen-le f (suc n) = go (ltb (f (chosen f n)) (f n)) (chosen-le f n)
-  where
-    go : (t : Bool) → chosen f n ≤ n → cond t n (chosen f n) ≤ suc n
-    go true l = le-suc n
-    go false l = le-step l
-
-pub chosen-lt : (f : ℕ → ℕ) (n : ℕ) → 0 < n → chosen f n < n
-unfolding chosen
-chosen-lt f zero h = h
-chosen-lt f (suc n) h = go (ltb (f (chosen f n)) (f n))
-  where
-    go : (t : Bool) → cond t n (chosen f n) < suc n
-    go true = le-refl (suc n)
-    go false = suc-le-suc (chosen-le f n)

@@ -1,5 +1,5 @@
 -- The row in which an execution is marked is one of the table's 64, whatever the marks are. A row that is found is one of the
--- bank's, and so is the one chosen to be evicted; where it stalls the row is 0. By cases on what is found.
+-- bank's, and so is the one found to be evicted; where it stalls the row is 0. By cases on what is found.
 -- Assumes nothing.
 use mathlib.Core.Bool.{Bool, true, false, cond}
 use mathlib.Core.List.{List}
@@ -8,8 +8,8 @@ use Prim.Native.Nat.{ℕ, zero, suc, _+_, _-_, _*_, _≤_, _<_}
 use native.Mathlib.Omega.{arith}
 use lib.Dec.{eqb, ltb, eqb·suc-zero}
 use Rattle.lookup.specs.declared.Place.{Place}
-use Rattle.lookup.specs.computed.Search.{find, chosen, free, belongs, bankMark, evicted, allocatedRow, placeFor}
-use Rattle.lookup.proofs.Loops.{chosen-lt}
+use Rattle.lookup.specs.computed.Search.{find, free, belongs, bankMark, opened, evicted, allocatedRow, placeFor}
+use Rattle.lookup.proofs.Loops.{find-le}
 use Rattle.lookup.proofs.Finds.{find-at}
 
 abbrev placed : ℕ → ℕ → Place
@@ -28,19 +28,19 @@ module _ (b rows : ℕ) (bank : b < 8) (some : 0 < rows) (most : rows ≤ 8) whe
       go zero e = h
       go (suc i) e = let w = find-at f rows i e in rw (eqb·suc-zero i) (omega arith)
 
-  evicted-row : (f : ℕ → ℕ) (m p : ℕ) → cond (ltb p m) (placed (b * 8 + chosen f rows) m) (placed 0 0) .row < 64
-  evicted-row f m p = go (ltb p m)
+  evicted-row : (f : ℕ → Bool) (m k p : ℕ) → cond (ltb (suc p) k) (placed (b * 8 + (find f rows - 1)) m) (placed 0 0) .row < 64
+  evicted-row f m k p = go (ltb (suc p) k)
     where
-      go : (t : Bool) → cond t (placed (b * 8 + chosen f rows) m) (placed 0 0) .row < 64
-      go true = let w = chosen-lt f rows some in omega arith
+      go : (t : Bool) → cond t (placed (b * 8 + (find f rows - 1)) m) (placed 0 0) .row < 64
+      go true = let w = find-le f rows in omega arith
       go false = omega arith
 
 pub place-row : (o n live rows : ℕ) (addresses loads stores : List ℕ) (b a p : ℕ) → b < 8 → 0 < rows → rows ≤ 8
     → placeFor o n live rows addresses loads stores b a p .row < 64
 place-row o n live rows addresses loads stores b a p bank some most =
-    let mark = bankMark o n live loads stores b in
+    let k = find (opened o n live rows loads stores b) live in
     let gone = evicted o n live rows loads stores b p in
     let room = allocatedRow o n live rows loads stores b p in
     found-row b rows bank some most room live (belongs addresses loads stores b a)
     (found-row b rows bank some most gone live (free loads stores b)
-    (evicted-row b rows bank some most mark (mark (chosen mark rows)) p))
+    (evicted-row b rows bank some most (λ (i : ℕ). eqb (bankMark o n live loads stores b i) (k - 1)) (k - 1) k p))

@@ -10,37 +10,35 @@ ghost use Prim.Native.Nat.{_-_, _≤_, _<_};
 ghost use lib.ListN.{length};
 ghost use Rattle.table.specs.Limits.{banksMost, rowsMost, stagesMost, slots};
 ghost use Rattle.table.specs.Bank.{bank};
-ghost use Rattle.table.specs.computed.Check.{marksOf};
 ghost use Rattle.lookup.specs.computed.Search.{
   find,
-  chosen,
   free,
-  oldestMark,
-  bankMark,
+  bankMarks,
+  openedAt,
+  evicted,
   allocatedRow,
   rowOf,
   placeFor,
   leftAfter,
 };
 
-// The position of the oldest mark of row `r`; `live` where it has none.
-fn row_mark<'a>(
-    oldest: usize,
-    stages: usize,
-    live: usize,
-    loads: &'a [u32; SLOTS],
-    stores: &'a [u32; SLOTS],
-    r: usize,
-) -> usize
-    requires { ⌜ (oldest < stages) × (live ≤ stages) × (stages ≤ stagesMost) × (r < slots) ⌝ }
-    requires { ⌜ (length (now loads) ≡ slots) × (length (now stores) ≡ slots) ⌝ }
-    ensures { λ m. ⌜ m ≡ oldestMark oldest stages live (marksOf (now (loads .entry)) (now (stores .entry)) r) ⌝ }
+// The marks of bank `b`, as one set of stages.
+fn bank_marks<'a>(rows: usize, loads: &'a [u32; SLOTS], stores: &'a [u32; SLOTS], b: usize) -> u32
+    requires { ⌜ (rows ≤ rowsMost) × (b < banksMost) × (length (now loads) ≡ slots) × (length (now stores) ≡ slots) ⌝ }
+    ensures { λ w. ⌜ w ≡ bankMarks (now (loads .entry)) (now (stores .entry)) b rows ⌝ }
 {
-    lookup_marks::next_mark(oldest, stages, live, loads[r] | stores[r], 0)
+    let mut set = 0;
+    let mut i = 0;
+    while i < rows {
+        let r = b * ROWS + i;
+        set = set | (loads[r] | stores[r]);
+        i += 1;
+    }
+    set
 }
 
-// The place in bank `b` of the row whose oldest mark is youngest.
-fn youngest_row<'a>(
+// One more than the place in bank `b` of the row whose oldest mark is at position `q`, or 0.
+fn row_opened<'a>(
     oldest: usize,
     stages: usize,
     live: usize,
@@ -48,24 +46,59 @@ fn youngest_row<'a>(
     loads: &'a [u32; SLOTS],
     stores: &'a [u32; SLOTS],
     b: usize,
+    q: usize,
 ) -> usize
-    requires { ⌜ (oldest < stages) × (live ≤ stages) × (stages ≤ stagesMost)
-        × (0 < rows) × (rows ≤ rowsMost) × (b < banksMost) ⌝ }
+    requires { ⌜ (oldest < stages) × (live ≤ stages) × (stages ≤ stagesMost) × (q < live) × (rows ≤ rowsMost) × (b < banksMost) ⌝ }
     requires { ⌜ (length (now loads) ≡ slots) × (length (now stores) ≡ slots) ⌝ }
-    ensures { λ r. ⌜ (r < rows) × (r ≡ chosen (bankMark oldest stages live (now (loads .entry)) (now (stores .entry)) b) rows) ⌝ }
+    ensures { λ r. ⌜ (r ≤ rows) × (r ≡ openedAt oldest stages live rows (now (loads .entry)) (now (stores .entry)) b q) ⌝ }
 {
-    let mut best = 0;
-    let mut mark = row_mark(oldest, stages, live, loads, stores, b * ROWS);
-    let mut i = 1;
-    while i < rows {
-        let m = row_mark(oldest, stages, live, loads, stores, b * ROWS + i);
-        if mark < m {
-            best = i;
-            mark = m;
+    let older = marks::first_stages(oldest, stages, q);
+    let s = marks::stage_at(oldest, stages, q);
+    let mut i = rows;
+    while 0 < i {
+        let r = b * ROWS + (i - 1);
+        let set = loads[r] | stores[r];
+        if marks::contains(set, s) & ((set & older) == 0) {
+            return i;
         }
-        i += 1;
+        i -= 1;
     }
-    best
+    0
+}
+
+// The row of bank `b` to evict for a reference at position `p`: the marked positions are looked at from the youngest down to
+// `p`, and the first that is the oldest mark of a row decides.
+fn evict_row<'a>(
+    oldest: usize,
+    stages: usize,
+    live: usize,
+    rows: usize,
+    loads: &'a [u32; SLOTS],
+    stores: &'a [u32; SLOTS],
+    b: usize,
+    p: usize,
+) -> Place
+    requires { ⌜ (oldest < stages) × (live ≤ stages) × (stages ≤ stagesMost) × (rows ≤ rowsMost) × (b < banksMost) ⌝ }
+    requires { ⌜ (length (now loads) ≡ slots) × (length (now stores) ≡ slots) ⌝ }
+    ensures { λ r. ⌜ r ≡ evicted oldest stages live rows (now (loads .entry)) (now (stores .entry)) b p ⌝ }
+{
+    let set = bank_marks(rows, loads, stores, b);
+    let mut left = marks::turned(oldest, stages, live, set);
+    while 0 < left {
+        let q = marks::highest(left);
+        if q <= p {
+            return Place { row: 0, left: 0 };
+        }
+        let i = row_opened(oldest, stages, live, rows, loads, stores, b, q);
+        if i != 0 {
+            return Place {
+                row: b * ROWS + (i - 1),
+                left: q,
+            };
+        }
+        left = marks::excluding(left, q);
+    }
+    Place { row: 0, left: 0 }
 }
 
 // One more than the place in bank `b` of a free row, or 0.
@@ -95,8 +128,7 @@ pub fn take_row<'a>(
     b: usize,
     p: usize,
 ) -> Place
-    requires { ⌜ (oldest < stages) × (live ≤ stages) × (stages ≤ stagesMost)
-        × (0 < rows) × (rows ≤ rowsMost) × (b < banksMost) ⌝ }
+    requires { ⌜ (oldest < stages) × (live ≤ stages) × (stages ≤ stagesMost) × (rows ≤ rowsMost) × (b < banksMost) ⌝ }
     requires { ⌜ (length (now loads) ≡ slots) × (length (now stores) ≡ slots) ⌝ }
     ensures { λ r. ⌜ r ≡ allocatedRow oldest stages live rows (now (loads .entry)) (now (stores .entry)) b p ⌝ }
 {
@@ -107,13 +139,7 @@ pub fn take_row<'a>(
             left: live,
         };
     }
-    let y = youngest_row(oldest, stages, live, rows, loads, stores, b);
-    let r = b * ROWS + y;
-    let m = row_mark(oldest, stages, live, loads, stores, r);
-    if p < m {
-        return Place { row: r, left: m };
-    }
-    Place { row: 0, left: 0 }
+    evict_row(oldest, stages, live, rows, loads, stores, b, p)
 }
 
 // One more than the place in bank `b` of the row of address `a`, or 0.

@@ -4,15 +4,16 @@
 -- Assumes nothing.
 use mathlib.Core.Bool.{Bool, true, false, _&&_, _||_, true≢false}
 use mathlib.Core.Path.{_≡_, refl, sym, ap, ap₂, _∙_}
-use Prim.Native.Nat.{ℕ, zero, suc, _/_, _%_, _^_, _≤_, _<_}
+use Prim.Native.Nat.{ℕ, zero, suc, _*_, _/_, _%_, _^_, _≤_, _<_}
 use native.Mathlib.Nat.{zero-div, div-one, div-eq-of-lt, mul-div-cancel, mul-mod-left, pow-suc, mod-lt}
-use native.Mathlib.Nat.{zero-lt-suc, lt-of-lt-of-le, le-of-suc-le-suc, not-suc-le-zero}
+use native.Mathlib.Nat.{zero-lt-suc, lt-of-lt-of-le, le-of-suc-le-suc, not-suc-le-zero, lt-of-not-le, le-refl}
+use native.Mathlib.Nat.{one-mul, mod-eq-of-lt}
 use native.Mathlib.Numerals.{one-add}
 use native.Mathlib.Omega.{arith}
 use lib.Arith.{bin-ind}
 use lib.Bits.{bitAnd, bitOr, and-shr, or-shr, and-mod, or-mod}
 use lib.Dec.{eqb, eqb·zero-suc, eqb·suc-zero, eqb·suc-suc}
-use lib.Pow.{pow-mono, shr-shr}
+use lib.Pow.{pow-lt, pow-mono, shr-shr}
 use Rattle.marks.specs.Stages.{has}
 
 -- a test that cannot pass fails
@@ -118,6 +119,14 @@ member =
 -- a word below 2 ^ m is a set of stages below m, and the other way round
 pub has-small : (w m k : ℕ) → w < 2 ^ m → m ≤ k → has w k ≡ false
 has-small w m k h l = ap (λ (x : ℕ). eqb (x % 2) 1) (div-eq-of-lt (lt-of-lt-of-le h (pow-mono l)))
+
+-- a member's bit is part of the word
+pub has-least : (w k : ℕ) → has w k ≡ true → 2 ^ k ≤ w
+has-least w k e = le-of-suc-le-suc (lt-of-not-le (λ l. true≢false (sym e ∙ has-small w k k l (le-refl k))))
+
+-- the word of one stage, in w bits
+pub one-up : (w k : ℕ) → k < w → 1 * 2 ^ k % 2 ^ w ≡ 2 ^ k
+one-up w k h = ap (λ (x : ℕ). x % 2 ^ w) (one-mul (2 ^ k)) ∙ mod-eq-of-lt (pow-lt h)
 
 pub small-set : (w m : ℕ) → ((k : ℕ) → has w k ≡ true → k < m) → w < 2 ^ m
 small-set w zero h = let z : w ≡ 0 = empty-set w (λ k. fails (has w k) (λ e. not-suc-le-zero (h k e))) in omega arith

@@ -1,7 +1,8 @@
 -- The circle of stages: stage and position are inverse below n, and the set of the first k positions has their stages.
 -- Either position p does not go past the last stage, and its stage is o + p, or it does, and its stage + n is o + p
--- (At, turn); so too for a position (back). The laws of the two are these cases and linear arithmetic. Assumes nothing.
-use mathlib.Core.Bool.{Bool, true, false, _||_, or-true}
+-- (At, turn); so too for a position (back). The laws of the two are these cases and linear arithmetic. A set of stages as a
+-- set of positions has a position where the set has its stage (turned-has). Assumes nothing.
+use mathlib.Core.Bool.{Bool, true, false, cond, _&&_, _||_, or-true, or-false, and-true, and-false}
 use mathlib.Core.Logic.{_⊎_, inl, inr, ⊎-elim}
 use mathlib.Core.Path.{_≡_, refl, sym, ap, ap₂, _∙_}
 use Prim.Native.Nat.{ℕ, zero, suc, _+_, _^_, _≤_, _<_}
@@ -11,7 +12,7 @@ use lib.Bits.{or-lt}
 use lib.Dec.{ltb, leb, eqb}
 use lib.Pow.{pow-lt, pow-pos}
 use borrow.Author.Tests.{ltb-true, ltb-false, leb-true, leb-false, lt-ltb, le-ltb, eq-eqb, ne-eqb}
-use Rattle.marks.specs.Circle.{stage, position, firsts}
+use Rattle.marks.specs.Circle.{stage, position, firsts, turned}
 use Rattle.marks.specs.Stages.{has}
 use Rattle.marks.proofs.Sets.{has-or, has-one, has-zero, has-small}
 
@@ -110,3 +111,37 @@ module _ (o n : ℕ) (start : o < n) where
 
   pub firsts-out : (k s : ℕ) → k ≤ n → n ≤ s → has (firsts o n k) s ≡ false
   firsts-out k s h l = has-small (firsts o n k) n s (firsts-lt k h) l
+
+module _ (o n w : ℕ) where
+  one-more : (t : Bool) (k p : ℕ) → has (cond t (2 ^ k) 0) p ≡ (t && eqb k p)
+  one-more true k p = has-one k p
+  one-more false k p = has-zero p
+
+  pub turned-has : (k p : ℕ) → has (turned o n w k) p ≡ (ltb p k && has w (stage o n p))
+  unfolding turned
+  turned-has zero p = has-zero p ∙ ap (λ (t : Bool). t && has w (stage o n p)) (sym (le-ltb p 0 (omega arith)))
+  turned-has (suc k) p =
+      has-or (turned o n w k) (cond (has w (stage o n k)) (2 ^ k) 0) p
+      ∙ ap₂ _||_ (turned-has k p) (one-more (has w (stage o n k)) k p)
+      ∙ go (ltb p (suc k)) refl
+    where
+      in-set : ℕ → Bool
+      in-set q = has w (stage o n q)
+
+      go : (t : Bool) → ltb p (suc k) ≡ t → (ltb p k && has w (stage o n p) || has w (stage o n k) && eqb k p) ≡ (t && has w (stage o n p))
+      go true e =
+          ⊎-elim
+          (λ (q : p ≡ k).
+          ap₂ (λ (t u : Bool). t && has w (stage o n p) || has w (stage o n k) && u)
+          (le-ltb p k (omega arith)) (eq-eqb k p (sym q))
+          ∙ and-true (has w (stage o n k)) ∙ ap (λ (x : ℕ). has w (stage o n x)) (sym q))
+          (λ (q : p < k).
+          ap₂ (λ (t u : Bool). t && has w (stage o n p) || has w (stage o n k) && u)
+          (lt-ltb p k q) (ne-eqb k p (λ z. omega arith))
+          ∙ ap (λ (t : Bool). has w (stage o n p) || t) (and-false (has w (stage o n k))) ∙ or-false (has w (stage o n p)))
+          (eq-or-lt-of-le (le-of-suc-le-suc (ltb-true p (suc k) e)))
+      go false e =
+          let l : suc k ≤ p = ltb-false p (suc k) e in
+          ap₂ (λ (t u : Bool). t && has w (stage o n p) || has w (stage o n k) && u)
+          (le-ltb p k (omega arith)) (ne-eqb k p (λ z. omega arith))
+          ∙ and-false (has w (stage o n k))

@@ -27,11 +27,6 @@ unfoldable pub seek : (ℕ → Bool) → ℕ → ℕ → ℕ
 seek f zero q = q
 seek f (suc k) q = cond (f q) q (seek f k (suc q))
 
--- the number below n with the largest f
-unfoldable pub chosen : (ℕ → ℕ) → ℕ → ℕ
-chosen f zero = 0
-chosen f (suc n) = cond (ltb (f (chosen f n)) (f n)) n (chosen f n)
-
 -- the i-th row of bank b bears marks and belongs to address a
 abbrev pub belongs : List ℕ → List ℕ → List ℕ → ℕ → ℕ → ℕ → Bool
 belongs addresses loads stores b a i =
@@ -78,13 +73,28 @@ oldestMark o n live marks = seek (marked o n marks) live 0
 abbrev pub bankMark : ℕ → ℕ → ℕ → List ℕ → List ℕ → ℕ → ℕ → ℕ
 bankMark o n live loads stores b i = oldestMark o n live (marksOf loads stores (b * rowsMost + i))
 
--- The row whose oldest mark is youngest, for a reference at position p: it is evicted if that mark is younger, and the
--- references before it stay; else the reference stalls.
+-- the marks of the first k rows of bank b, as one set
+unfoldable pub bankMarks : List ℕ → List ℕ → ℕ → ℕ → ℕ
+bankMarks loads stores b zero = 0
+bankMarks loads stores b (suc k) = bitOr (bankMarks loads stores b k) (marksOf loads stores (b * rowsMost + k))
+
+-- one more than the place in bank b of the row whose oldest mark is at position q; 0 where no row has it there
+abbrev pub openedAt : ℕ → ℕ → ℕ → ℕ → List ℕ → List ℕ → ℕ → ℕ → ℕ
+openedAt o n live rows loads stores b q = find (λ (i : ℕ). eqb (bankMark o n live loads stores b i) q) rows
+
+-- position q is the oldest mark of a row of bank b
+abbrev pub opened : ℕ → ℕ → ℕ → ℕ → List ℕ → List ℕ → ℕ → ℕ → Bool
+opened o n live rows loads stores b q = not (eqb (openedAt o n live rows loads stores b q) 0)
+
+-- The search for a row to evict, for a reference at position p, goes from the youngest position down: the first that is the
+-- oldest mark of a row decides. The row is evicted if that mark is younger than p, and the references before it stay; else the
+-- reference stalls.
 abbrev pub evicted : ℕ → ℕ → ℕ → ℕ → List ℕ → List ℕ → ℕ → ℕ → Place
 evicted o n live rows loads stores b p =
-    let i = chosen (bankMark o n live loads stores b) rows in
-    let m = bankMark o n live loads stores b i in
-    cond (ltb p m) (record { row = b * rowsMost + i; left = m }) (record { row = 0; left = 0 })
+    let k = find (opened o n live rows loads stores b) live in
+    cond (ltb (suc p) k)
+    (record { row = b * rowsMost + (openedAt o n live rows loads stores b (k - 1) - 1); left = k - 1 })
+    (record { row = 0; left = 0 })
 
 -- a row of bank b for an address that has none
 abbrev pub allocatedRow : ℕ → ℕ → ℕ → ℕ → List ℕ → List ℕ → ℕ → ℕ → Place
