@@ -8,16 +8,16 @@
 use mathlib.Core.Bool.{Bool, true, false, cond, not, _&&_, _||_, true≢false, or-true}
 use mathlib.Core.List.{List}
 use mathlib.Core.Logic.{_⊎_, inl, inr, ⊎-elim}
-use mathlib.Core.Path.{_≡_, refl, sym, ap, subst, _∙_}
+use mathlib.Core.Path.{_≡_, refl, sym, ap, ap₂, subst, _∙_}
 use Prim.Native.Nat.{ℕ, zero, suc, _+_, _-_, _*_, _^_, _≤_, _<_, zero-le}
 use native.Mathlib.Nat.{not-suc-le-zero, le-of-suc-le-suc, eq-or-lt-of-le, le-refl}
 use native.Mathlib.Numerals.{add-one}
 use native.Mathlib.Omega.{arith}
-use lib.Bits.{bitOr}
+use lib.Bits.{bitAnd, bitOr}
 use lib.Dec.{eqb, ltb, eqb·suc-zero}
 use lib.Pow.{pow-pos}
 use borrow.Author.Tests.{ltb-true, ltb-false, lt-ltb, le-ltb, eqb-true, eq-eqb, ne-eqb}
-use Rattle.marks.specs.Circle.{stage, turned}
+use Rattle.marks.specs.Circle.{stage, firsts, turned}
 use Rattle.marks.specs.Counting.{last}
 use Rattle.marks.specs.Stages.{has}
 use Rattle.marks.proofs.Sets.{has-or, has-zero, has-least}
@@ -30,9 +30,9 @@ use Rattle.table.specs.Rules.{Rules}
 use Rattle.lookup.specs.declared.Place.{Place}
 use Rattle.lookup.specs.Chosen.{OldestAt, IsChosen, firstMark, chosen, chosenRow}
 use Rattle.lookup.specs.computed.Search.{find, marked, bankMark, bankMarks, openedAt, opened, evicted}
-use Rattle.lookup.proofs.Loops.{Finding, finding-all, finding-hit, finding-jump, find-none, find-le}
+use Rattle.lookup.proofs.Loops.{Finding, finding-all, finding-hit, finding-miss, finding-jump, find-none, find-le}
 use Rattle.lookup.proofs.Finds.{find-zero, find-at, seek-at, chosen-lt, chosen-most}
-use Rattle.lookup.proofs.Oldest.{freeIn, first-mark, first-is, first-apart, size}
+use Rattle.lookup.proofs.Oldest.{oldest-test, freeIn, first-mark, first-is, first-apart, size}
 
 abbrev placed : ℕ → ℕ → Place
 placed r k = record { row = r; left = k }
@@ -73,6 +73,46 @@ module _ (o n live rows : ℕ) (loads stores : List ℕ) (b : ℕ) where
   -- the marked positions of the bank below k
   abbrev marksBelow : ℕ → ℕ
   marksBelow = turned o n (bankMarks loads stores b rows)
+
+  -- The search for the row whose oldest mark is at q, come to place i of the bank; s is q's stage, and `older` has the stages
+  -- before it.
+  pub record Opening (q older s i : ℕ) : Type 0 where
+    pub start : o < n
+    pub fits : live ≤ n
+    pub within : q < live
+    pub stages-before : older ≡ firsts o n q
+    pub stage-is : s ≡ stage o n q
+    pub finding : Finding (λ (j : ℕ). eqb (bankMark o n live loads stores b j) q) rows i
+
+  module _ {q older s i : ℕ} (opening : Opening q older s i) where
+    abbrev marksThere : ℕ
+    marksThere = marksOf loads stores (b * rowsMost + (i - 1))
+
+    -- the code's test of the row before place i
+    row-test : {at t : Bool} → at ≡ has marksThere s → (at && eqb (bitAnd marksThere older) 0) ≡ t
+        → eqb (bankMark o n live loads stores b (i - 1)) q ≡ t
+    row-test e f =
+        sym (oldest-test o n live marksThere q (opening .start) (opening .fits) (opening .within))
+        ∙ sym
+        (ap₂ (λ (u : Bool) (x : ℕ). u && eqb (bitAnd marksThere x) 0) (e ∙ ap (has marksThere) (opening .stage-is))
+        (opening .stages-before))
+        ∙ f
+
+    pub opening-hit : {at : Bool} → 0 < i → at ≡ has marksThere s → (at && eqb (bitAnd marksThere older) 0) ≡ true
+        → (i ≤ rows) × (i ≡ rowAt q)
+    opening-hit h e f = finding-hit (opening .finding) h (row-test e f)
+
+    pub opening-miss : {at : Bool} → 0 < i → at ≡ has marksThere s → (at && eqb (bitAnd marksThere older) 0) ≡ false
+        → Opening q older s (i - 1)
+    opening-miss h e f =
+        record {
+          start = opening .start;
+          fits = opening .fits;
+          within = opening .within;
+          stages-before = opening .stages-before;
+          stage-is = opening .stage-is;
+          finding = finding-miss (opening .finding) h (row-test e f);
+        }
 
   -- no row has its oldest mark at q
   no-row : (q : ℕ) → ((i : ℕ) → i < rows → bankMark o n live loads stores b i ≡ q → ⊥) → opens q ≡ false
