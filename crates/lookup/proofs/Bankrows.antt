@@ -7,15 +7,13 @@
 -- (most). A row taken for an address without one has no mark among the references that stay. Assumes nothing.
 use mathlib.Core.Bool.{Bool, true, false, cond, not, _&&_, true≢false, and-eq-true-iff, not-eq-not}
 use mathlib.Core.Path.{_≡_, refl, sym, ap, ap₂, subst, _∙_}
-use Prim.Native.Nat.{ℕ, zero, suc, _+_, _-_, _*_, _/_, _%_, _≤_, _<_, zero-le}
+use Prim.Native.Nat.{ℕ, zero, suc, _+_, _-_, _*_, _/_, _%_, _≤_, _<_}
 use native.Mathlib.Nat.{lt-of-not-le, le-refl}
 use native.Mathlib.Omega.{arith}
 use lib.Dec.{eqb, ltb, eqb·suc-zero}
-use lib.ListN.{length, take, getD}
-use borrow.Author.Tests.{ltb-true, lt-ltb, le-ltb, eqb-true, eqb-false, eq-eqb, not-true}
+use lib.ListN.{length, take}
+use borrow.Author.Tests.{ltb-true, lt-ltb, le-ltb, eqb-true, eq-eqb, not-true}
 use Rattle.marks.specs.Counting.{count}
-use Rattle.marks.specs.Stages.{has}
-use Rattle.marks.proofs.Sets.{has-or, has-zero, member}
 use Rattle.marks.proofs.Counts.{count-into, count-short, count-some}
 use Rattle.table.specs.declared.Table.{Table}
 use Rattle.table.specs.Limits.{rowsMost, rowsIn}
@@ -24,7 +22,7 @@ use Rattle.table.specs.computed.Check.{marksOf}
 use Rattle.table.specs.Reference.{Fate, waiting, other, fateOf, at}
 use Rattle.table.specs.Rules.{Rules}
 use Rattle.table.specs.View.{stageOf, address, mark, access, fateAt, view}
-use Rattle.table.proofs.Sizes.{Sizes, sizes, bank-lt}
+use Rattle.table.proofs.Sizes.{bank-lt}
 use Rattle.table.proofs.Fates.{Fated, waits, bare, marks, fated, fate-marked, fate-other, fate-waiting, length-refs, at-refs}
 use Rattle.table.proofs.Owning.{RowFor, row-of-mark, mark-position}
 use Rattle.lookup.specs.declared.Place.{Place}

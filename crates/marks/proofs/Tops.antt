@@ -3,16 +3,16 @@
 -- on make the word's width, so the leading zeros tell j (highest-is). The highest position in the set of the first k positions
 -- whose stage is in x is the youngest of them; none is between it and k, and without it the set is that of the first j (falls).
 -- Assumes nothing.
-use mathlib.Core.Bool.{Bool, true, false, cond, _&&_, true≢false, and-eq-true-iff, and-false}
+use mathlib.Core.Bool.{Bool, true, false, cond, _&&_, true≢false, and-eq-true-iff}
 use mathlib.Core.Path.{_≡_, refl, sym, ap, ap₂, _∙_}
-use Prim.Native.Nat.{ℕ, suc, _+_, _-_, _*_, _^_, _≤_, _<_}
-use native.Mathlib.Nat.{lt-of-not-le, ne-of-lt, one-mul}
+use Prim.Native.Nat.{ℕ, suc, _+_, _-_, _^_, _≤_, _<_}
+use native.Mathlib.Nat.{lt-of-not-le, one-mul}
 use native.Mathlib.Omega.{arith}
 use lib.Arith.{lt-of-le-ne}
 use lib.Bits.{bitOr, or-shifted-r}
 use lib.Count.{leadingZeros, leading-top}
 use lib.Dec.{ltb}
-use borrow.Author.Tests.{ltb-true, ltb-false, lt-ltb, le-ltb}
+use borrow.Author.Tests.{ltb-true, ltb-false, lt-ltb}
 use Rattle.marks.specs.Circle.{stage, turned}
 use Rattle.marks.specs.Counting.{last}
 use Rattle.marks.specs.Stages.{has}
