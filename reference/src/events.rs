@@ -1,5 +1,6 @@
 //! Counters of what scripts reach. Each kind has a name; most are members of a family with a number or two.
 
+use crate::walks;
 use crate::window::{Code, CODES, LOADS, PARTS, STORES};
 use std::collections::HashMap;
 use std::sync::OnceLock;
@@ -267,6 +268,7 @@ fn all() -> Vec<String> {
     for side in ["lower", "upper"] {
         names.extend([8, 16, 31].map(|bits| format!("violation, {bits} {side} bits are alike")));
     }
+    names.extend(walks::kinds());
     names.extend(BANKS.map(|banks| format!("size B {banks}")));
     names.extend((1..=8).map(|rows| format!("size R {rows}")));
     names.extend([1, 4096].map(|words| format!("size W {words}")));

@@ -1,7 +1,8 @@
-//! Scripts from a seed: full banks, pairs at both ends of a window, words over every distance, loads executed again,
-//! stores of the word already there and of nearly that word, parts of words at the end of memory and at odd places, lines
-//! spoiled by every byte, in every way and by every limit, huge ones, long programs, short scripts that probe windows
-//! before they finish, and malformed ones.
+//! Scripts from a seed: full banks, and full banks searched from the tail in every turn of a window, pairs at
+//! both ends of a window, words over every distance, loads executed again, stores of the word already there
+//! and of nearly that word, parts of words at the end of memory and at odd places, lines spoiled by every
+//! byte, in every way and by every limit, huge ones, long programs, short scripts that probe windows before
+//! they finish, and malformed ones.
 
 use crate::events::{BANKS, WAYS};
 use crate::far::{again, far, CAUSES};
@@ -12,12 +13,14 @@ use crate::reach::{cut_positions, edge, full_bank, guarded, pair, EDGES, PAIRS};
 use crate::rules::MOST_INSTRUCTIONS;
 use crate::same::{amiss, same, unlike};
 use crate::spoil::{just_beyond, spoil, spoil_by, spoil_line, BEYOND, SPOILED_LINES};
+use crate::tail::tail;
 use crate::taste::Taste;
 use crate::text::{Line, Step};
 use crate::window::{Instruction, Sizes, LOADS, STORES};
 
-/// So many seeds in a row reach every table, every long pair, every distance of a word and of a kept load, every limit,
-/// every spoiled line and every byte, this in one of its ways.
+/// So many seeds in a row reach every table, every long pair, every distance of a word and of a kept load,
+/// every limit, every spoiled line and every byte, this in one of its ways. Three times as many reach every
+/// turn of a window.
 const ROUND: u64 = 1000;
 /// How many texts `slight` knows.
 const SLIGHT: usize = 8;
@@ -31,27 +34,28 @@ pub fn generate(seed: u64) -> Vec<u8> {
             let (draft, way) = (Draft::probing(random), WAYS[(seed / ROUND % 3) as usize]);
             spoil_by(random, draft, way, turn as u8)
         }
-        256..=383 => full_bank(random, BANKS[turn % 4], 1 + (turn / 4 % 8) as u32).text(),
-        384..=479 => pair(random, PAIRS[turn % 4], 4 + turn / 4 % 12).text(),
-        480..=489 => cut_positions(random).text(),
-        490..=529 => {
+        256..=319 => full_bank(random, BANKS[turn % 4], 1 + (turn / 4 % 8) as u32).text(),
+        320..=409 => tail(random, turn - 320 + 90 * (seed / ROUND % 3) as usize).text(),
+        410..=505 => pair(random, PAIRS[turn % 4], 4 + turn / 4 % 12).text(),
+        506..=515 => cut_positions(random).text(),
+        516..=555 => {
             let draft = Draft::probing(random);
             just_beyond(random, draft, turn % BEYOND)
         }
-        530..=584 => edge(random, turn % EDGES).text(),
-        585..=602 => guarded(random, STORES[turn % 3], LOADS[turn / 3 % 3]).text(),
-        603..=647 => far(random, STORES[turn % 3], 1 + turn / 3 % 15, seed / ROUND % 3).text(),
-        648..=707 => again(random, CAUSES[turn % 3]).text(),
-        708..=747 => {
+        556..=610 => edge(random, turn % EDGES).text(),
+        611..=628 => guarded(random, STORES[turn % 3], LOADS[turn / 3 % 3]).text(),
+        629..=673 => far(random, STORES[turn % 3], 1 + turn / 3 % 15, seed / ROUND % 3).text(),
+        674..=733 => again(random, CAUSES[turn % 3]).text(),
+        734..=773 => {
             let draft = Draft::probing(random);
             spoil_line(random, draft, turn % SPOILED_LINES)
         }
-        748..=753 => huge(random, turn % 2),
-        754..=759 => crowded(random, MOST_INSTRUCTIONS + turn % 2),
-        760..=804 => same(random, STORES[turn % 3], 1 + turn / 3 % 15, (seed / ROUND % 3) as usize).text(),
-        805..=840 => unlike(random, STORES[turn % 3]).text(),
-        841..=849 => amiss(random, turn % 9).text(),
-        850..=857 => slight(random, turn % SLIGHT),
+        774..=779 => huge(random, turn % 2),
+        780..=785 => crowded(random, MOST_INSTRUCTIONS + turn % 2),
+        786..=830 => same(random, STORES[turn % 3], 1 + turn / 3 % 15, (seed / ROUND % 3) as usize).text(),
+        831..=866 => unlike(random, STORES[turn % 3]).text(),
+        867..=875 => amiss(random, turn % 9).text(),
+        876..=883 => slight(random, turn % SLIGHT),
         _ => any(random),
     }
 }

@@ -21,8 +21,10 @@ pub mod same;
 pub mod shrink;
 pub mod sights;
 pub mod spoil;
+pub mod tail;
 pub mod taste;
 pub mod text;
+pub mod walks;
 pub mod watch;
 pub mod window;
 

@@ -6,6 +6,7 @@ use crate::machine::{Executed, Machine};
 use crate::player::play;
 use crate::rules::{Rules, Stated};
 use crate::text::{parse, Line};
+use crate::walks::Walk;
 use crate::watch::watch;
 use crate::window::{Access, Code, Fate, Sizes};
 
@@ -108,6 +109,38 @@ fn evictions() {
 fn row_with_an_older_mark_stays() {
     let mut machine = machine(1, 4, "L,1,0,5 L,2,0,6 L,3,0,5", 0);
     assert_eq!((machine.execute(0), machine.execute(2), machine.execute(1)), (took(0), took(0), Err(10)));
+}
+
+/// The rows of the two youngest marks have older ones; the third mark, past the wrap, is its row's oldest.
+#[test]
+fn evictions_from_the_tail() {
+    let program = "A,1,0,1 A,1,0,1 A,1,0,1 A,2,0,2 L,3,0,0 L,4,0,8 A,5,0,5 L,6,0,16 L,7,0,16 L,6,0,8";
+    let mut machine = machine(2, 7, program, 3);
+    for k in [2, 6, 4, 5] {
+        assert_eq!(machine.execute(k), took(0));
+    }
+    let walk = Walk::new(&machine.window, 1, 0);
+    assert_eq!((walk.looked.as_slice(), walk.found()), ([6, 5, 4].as_slice(), Some(4)));
+    assert_eq!((machine.window.stage(3), machine.window.stage(4)), (6, 0));
+    assert_eq!(machine.execute(1), squashed_from(4));
+}
+
+#[test]
+fn evictions_from_the_tail_as_scripts() {
+    let examples = [
+        (
+            "N,1,2,7,64 A,1,0,1 A,1,0,1 A,1,0,1 A,2,0,2 L,3,0,0 L,4,0,8 A,5,0,5 L,6,0,16 L,7,0,16 L,6,0,8 \
+             x,3 i i i i i i i e,2 e,6 e,4 e,5 e,1 e,0 c c c e,0 c c",
+            "0,A,1,1 1,A,1,1 2,A,1,1 3,A,2,2 f,4,0 4,L,3,0 f,5,0 5,L,4,0 6,A,5,5 end,open,7",
+        ),
+        (
+            "N,1,2,3,60 A,1,0,1 L,2,0,16 L,2,0,8 B,1,0,3 x,1 i i i e,1 e,2 e,0 c c c",
+            "0,A,1,1 f,1,0 1,L,2,0 f,2,0 2,L,2,0 end,open,3",
+        ),
+    ];
+    for (lines, output) in examples {
+        assert_eq!(played(lines), output, "{lines}");
+    }
 }
 
 #[test]

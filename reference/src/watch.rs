@@ -11,6 +11,7 @@ use crate::player::{play_by, Printed, LONGEST};
 use crate::rules::{Rules, MOST_INSTRUCTIONS};
 use crate::sights;
 use crate::text::{parse, Line, Step};
+use crate::walks;
 use crate::window::{Code, Execution, Instruction, Sizes, Window};
 
 /// From here on a bad line counts as late.
@@ -154,6 +155,9 @@ impl<R: Rules> Game<R> {
     fn execute(&mut self, events: &mut Events, k: usize) {
         let (before, registers) = (self.machine.window.clone(), self.machine.registers);
         if let Err(number) = self.machine.execute(k) {
+            if number == 10 {
+                walks::refused(events, &before, k, self.word(k));
+            }
             return sights::unexecuted(events, &before, k, number);
         }
         let overtaken = before.live[k + 1..].iter().any(|entry| !entry.waits());
@@ -169,10 +173,20 @@ impl<R: Rules> Game<R> {
         self.noted(events, &Execution { before: &before, k, entry, left, finished: false });
     }
 
-    /// How far the word of an execution came, and what it did to the load sides that it met.
+    /// The word of a load or store whose operands are known.
+    fn word(&self, k: usize) -> u32 {
+        let Machine { rules, window, registers, .. } = &self.machine;
+        let Instruction { code, s, imm, .. } = window.live[k].instruction;
+        let base = rules.operand(window, registers, k, s).unwrap_or(0);
+        rules.word(code, rules.sum(base, imm))
+    }
+
+    /// How far the word of an execution came, what it did to the load sides that it met, and where a row was
+    /// found.
     fn noted(&mut self, events: &mut Events, execution: &Execution) {
         self.check.executed(execution, &self.machine.memory);
         self.kept.executed(events, execution, &self.machine.memory);
+        walks::executed(events, execution);
         if let Some(by) = execution.squashed_by() {
             self.squashed(events, execution.before, execution.left, by);
         }

@@ -9,6 +9,7 @@ mod machines;
 mod parts;
 mod same;
 mod texts;
+mod walks;
 
 use crate::generator::generate;
 use crate::machine::{Commit, Executed, Machine};
