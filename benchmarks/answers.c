@@ -1,6 +1,7 @@
 // The answers of the buffer and of the machine in Rattle held to those in C, refusals too: on whole states, on states
-// with one part spoiled, at openings, and of finishes, without part stores and with them. Every run of the machine ends
-// with a finish. Each batch is many runs of a mix; the last line counts batches.
+// with one part spoiled, at openings, and of finishes, without part stores and with them; of the buffer also in
+// falling order, in which executions evict where rows are few. Every run of the machine ends with a finish. Each
+// batch is many runs of a mix; the last line counts batches.
 #include "both.h"
 
 #include <stdio.h>
@@ -12,7 +13,7 @@ enum { SHOWN = 3, SPOILED_CALLS = 60, WHOLE_CALLS = 600, LONG_CALLS = 2000, TAKE
 static const size_t memories[] = {96, 40, 41, 75, 76, 36};
 static size_t runs, differing, passed, failed;
 static uint32_t seed;
-static bool parts;
+static bool parts, falling;
 
 // One run; of a batch the first that differ are shown.
 static void run(const struct job *j)
@@ -22,8 +23,8 @@ static void run(const struct job *j)
     if (play_both(j, &c, &r) || differing++ >= SHOWN)
         return;
     printf("%s, B %zu R %zu n %zu W %zu, memory of %zu, program of %zu, list of %zu, limit %u, seed %u",
-           mix_names[j->parts][j->mix], j->sizes.banks, j->sizes.rows, j->sizes.stages, j->sizes.words, j->length,
-           j->numbers, j->places, j->limit, j->seed);
+           mix_name(j->mix, j->parts, j->falling), j->sizes.banks, j->sizes.rows, j->sizes.stages, j->sizes.words,
+           j->length, j->numbers, j->places, j->limit, j->seed);
     if (j->spoiling.when < j->calls)
         printf(", part %zu spoiled by %zu with %u left", j->spoiling.part, j->spoiling.by, j->spoiling.when);
     printf(": other answers\n");
@@ -31,7 +32,7 @@ static void run(const struct job *j)
 
 static void close_batch(enum mix mix, const char *name)
 {
-    printf("%-14s %-28s %6zu runs, %zu differ\n", mix_names[parts][mix], name, runs, differing);
+    printf("%-16s %-28s %6zu runs, %zu differ\n", mix_name(mix, parts, falling), name, runs, differing);
     *(differing ? &failed : &passed) += 1;
     runs = differing = 0;
 }
@@ -45,7 +46,8 @@ static uint32_t turns(enum mix mix, uint32_t calls)
 // A job of this mix with good lengths, after which its program is written and both sides are filled.
 static struct job prepared(enum mix mix, struct sizes sizes)
 {
-    struct job j = {.mix = mix, .parts = parts, .sizes = sizes, .seed = seed++, .spoiling.when = NEVER};
+    struct job j = {.mix = mix, .parts = parts, .falling = falling, .sizes = sizes, .seed = seed++};
+    j.spoiling.when = NEVER;
     j.calls = turns(mix, WHOLE_CALLS);
     j.limit = 256;
     j.length = sizes.words;
@@ -56,20 +58,22 @@ static struct job prepared(enum mix mix, struct sizes sizes)
     return j;
 }
 
-// Calls `each` for every table that may be, with memories that some addresses are past the end of.
+// Calls `each` for every table that may be, with memories that some addresses are past the end of; in falling order
+// with one that has them all, since a commit past the end would be refused again and again.
 static void every_table(void (*each)(struct sizes sizes, size_t part), size_t part)
 {
     for (size_t banks = 1; banks <= 8; banks *= 2)
         for (size_t rows = 1; rows <= 8; rows++)
             for (size_t stages = 1; stages <= 16; stages++) {
-                size_t words = memories[(seed * UINT32_C(2654435761) >> 20) % 6];
+                size_t words = memories[falling ? 0 : (seed * UINT32_C(2654435761) >> 20) % 6];
                 each((struct sizes){banks, rows, stages, words}, part);
             }
 }
 
+// In falling order more runs, since evictions past many marks are rare.
 static void whole(struct sizes sizes, size_t mix)
 {
-    for (int times = 0; times < 2; times++) {
+    for (int times = 0; times < (falling ? 8 : 2); times++) {
         struct job j = prepared(mix, sizes);
         run(&j);
     }
@@ -103,7 +107,7 @@ static void crowd(size_t numbers)
 static void spoiled(enum mix mix, struct sizes sizes, size_t part)
 {
     static const uint32_t left[] = {5, 15, 40};
-    for (int times = 0; times < 6; times++) {
+    for (int times = 0; times < (falling ? 3 : 6); times++) {
         struct job j = prepared(mix, sizes);
         j.calls = SPOILED_CALLS;
         size_t by = j.seed * UINT32_C(2654435761) >> 17;
@@ -261,6 +265,16 @@ static void all_spoiled(void)
     }
 }
 
+// The buffer's states in falling order, whole ones and those with any part spoiled.
+static void falling_states(void)
+{
+    every_table(whole, BUFFER);
+    close_batch(BUFFER, "whole states");
+    for (size_t part = 0; part <= TAKEN; part++)
+        every_table(spoiled_buffer, part);
+    close_batch(BUFFER, "spoiled states");
+}
+
 int main(void)
 {
     for (int with = 0; with < 2; with++) {
@@ -281,6 +295,11 @@ int main(void)
             byte_numbers(mix);
             close_batch(mix, "byte numbers");
         }
+    }
+    falling = true;
+    for (int with = 0; with < 2; with++) {
+        parts = with;
+        falling_states();
     }
     printf("%zu passed, %zu failed\n", passed, failed);
     return failed != 0;

@@ -7,14 +7,11 @@
 // The static libraries': a slice is a pointer and a length.
 extern uint64_t mixes_buffer(size_t banks, size_t rows, size_t stages, size_t words, uint32_t calls,
                              uint64_t seed, uint32_t when, size_t part, size_t by, size_t whole,
-                             uint32_t *memory, size_t length);
+                             size_t falling, uint32_t *memory, size_t length);
 extern uint64_t mixes_machine(size_t banks, size_t rows, size_t stages, size_t words, uint32_t calls,
                               uint64_t seed, uint32_t when, size_t part, size_t by, uint32_t limit,
                               const uint32_t *program, size_t numbers, uint32_t *memory, size_t length,
                               uint32_t *list, size_t places);
-
-const char *const mix_names[2][3] = {{"buffer", "machine", "finish"},
-                                     {"buffer, parts", "machine, parts", "finish, parts"}};
 
 // What a side works on.
 struct side {
@@ -23,6 +20,15 @@ struct side {
 
 static struct side rattle, plain;
 uint32_t program[MOST_NUMBERS];
+
+const char *mix_name(enum mix mix, bool parts, bool falling)
+{
+    static const char *const names[2][3] = {{"buffer", "machine", "finish"},
+                                            {"buffer, parts", "machine, parts", "finish, parts"}};
+    if (falling)
+        return parts ? "evicting, parts" : "buffer, evicting";
+    return names[parts][mix];
+}
 
 void write_program(size_t instructions, uint32_t seed, bool parts, uint32_t wild)
 {
@@ -72,7 +78,7 @@ static uint64_t in_rattle(const struct job *j)
     struct spoiling w = j->spoiling;
     if (j->mix == BUFFER)
         return mixes_buffer(z.banks, z.rows, z.stages, z.words, j->calls, j->seed, w.when, w.part, w.by,
-                            whole(j), rattle.memory, j->length);
+                            whole(j), j->falling, rattle.memory, j->length);
     return mixes_machine(z.banks, z.rows, z.stages, z.words, j->calls, j->seed, w.when, w.part, w.by, j->limit,
                          program, j->numbers, rattle.memory, j->length, rattle.list, j->places);
 }
@@ -82,7 +88,7 @@ static uint64_t in_c(const struct job *j)
     struct memory memory = {plain.memory, j->length}, list = {plain.list, j->places};
     struct lent lent = {program, j->numbers};
     if (j->mix == BUFFER)
-        return inplace_buffer(j->sizes, j->calls, j->seed, j->spoiling, whole(j), memory);
+        return inplace_buffer(j->sizes, j->calls, j->seed, j->spoiling, whole(j), j->falling, memory);
     return inplace_machine(j->sizes, j->calls, j->seed, j->spoiling, j->limit, lent, memory, list);
 }
 

@@ -9,19 +9,22 @@ enum { MOST_WORDS = 4100, MOST_NUMBERS = 1040, MOST_PLACES = 260 * PER_COMMIT, N
 enum mix { BUFFER, MACHINE, FINISH };
 
 // A mix to run: `calls` turns, and of the machine then a finish; with part stores among the buffer's stores, or as
-// the program has them. A FINISH is a mix of the machine with few turns or none. Memory, program and list are lent
-// with these lengths, whatever the sizes say.
+// the program has them; the buffer's turns as drawn or in falling order, in which executions evict where rows are
+// few. A FINISH is a mix of the machine with few turns or none. Memory, program and list are lent with these
+// lengths, whatever the sizes say.
 struct job {
     enum mix mix;
-    bool parts;
+    bool parts, falling;
     struct sizes sizes;
     uint32_t calls, seed, limit;
     struct spoiling spoiling;
     size_t length, numbers, places;
 };
 
-extern const char *const mix_names[2][3];
 extern uint32_t program[MOST_NUMBERS];
+
+// At most sixteen letters.
+const char *mix_name(enum mix mix, bool parts, bool falling);
 
 // A program of A, P, L and S in equal parts: register 0 stays 0, register 1 is at most 10, the others take
 // sums and words. Loads and stores are of sixteen words, half of them of three, or of those at register 1

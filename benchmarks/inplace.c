@@ -709,6 +709,17 @@ static struct ticket ticket_drawn(const struct table *t, size_t drawn)
     return (struct ticket){s, t->numbers[s] + (drawn % 16 == 0)};
 }
 
+// In falling order the turn that is due, as the number that would have drawn it: an issue or a commit, or a load or a
+// store of the youngest reference that waits. Also of a spoiled table, whose stages and oldest are below 32.
+static size_t falling_drawn(const struct table *t, size_t drawn)
+{
+    uint64_t around = (t->executed | (uint64_t)t->executed << t->stages) >> t->oldest;
+    size_t first = __builtin_ctzll(around | UINT64_C(1) << t->live);
+    if (t->live == 0 || (first == t->live && t->live < t->stages))
+        return 0;
+    return first == 0 ? 12 : 20 + drawn % 10 + 32 * (1 + 16 * (first - 1));
+}
+
 static uint32_t address_drawn(size_t drawn)
 {
     return (drawn & drawn / 16) % 16 * 5;
@@ -767,7 +778,7 @@ static void spoil(struct table *t, size_t what, size_t x)
 }
 
 uint64_t inplace_buffer(struct sizes sizes, uint32_t calls, uint64_t seed, struct spoiling spoiling,
-                        size_t whole, struct memory memory)
+                        size_t whole, bool falling, struct memory memory)
 {
     struct table t;
     uint64_t sum = with_done(0, buffer_open(&t, sizes, memory)), second = seed;
@@ -781,13 +792,13 @@ uint64_t inplace_buffer(struct sizes sizes, uint32_t calls, uint64_t seed, struc
             spoil(&t, spoiling.part, spoiling.by);
             continue;
         }
-        size_t kind = bits(first) % 32;
+        size_t drawn = falling ? falling_drawn(&t, bits(first)) : bits(first), kind = drawn % 32;
         if (kind < 20) {
             why = kind < 12 ? buffer_issue(&t, &ticket) : buffer_commit(&t, memory, &ticket);
             sum = with_named(sum, why, &ticket);
             continue;
         }
-        ticket = ticket_drawn(&t, bits(first) / 32);
+        ticket = ticket_drawn(&t, drawn / 32);
         uint32_t address = address_drawn(bits(second));
         if (kind == 31) {
             sum = with_done(sum, buffer_squash(&t, ticket));

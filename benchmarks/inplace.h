@@ -99,9 +99,10 @@ struct spoiling {
 };
 
 // The mixes of crates/mixes_buffer and mixes_machine, with the same answers. Turns of the kinds 25 to 29 are the
-// buffer's stores, those from `whole` on of a part. The machine is finished at the end.
+// buffer's stores, those from `whole` on of a part. In falling order each window is issued whole, executed from its
+// youngest reference down to its oldest, and committed. The machine is finished at the end.
 uint64_t inplace_buffer(struct sizes sizes, uint32_t calls, uint64_t seed, struct spoiling spoiling,
-                        size_t whole, struct memory memory);
+                        size_t whole, bool falling, struct memory memory);
 uint64_t inplace_machine(struct sizes sizes, uint32_t calls, uint64_t seed, struct spoiling spoiling,
                          uint32_t limit, struct lent program, struct memory memory, struct memory list);
 

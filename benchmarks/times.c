@@ -4,8 +4,8 @@
 
 #include <stdio.h>
 
-// After the lines without part stores come those with them, of sixteen stages.
-enum { WORDS = 96, SECONDS = 22, PLAIN = 18, LINES = 27 };
+// After the lines without part stores come those with them, of sixteen stages, and then those in falling order.
+enum { WORDS = 96, SECONDS = 25, PLAIN = 18, DRAWN = 27, LINES = 31 };
 
 // A line of the table: a job, and the least time of a round in each.
 struct line {
@@ -36,19 +36,23 @@ static void print(const struct line *line)
 {
     const struct job *j = &line->job;
     double calls = j->mix == FINISH ? j->numbers / 4 : j->calls;
-    printf("%-14s %3zu %5zux%zu %12.0f %12.0f %8.1f\n", mix_names[j->parts][j->mix], j->sizes.stages,
+    printf("%-16s %3zu %5zux%zu %12.0f %12.0f %8.1f\n", mix_name(j->mix, j->parts, j->falling), j->sizes.stages,
            j->sizes.banks, j->sizes.rows, line->c / calls, line->r / calls, line->r / line->c);
 }
 
 int main(void)
 {
     static const struct sizes tables[] = {{1, 1, 0, WORDS}, {1, 8, 0, WORDS}, {8, 8, 0, WORDS}};
+    // few rows, so that executions find none free
+    static const struct sizes few[] = {{1, 2, 4, WORDS}, {1, 1, 16, WORDS}, {1, 2, 16, WORDS}, {1, 4, 16, WORDS}};
     struct line lines[LINES];
     for (size_t i = 0; i < LINES; i++) {
-        bool parts = i >= PLAIN;
-        struct job j = {.parts = parts, .sizes = tables[i % 3], .seed = 11, .spoiling.when = NEVER};
-        j.mix = parts ? (i - PLAIN) / 3 : i / 6;
-        j.sizes.stages = parts || i / 3 % 2 ? 16 : 4;
+        bool falling = i >= DRAWN, parts = i >= PLAIN && !falling;
+        struct job j = {.parts = parts, .falling = falling, .seed = 11, .spoiling.when = NEVER};
+        j.mix = falling ? BUFFER : parts ? (i - PLAIN) / 3 : i / 6;
+        j.sizes = falling ? few[i - DRAWN] : tables[i % 3];
+        if (!falling)
+            j.sizes.stages = parts || i / 3 % 2 ? 16 : 4;
         j.calls = j.mix == FINISH ? 0 : 1000;
         j.limit = j.mix == FINISH ? 256 : 0;
         j.length = WORDS;
@@ -57,7 +61,7 @@ int main(void)
         lines[i] = (struct line){j, 1e18, 1e18};
     }
     measure(lines);
-    printf("%-14s %3s %7s %12s %12s %8s\n", "mix", "n", "B x R", "C, ns", "Rattle, ns", "ratio");
+    printf("%-16s %3s %7s %12s %12s %8s\n", "mix", "n", "B x R", "C, ns", "Rattle, ns", "ratio");
     for (size_t i = 0; i < LINES; i++)
         print(&lines[i]);
     if (differences)

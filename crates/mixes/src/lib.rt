@@ -109,6 +109,35 @@ pub fn position_drawn(
     p
 }
 
+// The number off which kind, ticket and position of a turn of the buffer are read: the one drawn, or in falling order one that
+// stands for the turn that is due. In that order a window is issued whole, executed from its youngest reference down to its
+// oldest, and committed: every mark is younger than what executes, so that it evicts where no row is free.
+pub fn turn_drawn(
+    falling: usize,
+    oldest: usize,
+    stages: usize,
+    live: usize,
+    executed: u32,
+    drawn: usize,
+) -> usize {
+    if falling == 0 {
+        return drawn;
+    }
+    // The executed stages, turned so that bit p is position p, with a bit after the last live one. The remainders are for tables
+    // that break their rules.
+    let set = executed as u64;
+    let turned = (set | (set << (stages % 32))) >> (oldest % 32);
+    let waiting = (u64::trailing_zeros(turned | (1 << (live % 64))) % 64) as usize;
+    if (live == 0) | ((waiting == live) & (live < stages)) {
+        return 0;
+    }
+    if waiting == 0 {
+        return 12;
+    }
+    // a load or a store, with the number of its reference, and the youngest position that waits
+    20 + drawn % 10 + 32 * (1 + 16 * (waiting - 1))
+}
+
 // In a row of the table the marks of one kind come or go where there is one of the other, or one mark does.
 fn spoil_marks(t: Table, x: usize) -> Table
     ensures { λ r. ⌜ (r .next ≡ t .next) × (r .numbers ≡ t .numbers) × (r .values ≡ t .values) ⌝ }

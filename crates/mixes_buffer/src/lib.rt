@@ -84,7 +84,8 @@ fn byte_drawn(drawn: usize) -> u32 {
 
 // `calls` turns of a buffer with these sizes. Of 32 turns 12 are an issue, 8 a commit, 5 a load, 5 a store, 1
 // an execution of something else and 1 a squash. The stores are the kinds 25 to 29, those from `whole` on of a
-// part. In the turn after which `when` are left, the table is spoiled instead.
+// part. Unless `falling` is 0 the turns come in falling order (`turn_drawn` of crates/mixes), half of the executions
+// loads and half stores. In the turn after which `when` are left, the table is spoiled instead.
 //
 // The calls stand in the loop, and not in a function of their own: each layer would copy the table once more.
 #[no_mangle]
@@ -99,6 +100,7 @@ pub extern "C" fn mixes_buffer(
     part: usize,
     by: usize,
     whole: usize,
+    falling: usize,
     memory: &mut [u32],
 ) -> u64
     ensures { λ r. ⌜ BufferTurns banks rows stages words (now (memory .entry)) when calls (now (memory .exit)) r ⌝ }
@@ -113,7 +115,14 @@ pub extern "C" fn mixes_buffer(
         left -= 1;
         let first = mixes::advance(second);
         second = mixes::advance(first);
-        let drawn = mixes::bits(first);
+        let drawn = mixes::turn_drawn(
+            falling,
+            t.oldest,
+            t.stages,
+            t.live,
+            t.executed,
+            mixes::bits(first),
+        );
         let kind = drawn % 32;
         let tally = if left == when {
             t = mixes::spoil(t, part, by);

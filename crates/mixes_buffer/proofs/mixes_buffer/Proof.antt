@@ -12,11 +12,11 @@ use Rattle.mixes_buffer.proofs.mixes_buffer.Statement.{statement}
 use Rattle.mixes_buffer.proofs.mixes_buffer.Tie as tie
 
 abbrev Inv-loop : tie.InvT-loop
-Inv-loop banks rows stages words calls seed when part by whole memory₀ t₀ sum₀ second₀ left₀ memory t sum second left =
+Inv-loop banks rows stages words calls seed when part by whole falling memory₀ t₀ sum₀ second₀ left₀ memory t sum second left =
     Mixing ticketed Served when left₀ t₀ memory₀ sum₀ left t memory sum
 
 abbrev μ-loop : tie.MeasureT-loop
-μ-loop banks rows stages words calls seed when part by whole memory₀ t₀ sum₀ second₀ left₀ memory t sum second left = left
+μ-loop banks rows stages words calls seed when part by whole falling memory₀ t₀ sum₀ second₀ left₀ memory t sum second left = left
 
 loop-holds : tie.Need-loop-holds Inv-loop μ-loop
 loop-holds c = mixing-all
@@ -24,7 +24,7 @@ loop-holds c = mixing-all
 loop-again : tie.Need-loop-again Inv-loop μ-loop
 loop-again c =
     let told = c .with-all2 .ensures in
-    let l = c .before .before .before .before .before in
+    let l = c .before .before .before .before .before .before in
     let inv = l .before .loop .inv in
     let some = l .loop-test .taken in
     ⊎-elim (λ w. mixing-changed inv some told (w .2) (w .4) refl (w .0 .taken))
@@ -69,7 +69,7 @@ returns c =
 pub mixes-buffer-spec : {M : Type 1} → statement M
 mixes-buffer-spec =
     tie.close
-    (tie.spec Inv-loop μ-loop (λ c κs. tt) (λ c κs. tt) (λ c κs. tt) loop-holds (λ c. omega arith) (λ c κs. tt)
+    (tie.spec Inv-loop μ-loop (λ c κs. tt) (λ c κs. tt) (λ c κs. tt) loop-holds (λ c. omega arith) (λ c κs. tt) (λ c κs. tt)
     (λ c κs. tt) (λ c κs. tt) (λ c κs. tt) (λ c κs. tt) (λ c κs. tt) (λ c κs. tt) (λ c κs. tt) (λ c κs. tt) (λ c κs. tt)
     (λ c κs. tt) (λ c κs. tt) (λ c κs. tt) (λ c κs. tt) (λ c κs. tt) (λ c κs. tt) (λ c κs. tt) (λ c κs. tt)
     (λ c κs. tt) (λ c κs. tt) (λ c κs. tt) (λ c κs. tt) (λ c κs. tt) (λ c κs. tt) (λ c κs. tt) (λ c κs. tt)
