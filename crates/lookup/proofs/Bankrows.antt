@@ -29,11 +29,11 @@ use Rattle.lookup.specs.declared.Place.{Place}
 use Rattle.lookup.specs.Rows.{touches, touched, allocatesRow, rowsInUse, youngestRow}
 use Rattle.lookup.specs.Outcome.{allocateRow}
 use Rattle.lookup.specs.Chosen.{OldestAt, firstMark, chosen, chosenRow}
-use Rattle.lookup.specs.computed.Search.{find, belongs, openedAt, allocatedRow, rowOf}
+use Rattle.lookup.specs.computed.Search.{find, belongs, allocatedRow, rowOf}
 use Rattle.lookup.proofs.Finds.{find-zero, find-at, chosen-lt, chosen-most}
 use Rattle.lookup.proofs.Oldest.{freeIn, free-bare, marked-held, held-marked, before, first-le, first-here}
 use Rattle.lookup.proofs.Oldest.{size, row-lt, row-bank, row-rest, first-mark, first-apart}
-use Rattle.lookup.proofs.Tail.{evicts-chosen}
+use Rattle.lookup.proofs.Tail.{placed, openedIn, evicts-chosen}
 use Rattle.lookup.proofs.Firsts.{touched-at, touched-some, older-at, older-some, opens-from, opens-to}
 use Rattle.lookup.proofs.Firsts.{youngest-chosen}
 use Rattle.lookup.proofs.Violations.{touches-mark}
@@ -42,16 +42,9 @@ use Rattle.lookup.proofs.Violations.{touches-mark}
 abbrev heldIn : Table → ℕ → ℕ → Bool
 heldIn t h i = not (freeIn t h i)
 
--- one more than the row of bank h whose oldest mark is at position p; 0 where there is none
-abbrev openedIn : Table → ℕ → ℕ → ℕ
-openedIn t h p = openedAt (t .oldest) (t .stages) (t .live) (t .rows) (t .loads) (t .stores) h p
-
--- that row
+-- the row of bank h whose oldest mark is at position p
 rowAt : Table → ℕ → ℕ → ℕ
 rowAt t h p = openedIn t h p - 1
-
-abbrev placed : ℕ → ℕ → Place
-placed r k = record { row = r; left = k }
 
 -- the place taken in bank h for a reference at position p
 abbrev pub takenBy : Table → ℕ → ℕ → Place
@@ -134,7 +127,8 @@ module _ (t : Table) (rules : Rules t) where
   row-some a i e =
       let w = find-at (belongs (t .addresses) (t .loads) (t .stores) (bank (t .banks) a) a) (t .rows) i e in
       let r = bank (t .banks) a * rowsMost + i in
-      let h : r < rowsIn (t .banks) = row-lt t rules (bank (t .banks) a) i (bank-lt (t .banks) a (size t rules .some-bank)) (w .0) in
+      let home = bank-lt (t .banks) a (size t rules .some-bank) in
+      let h : r < rowsIn (t .banks) = row-lt t rules (bank (t .banks) a) i home (w .0) in
       let both = and-eq-true-iff (not (eqb (marksOf (t .loads) (t .stores) r) 0)) (eqb (address t r) a) .0 (w .1) in
       let m = held-marked t r (not-true (eqb (marksOf (t .loads) (t .stores) r) 0) (both .0)) in
       let q : address t r ≡ a = eqb-true (address t r) a (both .1) in (
@@ -146,8 +140,9 @@ module _ (t : Table) (rules : Rules t) where
     first-opens : (i : ℕ) → i < t .rows → freeIn t h i ≡ false
         → allocatesRow (t .banks) h (view t .refs) (firstMark t h i) ≡ true
     first-opens i l e =
-        opens-from (t .banks) h (view t .refs) (firstMark t h i) (address t (h * rowsMost + i)) (here (firstMark t h i) (m .live) ∙ m .here)
-        (sym (rules .in-bank (h * rowsMost + i) (stageOf t (firstMark t h i)) (row-lt t rules h i bound l) (m .here)) ∙ row-bank t rules h i l)
+        let home = rules .in-bank (h * rowsMost + i) (stageOf t (firstMark t h i)) (row-lt t rules h i bound l) (m .here) in
+        opens-from (t .banks) h (view t .refs) (firstMark t h i) (address t (h * rowsMost + i))
+        (here (firstMark t h i) (m .live) ∙ m .here) (sym home ∙ row-bank t rules h i l)
         (not-eq-not {b = false} .0 none)
       where
         m : OldestAt t (h * rowsMost + i) (firstMark t h i)
@@ -255,7 +250,8 @@ module _ (t : Table) (rules : Rules t) where
         let i = chosen (firstMark t h) (t .rows) in
         let l : i < t .rows = chosen-lt (firstMark t h) (t .rows) (size t rules .some-row) in
         let held = find-zero (freeIn t h) (t .rows) e i l in
-        let m : firstMark t h i < length (view t .refs) = omega (arith, length-refs t, first-mark t rules h bound i l held .live) in
+        let m : firstMark t h i < length (view t .refs) =
+        omega (arith, length-refs t, first-mark t rules h bound i l held .live) in
         let y = youngest-chosen (t .banks) h (view t .refs) (firstMark t h i) m (first-opens i l held) in
         let o = opens-first (youngestRow (t .banks) h (view t .refs)) (omega (arith, length-refs t)) (y .1) in
         omega (arith, chosen-most (firstMark t h) (t .rows) (o .0) (o .1))

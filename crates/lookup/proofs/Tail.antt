@@ -34,8 +34,15 @@ use Rattle.lookup.proofs.Loops.{Finding, finding-all, finding-hit, find
 use Rattle.lookup.proofs.Finds.{find-zero, find-at, seek-at, chosen-lt, chosen-most}
 use Rattle.lookup.proofs.Oldest.{oldest-test, freeIn, first-mark, first-is, first-apart, size}
 
-abbrev placed : ℕ → ℕ → Place
+abbrev pub placed : ℕ → ℕ → Place
 placed r k = record { row = r; left = k }
+
+-- of a table: one more than the row of bank b whose oldest mark is at position q, 0 where there is none; what the search gives
+abbrev pub openedIn : Table → ℕ → ℕ → ℕ
+openedIn t b q = openedAt (t .oldest) (t .stages) (t .live) (t .rows) (t .loads) (t .stores) b q
+
+abbrev pub evictedIn : Table → ℕ → ℕ → Place
+evictedIn t b p = evicted (t .oldest) (t .stages) (t .live) (t .rows) (t .loads) (t .stores) b p
 
 pub bank-none : (loads stores : List ℕ) (b : ℕ) → bankMarks loads stores b 0 ≡ 0
 unfolding bankMarks
@@ -67,8 +74,8 @@ module _ (o n live rows : ℕ) (loads stores : List ℕ) (b : ℕ) where
   abbrev opens : ℕ → Bool
   opens = opened o n live rows loads stores b
 
-  abbrev rowAt : ℕ → ℕ
-  rowAt = openedAt o n live rows loads stores b
+  abbrev foundAt : ℕ → ℕ
+  foundAt = openedAt o n live rows loads stores b
 
   -- the marked positions of the bank below k
   abbrev marksBelow : ℕ → ℕ
@@ -99,7 +106,7 @@ module _ (o n live rows : ℕ) (loads stores : List ℕ) (b : ℕ) where
         ∙ f
 
     pub opening-hit : {at : Bool} → 0 < i → at ≡ has marksThere s → (at && eqb (bitAnd marksThere older) 0) ≡ true
-        → (i ≤ rows) × (i ≡ rowAt q)
+        → (i ≤ rows) × (i ≡ foundAt q)
     opening-hit h e f = finding-hit (opening .finding) h (row-test e f)
 
     pub opening-miss : {at : Bool} → 0 < i → at ≡ has marksThere s → (at && eqb (bitAnd marksThere older) 0) ≡ false
@@ -116,9 +123,9 @@ module _ (o n live rows : ℕ) (loads stores : List ℕ) (b : ℕ) where
 
   -- no row has its oldest mark at q
   no-row : (q : ℕ) → ((i : ℕ) → i < rows → bankMark o n live loads stores b i ≡ q → ⊥) → opens q ≡ false
-  no-row q none = go (rowAt q) refl
+  no-row q none = go (foundAt q) refl
     where
-      go : (k : ℕ) → rowAt q ≡ k → not (eqb k 0) ≡ false
+      go : (k : ℕ) → foundAt q ≡ k → not (eqb k 0) ≡ false
       go zero e = refl
       go (suc i) e =
           let w = find-at (λ (j : ℕ). eqb (bankMark o n live loads stores b j) q) rows i e in
@@ -145,16 +152,16 @@ module _ (o n live rows : ℕ) (loads stores : List ℕ) (b : ℕ) where
 
   -- the place of the search, by what it finds
   abbrev placeBy : ℕ → ℕ → Place
-  placeBy p k = cond (ltb (suc p) k) (placed (b * rowsMost + (rowAt (k - 1) - 1)) (k - 1)) (placed 0 0)
+  placeBy p k = cond (ltb (suc p) k) (placed (b * rowsMost + (foundAt (k - 1) - 1)) (k - 1)) (placed 0 0)
 
-  evicted-at : (p k : ℕ) → find opens live ≡ suc k → p < k → evictedBy p ≡ placed (b * rowsMost + (rowAt k - 1)) k
+  evicted-at : (p k : ℕ) → find opens live ≡ suc k → p < k → evictedBy p ≡ placed (b * rowsMost + (foundAt k - 1)) k
   evicted-at p k e h =
       let s : suc k - 1 ≡ k = omega arith in
       ap (placeBy p) e ∙ rw (lt-ltb (suc p) (suc k) (omega arith), s)
 
   evicted-none : (p : ℕ) → find opens live ≤ suc p → evictedBy p ≡ placed 0 0
   evicted-none p h =
-      ap (λ (t : Bool). cond t (placed (b * rowsMost + (rowAt (find opens live - 1) - 1)) (find opens live - 1)) (placed 0 0))
+      ap (λ (t : Bool). cond t (placed (b * rowsMost + (foundAt (find opens live - 1) - 1)) (find opens live - 1)) (placed 0 0))
       (le-ltb (suc p) (find opens live) h)
 
   -- What a turn of the walk knows, which looks at position q. For a reference at p that is not older the walk ends; else i, what
@@ -164,8 +171,8 @@ module _ (o n live rows : ℕ) (loads stores : List ℕ) (b : ℕ) where
     pub member : has left q ≡ true
     pub less : left - 2 ^ q < left
     pub ends : (p : ℕ) → q ≤ p → placed 0 0 ≡ evictedBy p
-    pub found : (p i : ℕ) → i ≡ rowAt q → (i ≡ 0 → ⊥) → p < q → placed (b * rowsMost + (i - 1)) q ≡ evictedBy p
-    pub on : (i rest : ℕ) → i ≡ rowAt q → i ≡ 0 → rest ≡ left - 2 ^ q → Walking rest
+    pub found : (p i : ℕ) → i ≡ foundAt q → (i ≡ 0 → ⊥) → p < q → placed (b * rowsMost + (i - 1)) q ≡ evictedBy p
+    pub on : (i rest : ℕ) → i ≡ foundAt q → i ≡ 0 → rest ≡ left - 2 ^ q → Walking rest
 
   pub walk-all : {set left : ℕ} → set ≡ bankMarks loads stores b rows → left ≡ turned o n set live → Walking left
   walk-all e f = record { bound = live; finding = finding-all; set = f ∙ ap (λ (x : ℕ). turned o n x live) e }
@@ -192,7 +199,8 @@ module _ (o n live rows : ℕ) (loads stores : List ℕ) (b : ℕ) where
           member = in-set;
           less = omega (arith, has-least left q in-set, pow-pos q);
           ends = λ p l. sym (evicted-none p (omega (arith, l, come .same, find-le opens (suc q))));
-          found = λ p i e some l. sym (evicted-at p q (hit i e some) l ∙ ap (λ (k : ℕ). placed (b * rowsMost + (k - 1)) q) (sym e));
+          found = λ p i e some l.
+              sym (evicted-at p q (hit i e some) l ∙ ap (λ (k : ℕ). placed (b * rowsMost + (k - 1)) q) (sym e));
           on = λ i rest e z r. record {
             bound = q;
             finding = finding-jump come q (omega arith) (λ p l h. ap opens (omega arith) ∙ miss i e z);
@@ -215,14 +223,14 @@ module _ (o n live rows : ℕ) (loads stores : List ℕ) (b : ℕ) where
             finding-jump (walk .finding) (suc q) (next .below)
             (λ p l h. unopened p (omega (arith, h, walk .finding .within)) (next .none p l h))
 
-        hit : (i : ℕ) → i ≡ rowAt q → (i ≡ 0 → ⊥) → find opens live ≡ suc q
+        hit : (i : ℕ) → i ≡ foundAt q → (i ≡ 0 → ⊥) → find opens live ≡ suc q
         hit i e some =
             let s : suc q - 1 ≡ q = omega arith in
             sym
             (finding-hit come (omega arith)
             (ap opens s ∙ ap (λ (k : ℕ). not (eqb k 0)) (sym e) ∙ ap not (ne-eqb i 0 some)) .1)
 
-        miss : (i : ℕ) → i ≡ rowAt q → i ≡ 0 → opens q ≡ false
+        miss : (i : ℕ) → i ≡ foundAt q → i ≡ 0 → opens q ≡ false
         miss i e z = ap (λ (k : ℕ). not (eqb k 0)) (sym e ∙ z)
 
 module _ (t : Table) (rules : Rules t) (b : ℕ) (bank : b < t .banks) (full : find (freeIn t b) (t .rows) ≡ 0) where
@@ -238,9 +246,6 @@ module _ (t : Table) (rules : Rules t) (b : ℕ) (bank : b < t .banks) (full : f
   best-lt : best < t .rows
   best-lt = chosen-lt (firstMark t b) (t .rows) (size t rules .some-row)
 
-  abbrev openedIn : ℕ → ℕ
-  openedIn q = openedAt (t .oldest) (t .stages) (t .live) (t .rows) (t .loads) (t .stores) b q
-
   abbrev opensIn : ℕ → Bool
   opensIn q = opened (t .oldest) (t .stages) (t .live) (t .rows) (t .loads) (t .stores) b q
 
@@ -251,10 +256,10 @@ module _ (t : Table) (rules : Rules t) (b : ℕ) (bank : b < t .banks) (full : f
       (λ i k is. omega (arith, l, chosen-most (firstMark t b) (t .rows) i k, is))
 
   -- the chosen row alone has it there
-  chosen-opened : openedIn youngest ≡ suc best
-  chosen-opened = go (openedIn youngest) refl
+  chosen-opened : openedIn t b youngest ≡ suc best
+  chosen-opened = go (openedIn t b youngest) refl
     where
-      go : (k : ℕ) → openedIn youngest ≡ k → k ≡ suc best
+      go : (k : ℕ) → openedIn t b youngest ≡ k → k ≡ suc best
       go zero e =
           absurd
           (true≢false
@@ -272,17 +277,15 @@ module _ (t : Table) (rules : Rules t) (b : ℕ) (bank : b < t .banks) (full : f
       let all : Finding opensIn (t .live) (t .live) = finding-all in
       let come = finding-jump all (suc youngest) l (λ p m h. none-past p m) in
       let s : suc youngest - 1 ≡ youngest = omega arith in
-      sym (finding-hit come (omega arith) (ap opensIn s ∙ ap (λ (k : ℕ). not (eqb k 0)) chosen-opened ∙ ap not (eqb·suc-zero best)) .1)
+      let hit : opensIn youngest ≡ true = ap (λ (k : ℕ). not (eqb k 0)) chosen-opened ∙ ap not (eqb·suc-zero best) in
+      sym (finding-hit come (omega arith) (ap opensIn s ∙ hit) .1)
 
   -- The search from the youngest position down comes to the row that the choice over the rows has: the same row and the same
   -- references left, or the same stall.
-  pub evicts-chosen : (p : ℕ)
-      → evicted (t .oldest) (t .stages) (t .live) (t .rows) (t .loads) (t .stores) b p ≡ chosenRow t b p
+  pub evicts-chosen : (p : ℕ) → evictedIn t b p ≡ chosenRow t b p
   evicts-chosen p = go (ltb p youngest) refl
     where
-      go : (x : Bool) → ltb p youngest ≡ x
-          → evicted (t .oldest) (t .stages) (t .live) (t .rows) (t .loads) (t .stores) b p
-          ≡ cond x (placed (b * rowsMost + best) youngest) (placed 0 0)
+      go : (x : Bool) → ltb p youngest ≡ x → evictedIn t b p ≡ cond x (placed (b * rowsMost + best) youngest) (placed 0 0)
       go true e =
           let s : suc best - 1 ≡ best = omega arith in
           evicted-at (t .oldest) (t .stages) (t .live) (t .rows) (t .loads) (t .stores) b p youngest finds-chosen
@@ -294,15 +297,14 @@ module _ (t : Table) (rules : Rules t) (b : ℕ) (bank : b < t .banks) (full : f
           (omega (arith, finds-chosen, ltb-false p youngest e))
 
   -- in 01's words: where a row may be evicted, and where none may
-  pub evicts : (p i q : ℕ) → i < t .rows → OldestAt t (b * rowsMost + i) q → p < q
-      → IsChosen t b p (evicted (t .oldest) (t .stages) (t .live) (t .rows) (t .loads) (t .stores) b p)
+  pub evicts : (p i q : ℕ) → i < t .rows → OldestAt t (b * rowsMost + i) q → p < q → IsChosen t b p (evictedIn t b p)
   evicts p i q l at h =
       let most = chosen-most (firstMark t b) (t .rows) i l in
       let later : p < youngest = omega (arith, h, most, first-is t b i q at) in
       subst (IsChosen t b p) (sym (evicts-chosen p ∙ rw (lt-ltb p youngest later)))
       (record {
         index = best;
-        in-bank = best-lt;
+        in-rows = best-lt;
         row = refl;
         oldest = first-mark t rules b bank best best-lt (held best best-lt);
         younger = later;
@@ -318,7 +320,33 @@ module _ (t : Table) (rules : Rules t) (b : ℕ) (bank : b < t .banks) (full : f
           (eq-or-lt-of-le (chosen-most (firstMark t b) (t .rows) j k))
 
   pub stalls : (p : ℕ) → ((i q : ℕ) → i < t .rows → OldestAt t (b * rowsMost + i) q → q ≤ p)
-      → evicted (t .oldest) (t .stages) (t .live) (t .rows) (t .loads) (t .stores) b p ≡ placed 0 0
+      → evictedIn t b p ≡ placed 0 0
   stalls p old =
       evicts-chosen p
       ∙ rw (le-ltb p youngest (old best youngest best-lt (first-mark t rules b bank best best-lt (held best best-lt))))
+
+-- at most one place is chosen
+module _ (t : Table) (b p : ℕ) where
+  oldest-in : (x : Place) (c : IsChosen t b p x) → OldestAt t (b * rowsMost + c .index) (x .left)
+  oldest-in x c = subst (λ (r : ℕ). OldestAt t r (x .left)) (c .row) (c .oldest)
+
+  pub one-chosen : (x y : Place) → IsChosen t b p x → IsChosen t b p y → x ≡ y
+  one-chosen x y c d =
+      ⊎-elim same
+      (λ (l : y .left < x .left).
+      ⊎-elim (λ (e : c .index ≡ d .index). same (sym e)) (λ (m : x .left < y .left). absurd (omega arith))
+      (d .youngest (c .index) (x .left) (c .in-rows) (oldest-in x c)))
+      (c .youngest (d .index) (y .left) (d .in-rows) (oldest-in y d))
+    where
+      same : d .index ≡ c .index → x ≡ y
+      same e =
+          ap₂ placed (c .row ∙ ap (λ (i : ℕ). b * rowsMost + i) (sym e) ∙ sym (d .row))
+          (sym (first-is t b (c .index) (x .left) (oldest-in x c)) ∙ ap (firstMark t b) (sym e)
+          ∙ first-is t b (d .index) (y .left) (oldest-in y d))
+
+  -- so what is chosen is what the search finds
+  pub is-evicted : Rules t → b < t .banks → find (freeIn t b) (t .rows) ≡ 0 → (x : Place) → IsChosen t b p x
+      → evictedIn t b p ≡ x
+  is-evicted rules bank full x c =
+      one-chosen (evictedIn t b p) x
+      (evicts t rules b bank full p (c .index) (x .left) (c .in-rows) (oldest-in x c) (c .younger)) c

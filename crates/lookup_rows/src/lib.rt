@@ -48,7 +48,8 @@ fn row_opened<'a>(
     b: usize,
     q: usize,
 ) -> usize
-    requires { ⌜ (oldest < stages) × (live ≤ stages) × (stages ≤ stagesMost) × (q < live) × (rows ≤ rowsMost) × (b < banksMost) ⌝ }
+    requires { ⌜ (oldest < stages) × (live ≤ stages) × (stages ≤ stagesMost) × (q < live)
+        × (rows ≤ rowsMost) × (b < banksMost) ⌝ }
     requires { ⌜ (length (now loads) ≡ slots) × (length (now stores) ≡ slots) ⌝ }
     ensures { λ r. ⌜ (r ≤ rows) × (r ≡ openedAt oldest stages live rows (now (loads .entry)) (now (stores .entry)) b q) ⌝ }
 {
@@ -83,9 +84,9 @@ fn evict_row<'a>(
     ensures { λ r. ⌜ r ≡ evicted oldest stages live rows (now (loads .entry)) (now (stores .entry)) b p ⌝ }
 {
     let set = bank_marks(rows, loads, stores, b);
-    let mut left = marks::turned(oldest, stages, live, set);
-    while 0 < left {
-        let q = marks::highest(left);
+    let mut unseen = marks::turned(oldest, stages, live, set);
+    while 0 < unseen {
+        let q = marks::highest(unseen);
         if q <= p {
             return Place { row: 0, left: 0 };
         }
@@ -96,7 +97,7 @@ fn evict_row<'a>(
                 left: q,
             };
         }
-        left = marks::excluding(left, q);
+        unseen = marks::excluding(unseen, q);
     }
     Place { row: 0, left: 0 }
 }
@@ -179,7 +180,7 @@ pub fn place_of<'a>(
     a: u32,
     p: usize,
 ) -> Place
-    requires { ⌜ (0 < banks) × (banks ≤ banksMost) × (0 < rows) × (rows ≤ rowsMost)
+    requires { ⌜ (0 < banks) × (banks ≤ banksMost) × (rows ≤ rowsMost)
         × (oldest < stages) × (live ≤ stages) × (stages ≤ stagesMost) ⌝ }
     requires { ⌜ (length (now addresses) ≡ slots) × (length (now loads) ≡ slots) × (length (now stores) ≡ slots) ⌝ }
     ensures { λ r. ⌜ (r .row < slots)

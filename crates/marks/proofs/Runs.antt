@@ -1,11 +1,11 @@
 -- Words turned around the circle: the set of the first positions is a run of ones turned forward, and a set of stages turned
 -- back is a set of positions.
 -- Bit s of a word shifted down by k is bit k + s of the word (has-down); shifted up by o, bits below o are 0 and bit
--- o + s is bit s of the word (up-low, has-up); a word of w bits loses nothing below bit w (has-cut, has-shifted). The word of n ones has
--- exactly the bits below n (has-ones). So `all` has the stages below n, `run` the first c of them, and the run turned by o
--- in n bits has stage s where the position of s is below c: at or past o by the run shifted up, before o by what
--- was shifted out at bit n and comes back at bit 0. A set of stages shifted down by o has position p where the stage at p is
--- at or past o; the stages before o follow at bit n - o (turned-back). Assumes nothing.
+-- o + s is bit s of the word (up-low, has-up); a word of w bits loses nothing below bit w (has-cut, has-shifted). The word of n
+-- ones has exactly the bits below n (has-ones). So `all` has the stages below n, `run` the first c of them, and the run turned
+-- by o in n bits has stage s where the position of s is below c: at or past o by the run shifted up, before o by what was
+-- shifted out at bit n and comes back at bit 0. A set of stages shifted down by o has position p where the stage at p is at or
+-- past o; the stages before o follow at bit n - o (turned-back). Assumes nothing.
 use mathlib.Core.Bool.{Bool, true, false, cond, _&&_, _||_, and-true, and-false, or-false}
 use mathlib.Core.Path.{_≡_, refl, sym, ap, ap₂, _∙_}
 use Prim.Native.Nat.{ℕ, suc, _+_, _-_, _*_, _/_, _%_, _^_, _≤_, _<_}

@@ -120,6 +120,12 @@ member =
 pub has-small : (w m k : ℕ) → w < 2 ^ m → m ≤ k → has w k ≡ false
 has-small w m k h l = ap (λ (x : ℕ). eqb (x % 2) 1) (div-eq-of-lt (lt-of-lt-of-le h (pow-mono l)))
 
+pub small-set : (w m : ℕ) → ((k : ℕ) → has w k ≡ true → k < m) → w < 2 ^ m
+small-set w zero h = let z : w ≡ 0 = empty-set w (λ k. fails (has w k) (λ e. not-suc-le-zero (h k e))) in omega arith
+small-set w (suc m) h =
+    let l : w / 2 < 2 ^ m = small-set (w / 2) m (λ k e. le-of-suc-le-suc (h (suc k) (has-half w k ∙ e))) in
+    omega (arith, pow-suc 2 m)
+
 -- a member's bit is part of the word
 pub has-least : (w k : ℕ) → has w k ≡ true → 2 ^ k ≤ w
 has-least w k e = le-of-suc-le-suc (lt-of-not-le (λ l. true≢false (sym e ∙ has-small w k k l (le-refl k))))
@@ -127,12 +133,6 @@ has-least w k e = le-of-suc-le-suc (lt-of-not-le (λ l. true≢false (sym e ∙ 
 -- the word of one stage, in w bits
 pub one-up : (w k : ℕ) → k < w → 1 * 2 ^ k % 2 ^ w ≡ 2 ^ k
 one-up w k h = ap (λ (x : ℕ). x % 2 ^ w) (one-mul (2 ^ k)) ∙ mod-eq-of-lt (pow-lt h)
-
-pub small-set : (w m : ℕ) → ((k : ℕ) → has w k ≡ true → k < m) → w < 2 ^ m
-small-set w zero h = let z : w ≡ 0 = empty-set w (λ k. fails (has w k) (λ e. not-suc-le-zero (h k e))) in omega arith
-small-set w (suc m) h =
-    let l : w / 2 < 2 ^ m = small-set (w / 2) m (λ k e. le-of-suc-le-suc (h (suc k) (has-half w k ∙ e))) in
-    omega (arith, pow-suc 2 m)
 
 -- inclusion and disjointness, as words and by members
 pub inside : (a b : ℕ) → bitAnd a b ≡ a → (k : ℕ) → has a k ≡ true → has b k ≡ true

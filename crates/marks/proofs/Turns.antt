@@ -125,10 +125,8 @@ module _ (o n w : ℕ) where
       ∙ ap₂ _||_ (turned-has k p) (one-more (has w (stage o n k)) k p)
       ∙ go (ltb p (suc k)) refl
     where
-      in-set : ℕ → Bool
-      in-set q = has w (stage o n q)
-
-      go : (t : Bool) → ltb p (suc k) ≡ t → (ltb p k && has w (stage o n p) || has w (stage o n k) && eqb k p) ≡ (t && has w (stage o n p))
+      go : (t : Bool) → ltb p (suc k) ≡ t
+          → (ltb p k && has w (stage o n p) || has w (stage o n k) && eqb k p) ≡ (t && has w (stage o n p))
       go true e =
           ⊎-elim
           (λ (q : p ≡ k).

@@ -1,6 +1,6 @@
--- `lookup_rows::evict_row` meets its contract. The loop's invariant: `left` has the marked positions below that to which the
+-- `lookup_rows::evict_row` meets its contract. The loop's invariant: `unseen` has the marked positions below that to which the
 -- walk has come, and the search over all positions finds what the search below that one finds (Walking). A turn looks at the
--- highest of them, and `left` falls by its bit.
+-- highest of them, and `unseen` falls by its bit.
 -- Assumes nothing.
 use native.Mathlib.Omega.{arith}
 use Rattle.marks.specs.Stages.{width}
@@ -9,15 +9,15 @@ use Rattle.lookup_rows.proofs.evict_row.Statement.{statement}
 use Rattle.lookup_rows.proofs.evict_row.Tie as tie
 
 abbrev Inv-loop : tie.InvT-loop
-Inv-loop oldest stages live rows loads stores b p set left₀ left = Walking oldest stages live rows loads stores b left
+Inv-loop oldest stages live rows loads stores b p set unseen₀ unseen = Walking oldest stages live rows loads stores b unseen
 
 abbrev μ-loop : tie.MeasureT-loop
-μ-loop oldest stages live rows loads stores b p set left₀ left = left
+μ-loop oldest stages live rows loads stores b p set unseen₀ unseen = unseen
 
 looked : (c : tie.After-highest Inv-loop μ-loop)
     → let args = c .before .before .before .before .before .args in
     Looking (args .oldest) (args .stages) (args .live) (args .rows) (args .loads .now) (args .stores .now) (args .b)
-    (c .before .before .loop .left) (c .highest .result)
+    (c .before .before .loop .unseen) (c .highest .result)
 looked c =
     look _ _ _ _ _ _ _ _ (c .before .before .loop .inv) width (c .highest .result) (omega arith) (omega arith)
     (c .highest .ensures)
@@ -64,5 +64,5 @@ returns-3 c = walk-none _ _ _ _ _ _ _ _ (c .before .loop .inv) (omega arith) _
 pub evict-row-spec : {M : Type 1} → statement M
 evict-row-spec =
     tie.close
-    (tie.spec Inv-loop μ-loop bank-marks-requires (λ c κs. omega arith) loop-holds (λ c κs. omega arith) returns row-opened-requires (λ c. omega arith)
-    (λ c. omega arith) (λ c. omega arith) returns-2 excluding-requires loop-less loop-again returns-3)
+    (tie.spec Inv-loop μ-loop bank-marks-requires (λ c κs. omega arith) loop-holds (λ c κs. omega arith) returns
+    row-opened-requires (λ c. omega arith) (λ c. omega arith) (λ c. omega arith) returns-2 excluding-requires loop-less loop-again returns-3)
