@@ -307,17 +307,12 @@ module _ (t : Table) (rules : Rules t) (b : ℕ) (bank : b < t .banks) (full : f
         in-rows = best-lt;
         row = refl;
         oldest = first-mark t rules b bank best best-lt (held best best-lt);
-        younger = later;
-        youngest = others;
+        younger = omega (arith, later);
+        youngest = λ j r k other. ⊎-elim
+            (λ e. inl (first-apart t rules b bank j best k best-lt (held j k) (held best best-lt) e))
+            (λ m. inr (omega (arith, m, first-is t b j r other)))
+            (eq-or-lt-of-le (chosen-most (firstMark t b) (t .rows) j k));
       })
-    where
-      others : (j r : ℕ) → j < t .rows → OldestAt t (b * rowsMost + j) r → (j ≡ best) ⊎ (r < youngest)
-      others j r k other =
-          let is = first-is t b j r other in
-          ⊎-elim
-          (λ (e : firstMark t b j ≡ youngest). inl (first-apart t rules b bank j best k best-lt (held j k) (held best best-lt) e))
-          (λ (m : firstMark t b j < youngest). inr (subst (λ (x : ℕ). x < youngest) is m))
-          (eq-or-lt-of-le (chosen-most (firstMark t b) (t .rows) j k))
 
   pub stalls : (p : ℕ) → ((i q : ℕ) → i < t .rows → OldestAt t (b * rowsMost + i) q → q ≤ p)
       → evictedIn t b p ≡ placed 0 0
@@ -325,16 +320,16 @@ module _ (t : Table) (rules : Rules t) (b : ℕ) (bank : b < t .banks) (full : f
       evicts-chosen p
       ∙ rw (le-ltb p youngest (old best youngest best-lt (first-mark t rules b bank best best-lt (held best best-lt))))
 
--- at most one place is chosen
 module _ (t : Table) (b p : ℕ) where
   oldest-in : (x : Place) (c : IsChosen t b p x) → OldestAt t (b * rowsMost + c .index) (x .left)
   oldest-in x c = subst (λ (r : ℕ). OldestAt t r (x .left)) (c .row) (c .oldest)
 
+  -- at most one place is chosen
   pub one-chosen : (x y : Place) → IsChosen t b p x → IsChosen t b p y → x ≡ y
   one-chosen x y c d =
       ⊎-elim same
-      (λ (l : y .left < x .left).
-      ⊎-elim (λ (e : c .index ≡ d .index). same (sym e)) (λ (m : x .left < y .left). absurd (omega arith))
+      (λ l.
+      ⊎-elim (λ e. same (sym e)) (λ m. absurd (omega (arith, l, m)))
       (d .youngest (c .index) (x .left) (c .in-rows) (oldest-in x c)))
       (c .youngest (d .index) (y .left) (d .in-rows) (oldest-in y d))
     where
@@ -349,4 +344,5 @@ module _ (t : Table) (b p : ℕ) where
       → evictedIn t b p ≡ x
   is-evicted rules bank full x c =
       one-chosen (evictedIn t b p) x
-      (evicts t rules b bank full p (c .index) (x .left) (c .in-rows) (oldest-in x c) (c .younger)) c
+      (evicts t rules b bank full p (c .index) (x .left) (c .in-rows) (oldest-in x c)
+      (omega (arith, c .younger))) c
