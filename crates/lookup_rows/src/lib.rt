@@ -67,8 +67,8 @@ fn row_opened<'a>(
     0
 }
 
-// The row of bank `b` to evict for a reference at position `p`: the marked positions are looked at from the youngest down to
-// `p`, and the first that is the oldest mark of a row decides.
+// The row of bank `b` to evict for a reference at position `p`. From the youngest position down to `p` the walk jumps to the next
+// marked one, by the leading zeros of the bank's turned marks; the first that is the oldest mark of a row decides.
 fn evict_row<'a>(
     oldest: usize,
     stages: usize,
