@@ -21,3 +21,5 @@ pub use buffer_moves::open;
 pub use buffer_moves::squash;
 pub use engine::Action;
 pub use engine::Part;
+pub use table::Table;
+pub use table::Ticket;

@@ -18,7 +18,8 @@ ghost use Rattle.table.specs.Limits.{stagesMost};
 ghost use Rattle.buffer_model.specs.Answers.{executeSays};
 ghost use Rattle.buffer_model.specs.Calls.{execute, executeLoad, executeStore, executePart, executeOther};
 ghost use Rattle.buffer_model.specs.Contract.{Meets};
-ghost use Rattle.buffer_model.specs.computed.Parts.{namedBy, executeRefusal, cutFrom};
+ghost use Rattle.table.specs.computed.Naming.{namedBy};
+ghost use Rattle.buffer_model.specs.computed.Parts.{executeRefusal, cutFrom};
 
 // Why an execution with this ticket on a memory of this length is turned down before its row is looked for; 0: it is not.
 fn execution_refusal<'a>(
@@ -39,7 +40,7 @@ fn execution_refusal<'a>(
     if words_lent != words {
         return 3;
     }
-    if !buffer_moves::named(oldest, stages, live, numbers, s, number) {
+    if !table::named(oldest, stages, live, numbers, s, number) {
         return 7;
     }
     if marks::contains(executed, s) {

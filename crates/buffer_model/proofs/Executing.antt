@@ -33,7 +33,8 @@ use Rattle.buffer_model.specs.Answers.{squashSays}
 use Rattle.buffer_model.specs.Refusals.{place, names, executeChecks}
 use Rattle.buffer_model.specs.Calls.{execute, squashFrom, comesTo}
 use Rattle.buffer_model.specs.Contract.{Meets}
-use Rattle.buffer_model.specs.computed.Parts.{namedBy, executeRefusal, cutFrom}
+use Rattle.table.specs.computed.Naming.{namedBy}
+use Rattle.buffer_model.specs.computed.Parts.{executeRefusal, cutFrom}
 use Rattle.buffer_model.proofs.MeetingContract.{refused-meets, accepted-meets}
 use Rattle.buffer_model.proofs.TestsAreTheView.{named-names, squash-from}
 

@@ -24,7 +24,7 @@ use Rattle.engine.specs.Contract.{refused, done, named}
 use Rattle.buffer_model.specs.Refusals.{issueChecks, squashChecks}
 use Rattle.buffer_model.specs.Calls.{issue, squash}
 use Rattle.buffer_model.specs.Contract.{Meets}
-use Rattle.buffer_model.specs.computed.Parts.{namedBy}
+use Rattle.table.specs.computed.Naming.{namedBy}
 use Rattle.buffer_model.proofs.MeetingContract.{refused-meets, accepted-meets}
 use Rattle.buffer_model.proofs.TestsAreTheView.{named-names}
 

@@ -19,7 +19,8 @@ use Rattle.buffer_model.specs.declared.Squashed.the-variants.{Nothing, F
 use Rattle.buffer_model.specs.Answers.{squashSays}
 use Rattle.buffer_model.specs.Refusals.{place, names}
 use Rattle.buffer_model.specs.Calls.{ticketAt, squashFrom}
-use Rattle.buffer_model.specs.computed.Parts.{namedBy, cutFrom}
+use Rattle.table.specs.computed.Naming.{namedBy}
+use Rattle.buffer_model.specs.computed.Parts.{cutFrom}
 
 -- two conjunctions agree where their first parts do and, under those, their second
 both : (a b x y : Bool) → a ≡ b → (b ≡ true → x ≡ y) → (a && x) ≡ (b && y)

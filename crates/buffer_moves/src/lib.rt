@@ -6,18 +6,14 @@ use buffer_model::DoneAnswer;
 use buffer_model::DoneResult;
 use buffer_model::TicketAnswer;
 use buffer_model::TicketResult;
-use table::STAGES;
 use table::Table;
 use table::Ticket;
 ghost use mathlib.Core.Path.{_≡_};
 ghost use mathlib.Core.List.{List};
-ghost use Prim.Native.Nat.{ℕ, _≤_, _<_};
-ghost use lib.ListN.{length};
-ghost use Rattle.table.specs.Limits.{stagesMost};
+ghost use Prim.Native.Nat.{ℕ};
 ghost use Rattle.buffer_model.specs.Answers.{doneSays, ticketSays};
 ghost use Rattle.buffer_model.specs.Calls.{issue, squash, commit};
 ghost use Rattle.buffer_model.specs.Contract.{Meets, Opens};
-ghost use Rattle.buffer_model.specs.computed.Parts.{namedBy};
 
 // A table of `banks` banks of `rows` rows and `stages` stages over a memory of `words` words.
 pub fn open(banks: usize, rows: usize, stages: usize, words: usize, memory: &[u32]) -> DoneResult
@@ -84,24 +80,6 @@ pub fn issue(mut t: Table) -> TicketResult
     }
 }
 
-// Whether the ticket of this stage and number names a live reference.
-pub fn named<'a>(
-    oldest: usize,
-    stages: usize,
-    live: usize,
-    numbers: &'a [u32; STAGES],
-    s: usize,
-    number: u32,
-) -> bool
-    requires { ⌜ (oldest < stages) × (stages ≤ stagesMost) × (length (now numbers) ≡ stagesMost) ⌝ }
-    ensures { λ r. ⌜ r ≡ namedBy oldest stages live (now (numbers .entry)) s number ⌝ }
-{
-    if s >= stages {
-        return false;
-    }
-    (marks::position_of(oldest, stages, s) < live) & (numbers[s] == number)
-}
-
 // Drops the reference that the ticket names and everything younger.
 pub fn squash(mut t: Table, ticket: Ticket) -> DoneResult
     ensures { λ r. ⌜ ((m : List ℕ) → Meets t (squash ticket) m (doneSays (r .answer)) (r .table) m) ⌝ }
@@ -128,7 +106,7 @@ pub fn squash(mut t: Table, ticket: Ticket) -> DoneResult
     let oldest = t.oldest;
     let live = t.live;
     let s = ticket.stage;
-    if !named(oldest, stages, live, &t.numbers, s, ticket.number) {
+    if !table::named(oldest, stages, live, &t.numbers, s, ticket.number) {
         return DoneResult {
             answer: DoneAnswer::Refused(7),
             table: t,

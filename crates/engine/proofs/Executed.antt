@@ -105,7 +105,8 @@ module _ (t : Table) (rules : Rules t) (p : ℕ) (live : p < t .live) (w : List 
       (effect-bounds act (λ z. stays (ap (λ (x : Effect). x .left) found ∙ z)))
 
   pub effect-value : (act : Action) → (effectAt t p w act .left ≡ 0 → ⊥)
-      → answered (effectAt t p w act .load) (effectAt t p w act .store) (effectAt t p w act .value) ≡ answerOf (forwarded (view t) w p) act
+      → answered (effectAt t p w act .load) (effectAt t p w act .store) (effectAt t p w act .value)
+      ≡ answerOf (forwarded (view t) w p) act
   effect-value (Compute x) stays = refl
   effect-value (LoadAt a) stays = found-is a stays
   effect-value (StoreAt a x) stays = refl

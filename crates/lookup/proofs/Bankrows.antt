@@ -28,7 +28,7 @@ use Rattle.table.proofs.Owning.{RowFor, row-of-mark, mark-position}
 use Rattle.lookup.specs.declared.Place.{Place}
 use Rattle.lookup.specs.Rows.{touches, touched, allocatesRow, rowsInUse, youngestRow}
 use Rattle.lookup.specs.Outcome.{allocateRow}
-use Rattle.lookup.specs.Chosen.{OldestAt, firstMark, chosen, chosenRow}
+use Rattle.lookup.specs.computed.Chosen.{OldestAt, firstMark, chosen, chosenRow}
 use Rattle.lookup.specs.computed.Search.{find, belongs, allocatedRow, rowOf}
 use Rattle.lookup.proofs.Finds.{find-zero, find-at, chosen-lt, chosen-most}
 use Rattle.lookup.proofs.Oldest.{freeIn, free-bare, marked-held, held-marked, before, first-le, first-here}

@@ -185,7 +185,8 @@ pub fn place_of<'a>(
     requires { ⌜ (length (now addresses) ≡ slots) × (length (now loads) ≡ slots) × (length (now stores) ≡ slots) ⌝ }
     ensures { λ r. ⌜ (r .row < slots)
         × (r
-        ≡ placeFor oldest stages live rows (now (addresses .entry)) (now (loads .entry)) (now (stores .entry)) (bank banks a) a p) ⌝ }
+        ≡ placeFor oldest stages live rows (now (addresses .entry)) (now (loads .entry)) (now (stores .entry))
+        (bank banks a) a p) ⌝ }
 {
     let b = table::bank_of(banks, a);
     let i = row_of(rows, addresses, loads, stores, b, a);

@@ -9,7 +9,6 @@
 pub use machine_commit::commit;
 pub use machine_execute::execute;
 pub use machine_finish::finish;
-pub use machine_isa::well_formed;
 pub use machine_issue::issue;
 pub use machine_issue::open;
 pub use machine_issue::squash;
@@ -28,3 +27,4 @@ pub use machine_model::IssueAnswer;
 pub use machine_model::IssueResult;
 pub use machine_model::Machine;
 pub use machine_model::Squashed;
+pub use table::Table;

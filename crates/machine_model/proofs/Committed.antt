@@ -125,13 +125,15 @@ module _ (program : List ℕ) (m : Machine) (w : List ℕ) (passed : Passed m pr
       mark-told : markWith (reference own) (value (m .table) (m .table .oldest)) ≡ markBy (fateOf (at (view (m .table) .refs) 0))
       mark-told =
           let t = m .table in
-          mark-agreed (own .instruction) (own .fate) (fateOf (at (view t .refs) 0)) (value t (t .oldest)) agreed (executed-too done)
+          mark-agreed (own .instruction) (own .fate) (fateOf (at (view t .refs) 0)) (value t (t .oldest))
+          agreed (executed-too done)
           (λ a v l e. ap (value t) (sym zeroth) ∙ stored-word t 0 a v l some e)
 
       module _ (mark : Mark) (hm : mark ≡ markWith (reference own) (value (m .table) (m .table .oldest))) where
         faults-same : faults (m .table .words) (markedFate mark) ≡ faults (m .table .words) (reference own)
         faults-same =
-            ap (λ (x : Mark). faults (m .table .words) (markedFate x)) hm ∙ mark-faults (m .table .words) (own .instruction) (own .fate) _
+            ap (λ (x : Mark). faults (m .table .words) (markedFate x)) hm
+            ∙ mark-faults (m .table .words) (own .instruction) (own .fate) _
 
         -- refusal 13: its address is W or more
         pub fault-refused : faults (m .table .words) (markedFate mark) ≡ true → Meets program m commit w (refused 13) m w []

@@ -35,7 +35,8 @@ use Rattle.engine.specs.Execution.{fateBy, answerOf}
 use Rattle.engine.specs.computed.Effect.{effectAt, answered, applyEffect}
 use Rattle.engine.proofs.Meeting.{judged-refused}
 use Rattle.engine.proofs.Fated.{executed-at}
-use Rattle.engine.proofs.Executed.{effect-left, effect-bounds, effect-value, effect-distance, part-value, effect-view, effect-rules}
+use Rattle.engine.proofs.Executed.{effect-left, effect-bounds, effect-value, effect-distance, part-value, effect-view}
+use Rattle.engine.proofs.Executed.{effect-rules}
 use Rattle.machine_model.specs.declared.Instruction.{Instruction}
 use Rattle.machine_model.specs.declared.Fate.{Fate}
 use Rattle.machine_model.specs.declared.Fate.the-variants.{Waiting, Executed}
@@ -324,7 +325,8 @@ module _ (m : Machine) (program w : List ℕ) (p : ℕ) (passed : Passed m progr
 
           entry-there : (q : ℕ) → q < m .table .live → (q ≡ p → ⊥) → entryOf next q ≡ entryOf m q
           entry-there q h differ =
-              getD-set-other (m .window) (stageOf (m .table) p) (stageOf (m .table) q) (entryWith own fate (effect .distance)) blankEntry
+              getD-set-other (m .window) (stageOf (m .table) p) (stageOf (m .table) q) (entryWith own fate (effect .distance))
+              blankEntry
               (λ e.
               differ
               (stage-injective (m .table .oldest) (m .table .stages) start q p (omega (arith, room)) (omega (arith, room))
@@ -336,7 +338,8 @@ module _ (m : Machine) (program w : List ℕ) (p : ℕ) (passed : Passed m progr
               ∙ sym (tabulate-take (entryOf next) (m .table .live) left (bounds .1))
               ∙ ap (take left)
               (sym
-              (tabulate-set (entryOf m) (entryOf next) (m .table .live) p (entryWith own fate (effect .distance)) live entry-here entry-there))
+              (tabulate-set (entryOf m) (entryOf next) (m .table .live) p (entryWith own fate (effect .distance))
+              live entry-here entry-there))
               ∙ ap₂ (λ (x : Entry) (d : ℕ). take left (set (now .entries) p (entryWith x fate d))) (sym here) distance-is
 
           new-next : next .next ≡ refetchIndex now left
@@ -421,7 +424,8 @@ module _ (m : Machine) (program w : List ℕ) (p : ℕ) (passed : Passed m progr
               go (LoadAt a) s =
                   ap (λ (v : ℕ). Executed v a) (effect-value (m .table) (passed .sound .rules) p live w (LoadAt a) s)
               go (StoreAt a v) s = refl
-              go (PartAt part b v) s = ap (λ (x : ℕ). Executed x b) (part-value (m .table) (passed .sound .rules) p live w part b v s)
+              go (PartAt part b v) s = ap (λ (x : ℕ). Executed x b) (part-value (m .table) (passed .sound .rules)
+                  p live w part b v s)
 
       -- the machine with this table, the entry at stage s with this fate and distance, and this index to go on with
       abbrev ended : Table → ℕ → Fate → ℕ → ℕ → Machine

@@ -445,7 +445,8 @@ module _ {program : List ℕ} {m : Machine} {w : List ℕ} {u : Machine} (prepar
             ap (λ (s : ℕ). getD (u .window) s blankEntry) (sym (a .oldest)) in
             let head : first ≡ stageOf t 1 = hf ∙ circle a (λ (j k : ℕ). stage j k 1) in
             rw (ap (λ (x : Entry). x .index) same)
-            (commit-meets program u w passed-now (a .some) (prepared .executed) mark mark-is clean (ap misaligned (sym same) ∙ even)
+            (commit-meets program u w passed-now (a .some) (prepared .executed) mark mark-is clean
+            (ap misaligned (sym same) ∙ even)
             first
             stay
             code

@@ -56,7 +56,8 @@ module _ (program : List ℕ) (j places : ℕ) (X : Plain) (w : List ℕ) where
 -- ---- one turn
 
 -- the oldest is taken to its commit
-turns : (program : List ℕ) (k n places : ℕ) (X : Plain) (w : List ℕ) (Y : Plain) → n < k → perCommit ≤ places → programDone X ≡ false
+turns : (program : List ℕ) (k n places : ℕ) (X : Plain) (w : List ℕ) (Y : Plain) → n < k → perCommit ≤ places
+    → programDone X ≡ false
     → Y ≡ ready program X w → finishes program (k - n) places X w ≡ turning program (k - (n + 1)) places w Y
 unfolding finishes
 turns program k n places X w Y h room more e =
@@ -179,7 +180,11 @@ module _ (program : List ℕ) (k : ℕ) (X : Plain) (w list : List ℕ) (Y : Pla
   -- the list at the end: the numbers, and what the list held after them
   end-list : take (n * perCommit) into ++ [] ++ drop (length (take (n * perCommit) into ++ [])) list ≡ into
   end-list =
-      rw (append-nil (take (n * perCommit) into), length-take-le (n * perCommit) into (omega (arith, remains .size, remains .room)))
+      rw (
+        append-nil (take (n * perCommit) into),
+        length-take-le (n * perCommit) into
+            (omega (arith, remains .size, remains .room)),
+      )
       (ap (λ (l : List ℕ). take (n * perCommit) into ++ l) (sym (remains .rest)) ∙ take-append-drop (n * perCommit) into)
 
 pub remains-meets : (program : List ℕ) (k : ℕ) (m s u : Machine) (w list v z into : List ℕ) (n : ℕ)

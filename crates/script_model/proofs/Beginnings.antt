@@ -68,7 +68,8 @@ script-short text short = ap (λ (t : Bool). cond t unread (script (linesOf text
 abbrev playerBy : List ℕ → Bool → Script → Player
 playerBy text long s =
     cond long (idle (Bad 0))
-    (cond (sizesFit (s .banks) (s .rows) (s .stages) (s .words)) (openedPlayer text s (length (s .body .program) / 4)) (idle (Bad 1)))
+    (cond (sizesFit (s .banks) (s .rows) (s .stages) (s .words)) (openedPlayer text s (length (s .body .program) / 4))
+    (idle (Bad 1)))
 
 player-long : (text : List ℕ) → most < length text → firstPlayer text ≡ idle (Bad 0)
 player-long text long = ap (λ (t : Bool). playerBy text t (scriptOf text)) (lt-ltb most (length text) long)
@@ -145,7 +146,8 @@ unfolding lineStart
 body-behind zero s i p h =
     behind-none s i p (body-full s p (lineStart s i) (suc i) (omega (arith, h)))
 body-behind (suc fuel) s i p h =
-    by-room (ltb (length p) 1024) refl (λ ns four. body-behind fuel s (suc i) (p ++ ns) (omega (arith, h, length-append p ns, four)))
+    by-room (ltb (length p) 1024) refl (λ ns four. body-behind fuel s (suc i) (p ++ ns)
+    (omega (arith, h, length-append p ns, four)))
   where
     by-found : (f : Found) → foundAt s (lineStart s i) ≡ f → length p < 1024 → More s i p → Behind s i p
     by-found Nothing e room more = behind-none s i p (body-stop s p (lineStart s i) (suc i) e)
@@ -247,7 +249,8 @@ module _ {text : List ℕ} {whole : Bool} {program memory : List ℕ} where
       let is : scriptOf text ≡ s = script-short text short ∙ plainly in
       let k = length numbers / 4 in
       let zeros : after ≡ replicate words 0 =
-      cleared ∙ ap (λ (n : ℕ). replicate n 0) (lent-rightly text whole program memory right .1 ∙ ap (λ (r : Script). r .words) is) in
+      cleared ∙ ap (λ (n : ℕ). replicate n 0) (lent-rightly text whole program memory right .1
+      ∙ ap (λ (r : Script). r .words) is) in
       let checked : refusal (openChecks banks rows stages words numbers after) ≡ 0 =
       ap (λ (m : List ℕ). refusal (openChecks banks rows stages words numbers m)) zeros
       ∙ script-checked text s plainly (head .fit) in

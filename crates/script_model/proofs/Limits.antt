@@ -251,7 +251,8 @@ module _ (program : List ℕ) (X : Plain) (w : List ℕ) (linked : Linked progra
           subst (λ (r : Result). Linked program (r .state) (r .memory)) is
           (respond-links program (finish (suc j) list) X w linked .linked) in
           subst One (sym is)
-          (first-told (afterCommit i c r v d (finishes program j (suc j * perCommit - perCommit) Z z)) (e (suc j * perCommit) (omega arith))
+          (first-told (afterCommit i c r v d (finishes program j (suc j * perCommit - perCommit) Z z))
+          (e (suc j * perCommit) (omega arith))
           ∙ telling-onward program n more i c r v d (finishes program j (suc j * perCommit - perCommit) Z z)
           ∙ ap (λ (l : List ℕ). committedLines i c r v d ++ l)
           (ap (λ (places : ℕ). telling program (suc n) more (finishes program j places Z z))

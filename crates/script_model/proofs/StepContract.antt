@@ -428,7 +428,8 @@ step-in text program (Finishing k) cursor line n used m {memory} {after = after}
     let c = s .1 in
     called c
     (goes-on text cursor line used
-    (finish-made program m (c .machine) n k memory after (replicate perCommit 0) (c .list) (c .said) (s .0) refl (c .meets) (c .lent)))
+    (finish-made program m (c .machine) n k memory after (replicate perCommit 0) (c .list) (c .said) (s .0) refl
+    (c .meets) (c .lent)))
 step-in text program (Words a) cursor line n used m {memory} (inl s) =
     quietly (s .1) (goes-on text cursor line used (word-goes program m n a memory (s .0)))
 step-in text program (Words a) cursor line n used m {memory} (inr s) =

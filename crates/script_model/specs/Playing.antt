@@ -223,7 +223,8 @@ abbrev pub firstPlayer : List ℕ → Player
 firstPlayer text =
     let s = scriptOf text in
     cond (ltb most (length text)) (idle (Bad 0))
-    (cond (sizesFit (s .banks) (s .rows) (s .stages) (s .words)) (openedPlayer text s (length (s .body .program) / 4)) (idle (Bad 1)))
+    (cond (sizesFit (s .banks) (s .rows) (s .stages) (s .words)) (openedPlayer text s (length (s .body .program) / 4))
+    (idle (Bad 1)))
 
 -- A call of `begin`, where `whole` says that the text lent is all of the input. Lent wrongly, nothing is changed and the player
 -- is over. Otherwise the script's program stands at the start of the lent one and memory is zeros.

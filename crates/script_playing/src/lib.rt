@@ -18,7 +18,8 @@ ghost use Rattle.script_model.specs.Playing.{Fills};
 // Plays on with this program until all is printed or `out` has no room for another line.
 fn play_on(p: Player, s: &[u8], program: &[u32], memory: &mut [u32], out: &mut [u8]) -> Piece
     ensures { λ r. ⌜ ((list : List ℕ) → take (p .used) list ≡ now (program .entry)
-        → Fills (now (s .entry)) list p (now (memory .entry)) (now (out .entry)) (r .player) (now (memory .exit)) (now (out .exit))
+        → Fills (now (s .entry)) list p (now (memory .entry)) (now (out .entry)) (r .player)
+        (now (memory .exit)) (now (out .exit))
         (r .end)) ⌝ }
 {
     let mut machine = p.machine;

@@ -5,8 +5,9 @@ ghost use mathlib.Core.Path.{_≡_};
 ghost use Prim.Native.Nat.{_+_, _*_, _≤_, _<_};
 ghost use lib.ListN.{length, drop};
 ghost use Rattle.marks.specs.Counting.{every};
-ghost use Rattle.table.specs.Limits.{banksMost, rowsMost, slots, rowsIn, sizesFit};
+ghost use Rattle.table.specs.Limits.{stagesMost, banksMost, rowsMost, slots, rowsIn, sizesFit};
 ghost use Rattle.table.specs.Bank.{bank};
+ghost use Rattle.table.specs.computed.Naming.{namedBy};
 ghost use Rattle.table.specs.computed.Check.{marksOf, marksBelow, otherAddress, rowFits, lawfulBy};
 
 // The limits of the sizes: stages, rows a bank, banks, words. SLOTS is the length of the arrays by row.
@@ -44,6 +45,24 @@ pub struct Table {
 pub struct Ticket {
     pub stage: usize,
     pub number: u32,
+}
+
+// Whether the ticket of this stage and number names a live reference.
+pub fn named<'a>(
+    oldest: usize,
+    stages: usize,
+    live: usize,
+    numbers: &'a [u32; STAGES],
+    s: usize,
+    number: u32,
+) -> bool
+    requires { ⌜ (oldest < stages) × (stages ≤ stagesMost) × (length (now numbers) ≡ stagesMost) ⌝ }
+    ensures { λ r. ⌜ r ≡ namedBy oldest stages live (now (numbers .entry)) s number ⌝ }
+{
+    if s >= stages {
+        return false;
+    }
+    (marks::position_of(oldest, stages, s) < live) & (numbers[s] == number)
 }
 
 // The home (bank hash) of an address, at its remainder by 64.

@@ -118,7 +118,8 @@ module _ (r : Run) (b v : ℕ) (lies : wordOf b < length (r .memory)) where
   -- where a byte of b's word is that of the whole word, and a byte of another word is none of the part
   part-bytes : (code : ℕ) (part : Part) (j : ℕ) (t : Bool) (u : ℕ)
       → (wordOf j ≡ wordOf b
-      → byteOf (whole part b (getD (r .memory) (wordOf b) 0) v) (j % 4) ≡ cond t u (byteOf (getD (r .memory) (wordOf b) 0) (j % 4)))
+      → byteOf (whole part b (getD (r .memory) (wordOf b) 0) v) (j % 4)
+      ≡ cond t u (byteOf (getD (r .memory) (wordOf b) 0) (j % 4)))
       → ((wordOf j ≡ wordOf b → ⊥) → t ≡ false)
       → byteAt (putsPart r code part b v .memory) j ≡ cond t u (byteAt (r .memory) j)
   part-bytes code part j t u inside outside = go (eqb (wordOf j) (wordOf b)) refl

@@ -6,7 +6,8 @@ use native.Mathlib.Omega.{arith}
 use borrow.Author.Needs.{needs}
 use borrow.Author.Tests.{ltb-true, eq-eqb, ne-eqb, not-true, not-false}
 use Rattle.marks.specs.Stages.{has}
-use Rattle.buffer_model.specs.computed.Parts.{namedBy, executeRefusal}
+use Rattle.table.specs.computed.Naming.{namedBy}
+use Rattle.buffer_model.specs.computed.Parts.{executeRefusal}
 use Rattle.buffer_execute.proofs.execution_refusal.Statement.{statement}
 use Rattle.buffer_execute.proofs.execution_refusal.Tie as tie
 

@@ -1,19 +1,14 @@
 -- What the parts of a call compute, as the code does it, over the arrays lent to them.
 -- Assumes nothing.
-use mathlib.Core.Bool.{Bool, cond, not, _&&_}
+use mathlib.Core.Bool.{Bool, cond, not}
 use mathlib.Core.List.{List, [], _∷_}
 use Prim.Native.Nat.{ℕ}
 use lib.Dec.{eqb, ltb}
 use lib.ListN.{getD}
-use Rattle.marks.specs.Circle.{stage, position}
+use Rattle.marks.specs.Circle.{stage}
 use Rattle.buffer_model.specs.declared.Squashed.{Squashed}
 use Rattle.buffer_model.specs.declared.Squashed.the-variants.{Nothing, From}
 use Rattle.engine.specs.Conditions.{refusal, when}
-
--- stage s is live and was issued under this number
-abbrev pub namedBy : ℕ → ℕ → ℕ → List ℕ → ℕ → ℕ → Bool
-namedBy oldest stages live numbers s number =
-    ltb s stages && (ltb (position oldest stages s) live && eqb (getD numbers s 0) number)
 
 -- an execution's conditions before its row is looked for, on a table that keeps its rules
 abbrev pub executeRefusal : ℕ → ℕ → Bool → Bool → ℕ

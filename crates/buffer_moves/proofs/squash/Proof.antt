@@ -12,7 +12,7 @@ use Rattle.marks.specs.Circle.{position}
 use Rattle.table.specs.Rules.{Rules}
 use Rattle.engine.proofs.Lengths.{Lengths, lengths-of, fits, circle-asks}
 use Rattle.buffer_model.specs.Calls.{squash}
-use Rattle.buffer_model.specs.computed.Parts.{namedBy}
+use Rattle.table.specs.computed.Naming.{namedBy}
 use Rattle.buffer_model.proofs.MeetingContract.{checked-rules, broken-meets}
 use Rattle.buffer_model.proofs.Moving.{named-live, squash-unnamed, squash-meets}
 use Rattle.buffer_moves.proofs.squash.Statement.{statement}

@@ -155,7 +155,8 @@ returns-6 c =
     let x = faultless f in
     let l = executed x in
     commit-meets _ _ _ (passed-at (l .before)) (live-at l) (executed-at x) _ (mark-at (f .before .before))
-    (sym (f .before .mark-faults .ensures) ∙ f .if4 .left) (sym (last c .before .is-misaligned .ensures) ∙ last c .if5 .left) _ _ _
+    (sym (f .before .mark-faults .ensures) ∙ f .if4 .left) (sym (last c .before .is-misaligned .ensures) ∙ last c .if5 .left)
+    _ _ _
     _ _ _ _ _ _ _
     (t .before .before .before .before .before .before .before .before .before .before .before .stage-at .ensures)
     (t .before .before .before .before .before .before .before .before .before .before .first-stages .ensures)
@@ -173,6 +174,7 @@ pub commit-spec : {M : Type 1} → statement M
 commit-spec =
     tie.close
     (tie.spec (λ c κs. search needs) returns returns-2 mul-e array-copy-out-e (search needs) returns-3 at-stage-requires
-    (search needs) (search needs) returns-4 (search needs) returns-5 write-back-requires (search needs) stage-at-requires (search needs)
+    (search needs) (search needs) returns-4 (search needs) returns-5 write-back-requires
+    (search needs) stage-at-requires (search needs)
     first-stages-requires (search needs) keep-requires keep-requires-2 write-register-requires (search needs)
     (search needs) (search needs) (search needs) returns-6)

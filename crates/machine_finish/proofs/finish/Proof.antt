@@ -475,7 +475,8 @@ returns-5 c =
     let mark = read (c .before .before) in
     let p = prepared mark in
     refused-meets p 14
-    (turn-odd (ready-at p) (mark-at mark) (clean-at (c .before .before)) (sym (c .before .is-misaligned .ensures) ∙ c .if7 .taken))
+    (turn-odd (ready-at p) (mark-at mark) (clean-at (c .before .before))
+    (sym (c .before .is-misaligned .ensures) ∙ c .if7 .taken))
 
 write-back-requires : tie.Need-write-back-requires Inv-loop μ-loop
 write-back-requires c κs =
@@ -598,6 +599,7 @@ finish-spec =
     add-mark-requires-2 set-value-requires set-value-requires-2 stage-at-requires mul-f element-copy-out-f mul-t79
     element-set-from-m-2
     (search needs) mul-done element-copy-out-done at-stage-requires (search needs) (search needs) same-length-5
-    same-length-6 returns-4 (search needs) same-length-7 same-length-8 returns-5 write-back-requires (search needs) stage-at-requires-2 sub-first-stages
+    same-length-6 returns-4 (search needs) same-length-7 same-length-8 returns-5 write-back-requires (search needs)
+    stage-at-requires-2 sub-first-stages
     first-stages-requires sub-m keep-requires keep-requires-2 write-register-requires mul-put-commit (search needs)
     (search needs) (search needs) put-commit-requires add-n loop-less loop-again (search needs) (search needs) returns-6)

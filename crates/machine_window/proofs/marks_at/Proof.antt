@@ -1,5 +1,5 @@
--- `machine_window::marks_at` meets its contract. The loop's invariant: `load` and `store` are the unions over the i rows passed; a
--- turn adds its row's marks where the row has the address. Assumes nothing.
+-- `machine_window::marks_at` meets its contract. The loop's invariant: `load` and `store` are the unions over the i rows passed;
+-- a turn adds its row's marks where the row has the address. Assumes nothing.
 use mathlib.Core.Logic.{⊎-elim}
 use mathlib.Core.Path.{_≡_, refl, sym, ap, ap₂, _∙_}
 use mathlib.Core.List.{List}

@@ -18,7 +18,8 @@ Inv-loop banks rows stages words calls seed when part by limit program memory₀
     Mixing placed (Plays banks rows stages words program) when left₀ m₀ memory₀ sum₀ left m memory sum
 
 abbrev μ-loop : tie.MeasureT-loop
-μ-loop banks rows stages words calls seed when part by limit program memory₀ list m₀ sum₀ draw₀ left₀ memory m sum draw left = left
+μ-loop banks rows stages words calls seed when part by limit program memory₀ list m₀ sum₀ draw₀ left₀ memory m sum draw left =
+    left
 
 loop-holds : tie.Need-loop-holds Inv-loop μ-loop
 loop-holds c = mixing-all

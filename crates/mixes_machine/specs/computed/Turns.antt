@@ -33,7 +33,8 @@ pub record MachineTurns (banks rows stages words : ℕ) (program : List ℕ) (wh
     (sum′ : ℕ) : Type 0 where
   pub memory : List ℕ
   pub sum : ℕ
-  pub mixed : Mixed placed (Opens banks rows stages words program (x .0)) (Plays banks rows stages words program) when calls (x .0)
+  pub mixed : Mixed placed (Opens banks rows stages words program (x .0)) (Plays banks rows stages words program)
+      when calls (x .0)
       memory sum
   pub said : Answer ℕ
   pub after : Machine

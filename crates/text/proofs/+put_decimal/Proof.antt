@@ -74,7 +74,8 @@ put-decimal-slice-write-out t c = omega arith
 put-decimal-add-result : (t : ℕ) → put-decimal-lts.Need-add-result (inner t) (put-decimal-at t) put-decimal.Post
 put-decimal-add-result t c = omega arith
 
-put-decimal-put-decimal-requires : (t : ℕ) → put-decimal-lts.Need-put-decimal-requires (inner t) (put-decimal-at t) put-decimal.Post
+put-decimal-put-decimal-requires : (t : ℕ) → put-decimal-lts.Need-put-decimal-requires (inner t)
+    (put-decimal-at t) put-decimal.Post
 put-decimal-put-decimal-requires t c κs = (omega arith, omega arith)
 
 put-decimal-add-out-2 : (t : ℕ) → put-decimal-lts.Need-add-out-2 (inner t) (put-decimal-at t) put-decimal.Post
