@@ -12,10 +12,10 @@ use Prim.Native.Nat.{ℕ, zero, suc, _≤_, _<_, _+_, _-_}
 use native.Mathlib.Nat.{eq-or-lt-of-le, le-of-suc-le-suc, not-suc-le-zero, le-refl, le-step}
 use native.Mathlib.Omega.{arith}
 use lib.Dec.{eqb, eqb·suc-zero}
-use lib.ListN.{length, take, drop, length-drop}
+use lib.ListN.{length, getD, take, drop, length-drop, List·getD-eq-default}
 use borrow.Author.Tests.{eq-eqb, ne-eqb, eqb-true, eqb-false}
 use Rattle.table.specs.Reference.{Side, lacks, holds, Fate, waiting, other, accessed, Ref, ref, fateOf, at, State}
-use Rattle.lookup.specs.Forwarding.{wordAfter, seen, holdsWord, storesTo, further, distance}
+use Rattle.lookup.specs.Forwarding.{wordAfter, seen, forwarded, holdsWord, storesTo, further, distance}
 use Rattle.lookup.specs.Rows.{touches, touched}
 use Rattle.lookup.specs.Violation.{keptMet, keptFrom, keptYounger, keptAfterStore}
 use Rattle.lookup.specs.Outcome.{survivors}
@@ -49,6 +49,12 @@ seen-none refs (suc p) a w h none =
     seen-next refs p a w h
     ∙ after-no-store (at refs p) a (seen (take p refs) a w) (λ m u l. none p m u l (le-refl (suc p)))
     ∙ seen-none refs p a w (omega arith) (λ k m u l h. none k m u l (le-step h))
+
+-- "or 0 when the address is W or more": memory has no word there
+pub forwarded-outside : (P : State) (memory : List ℕ) (p a : ℕ) → p ≤ length (P .refs) → length memory ≤ a
+    → ((k m u : ℕ) (l : Side) → k < p → at (P .refs) k ≡ ref m (accessed a l (holds u)) → ⊥) → forwarded P memory p a ≡ 0
+forwarded-outside P memory p a h out none =
+    seen-none (P .refs) p a (getD memory a 0) h none ∙ List·getD-eq-default memory 0 out
 
 -- "the value is that of the youngest executed store to this address among older live references"
 pub seen-youngest : (refs : List Ref) (p q a v w n : ℕ) (b : Side) → q < p → p ≤ length refs
