@@ -12,5 +12,7 @@ pub mod Ordered
 pub mod Stalling
 pub mod Numbers
 pub mod Tickets
+pub mod Stale
+pub mod Exact
 pub mod Starred
 pub mod Broken

@@ -1,16 +1,12 @@
--- The ticket theorem, of the concrete calls through their contract. In the life of an opened table take any issue with its
--- ticket. After any further calls the ticket names its reference still, where those calls moved it (undropped-named), or one of
--- them squashed or committed it, and then the ticket touches no later reference (stale).
--- The calls move the reference, or leave its ticket dead, one by one (life-tracked, by the laws of Numbers). A dead ticket
--- names nothing while fewer than 2 ^ 32 issues came after it, and a call with a ticket that names nothing is refused
--- (unnamed-refused).
+-- The ticket theorem (specs/Tickets.antt), of the concrete calls through their contract. The calls move the ticket's reference,
+-- or leave its ticket dead, one by one (life-tracked, by the laws of Numbers). A dead ticket names nothing while fewer than
+-- 2 ^ 32 issues came after it, and a call with a ticket that names nothing is refused (unnamed-call).
 -- Assumes nothing.
 use mathlib.Core.Bool.{Bool, true, false, cond, not, true≢false}
 use mathlib.Core.List.{List, [], _∷_}
-use mathlib.Core.Logic.{_⊎_, inl, inr}
-use mathlib.Core.Option.{Option, none, some}
+use mathlib.Core.Option.{Option, some}
 use mathlib.Core.Path.{_≡_, refl, sym, ap, subst, _∙_}
-use Prim.Native.Nat.{ℕ, _^_, _<_}
+use Prim.Native.Nat.{ℕ}
 use native.Mathlib.Omega.{arith}
 use lib.Dec.{eqb}
 use lib.ListN.{length, length-append}
@@ -20,20 +16,21 @@ use Rattle.marks.specs.Circle.{stage}
 use Rattle.table.specs.declared.Ticket.{Ticket}
 use Rattle.table.specs.declared.Table.{Table}
 use Rattle.table.specs.Reference.{waiting, ref, numberOf, blank, State}
-use Rattle.table.specs.Moves.{issued}
+use Rattle.table.specs.Moves.{issued, squashTo}
 use Rattle.table.specs.View.{view}
 use Rattle.table.specs.Rules.{Rules}
 use Rattle.table.proofs.Fates.{length-refs}
 use Rattle.engine.specs.Conditions.{refusal}
 use Rattle.engine.specs.Contract.{refused, done, named, judged}
-use Rattle.engine.proofs.Meeting.{no-refusal, turned}
+use Rattle.engine.proofs.Meeting.{no-refusal, turned, judged-accepted}
 use Rattle.buffer_model.specs.Answers.{Answer}
 use Rattle.buffer_model.specs.Refusals.{openChecks, place, names}
-use Rattle.buffer_model.specs.Calls.{Call, issue, Result, acceptedResult, refusalOf, respond}
+use Rattle.buffer_model.specs.Calls.{Call, issue, squash, Result, acceptedResult, refusalOf, respond}
 use Rattle.buffer_model.specs.Contract.{Meets, Opens}
 use Rattle.buffer_model.specs.Life.{Event, TableLife, born, lived, issuesIn, followed, Uses, toExecute, toSquash}
-use Rattle.buffer_model.proofs.Numbers.{Fits, Moves, moves, holds-named, holds-place, Held, Tracked, tracked-on}
-use Rattle.buffer_model.proofs.Numbers.{dead-unnamed}
+use Rattle.buffer_model.specs.Tickets.{staleNumber, TicketTruth}
+use Rattle.buffer_model.proofs.Numbers.{Fits, Moves, moves, holds-named, holds-place, Dead, Held, Tracked}
+use Rattle.buffer_model.proofs.Numbers.{tracked-on, dead-unnamed}
 
 -- a table that keeps the rules fits the circle
 fits : {t : Table} → Rules t → Fits (view t)
@@ -89,26 +86,16 @@ was-issued {t} {u} {m} {v} {τ} rules meets =
 
 -- a ticket that names nothing is refused with 7, or a wrong memory length before it with 3
 unnamed-judged : (long isNamed : Bool) (others : ℕ) (P : State) (m : List ℕ) (r : Result) → isNamed ≡ false
-    → (k : ℕ) × ((k ≡ 3) ⊎ (k ≡ 7))
-    × (judged (cond (not long) 3 (cond (not isNamed) 7 others)) P m [] r .answer ≡ refused k)
+    → judged (cond (not long) 3 (cond (not isNamed) 7 others)) P m [] r .answer ≡ refused (cond long 7 3)
 unnamed-judged true true others P m r e = absurd (true≢false e)
-unnamed-judged true false others P m r e = (7, inr refl, refl)
-unnamed-judged false isNamed others P m r e = (3, inl refl, refl)
+unnamed-judged true false others P m r e = refl
+unnamed-judged false isNamed others P m r e = refl
 
-unnamed-call : (P : State) (m : List ℕ) (τ : Ticket) (c : Call) → names P τ ≡ false → Uses τ c
-    → (k : ℕ) × ((k ≡ 3) ⊎ (k ≡ 7)) × (respond c P m .answer ≡ refused k)
+unnamed-call : (P : State) (m : List ℕ) (τ : Ticket) (c : Call) → names P τ ≡ false → (uses : Uses τ c)
+    → respond c P m .answer ≡ refused (staleNumber uses (P .words) m)
 unfolding respond
 unnamed-call P m τ c e (toExecute {act = act}) = unnamed-judged (eqb (length m) (P .words)) (names P τ) _ P m _ e
 unnamed-call P m τ c e toSquash = unnamed-judged true (names P τ) 0 P m _ e
-
--- a call with a ticket that names nothing is refused with 3 or 7, and changes nothing
-pub unnamed-refused : {t u : Table} {c : Call} {m v : List ℕ} {said : Answer} (τ : Ticket) → Rules t
-    → names (view t) τ ≡ false → Uses τ c → Meets t c m said u v
-    → (k : ℕ) × ((k ≡ 3) ⊎ (k ≡ 7)) × (said ≡ refused k) × (u ≡ t) × (v ≡ m)
-unnamed-refused {t} {u} {c} {m} τ rules e uses meets =
-    let no-name = unnamed-call (view t) m τ c e uses in
-    let same = meets .refuses rules (no-name .0) (no-name .2) in
-    (no-name .0, no-name .1, same .0, same .1, same .2)
 
 -- a ticket whose reference was at position p is tracked through a life
 life-tracked : {t u : Table} {es : List Event} (τ : Ticket) (p : ℕ) → Rules t → Tracked τ 0 (some p) (view t)
@@ -137,14 +124,10 @@ module _ {banks rows stages words : ℕ} {m₀ m₁ m₂ : List ℕ} {t u v w : 
     (opens : Opens banks rows stages words m₀ done t) (life : TableLife t earlier u) (start : Meets u issue m₁ (named τ) v m₂)
     -- and any further calls came after it
     (life′ : TableLife v later w) where
-  -- where they moved its reference; none: one of them squashed or committed it
-  abbrev pub now-at : Option ℕ
-  now-at = followed later (length (view u .refs))
-
   rules-w : Rules w
   rules-w = life-rules (start .lawful (life-rules (opened opens) life)) life′
 
-  tracked : Tracked τ (issuesIn later) now-at (view w)
+  tracked : Tracked τ (issuesIn later) (followed later (length (view u .refs))) (view w)
   tracked =
       let rules-u = life-rules (opened opens) life in
       let new = was-issued rules-u start in
@@ -159,20 +142,33 @@ module _ {banks rows stages words : ℕ} {m₀ m₁ m₂ : List ℕ} {t u v w : 
       }))
       life′
 
-  -- A reference that was not squashed or committed stays named by its ticket, at its position.
-  pub undropped-named : (p : ℕ) → now-at ≡ some p → (names (view w) τ ≡ true) × (place (view w) τ ≡ p)
-  undropped-named p e =
-      let h : Held τ (issuesIn later) p (view w) =
-      subst (λ (x : Option ℕ). Tracked τ (issuesIn later) x (view w)) e tracked in
-      (holds-named (view w) τ p (fits rules-w) (h .holds) (h .number), holds-place (view w) τ p (fits rules-w) (h .holds))
+  pub ticket-theorem : TicketTruth τ (length (view u .refs)) later w
+  ticket-theorem =
+      record {
+        still-named = λ q e.
+            let held : Held τ (issuesIn later) q (view w) =
+            subst (λ (x : Option ℕ). Tracked τ (issuesIn later) x (view w)) e tracked in (
+              holds-named (view w) τ q (fits rules-w) (held .holds) (held .number),
+              holds-place (view w) τ q (fits rules-w) (held .holds),
+            );
+        stale = λ e few {c} {m} {m′} {x} {said} uses meets.
+            let dead : Dead τ (issuesIn later) (view w) =
+            subst (λ (x : Option ℕ). Tracked τ (issuesIn later) x (view w)) e tracked in
+            let free = dead-unnamed (view w) τ (issuesIn later) (fits rules-w) dead (omega (arith, few)) in
+            let kept = meets .refuses rules-w (staleNumber uses (w .words) m) (unnamed-call (view w) m τ c free uses) in
+            (kept .0, kept .1, kept .2);
+      }
 
-  -- "no ticket of its squashed or committed references touches a later one, as long as fewer than 4,294,967,296 issues came
-  -- after it": a call that is given it is refused with 3 or 7, and hands back table and memory as they were.
-  pub stale : now-at ≡ none → issuesIn later < 2 ^ 32
-      → {c : Call} {m m′ : List ℕ} {x : Table} {said : Answer} → Uses τ c → Meets w c m said x m′
-      → (k : ℕ) × ((k ≡ 3) ⊎ (k ≡ 7)) × (said ≡ refused k) × (x ≡ w) × (m′ ≡ m)
-  stale e few uses meets =
-      unnamed-refused τ rules-w
-      (dead-unnamed (view w) τ (issuesIn later) (fits rules-w)
-      (subst (λ (x : Option ℕ). Tracked τ (issuesIn later) x (view w)) e tracked) few)
-      uses meets
+-- what a ticket that still names its reference does: a squash that is given it is done, and the older references stay
+pub squashes-from : {τ : Ticket} {p : ℕ} {later : List Event} {w x : Table} {m m′ : List ℕ} {said : Answer} → Rules w
+    → TicketTruth τ p later w → (q : ℕ) → followed later p ≡ some q → Meets w (squash τ) m said x m′
+    → (said ≡ done) × (view x ≡ squashTo (view w) q)
+unfolding respond
+squashes-from {τ} {p} {later} {w} {x} {m} rules truth q e meets =
+    let now = truth .still-named q e in
+    let r : Result = acceptedResult (squash τ) (view w) m in
+    let same : respond (squash τ) (view w) m ≡ r =
+    judged-accepted (refusalOf (squash τ) (view w) m) (view w) m [] r (ap (λ (t : Bool). cond (not t) 7 0) (now .0)) in (
+      meets .answer rules ∙ ap (λ (s : Result). s .answer) same,
+      meets .state rules ∙ ap (λ (s : Result). s .state) same ∙ ap (squashTo (view w)) (now .1),
+    )

@@ -4,6 +4,7 @@ pub mod Refusals
 pub mod Calls
 pub mod Contract
 pub mod Life
+pub mod Tickets
 pub mod Examples
 pub mod Edges
 pub mod PartStores
