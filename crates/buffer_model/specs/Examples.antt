@@ -14,12 +14,14 @@ use lib.ListN.{replicate, set}
 use Rattle.table.specs.declared.Table.{Table}
 use Rattle.table.specs.declared.Ticket.{Ticket}
 use Rattle.table.specs.Reference.{State}
+use Rattle.engine.specs.declared.Action.the-variants.{Compute}
 use Rattle.engine.specs.Conditions.{refusal}
 use Rattle.engine.specs.Contract.{refused, done, named, executed}
 use Rattle.engine.specs.Opening.{opening}
 use Rattle.buffer_model.specs.Answers.{Answer}
 use Rattle.buffer_model.specs.Refusals.{openChecks}
-use Rattle.buffer_model.specs.Calls.{Call, issue, executeLoad, executeStore, executeOther, squash, commit, respond}
+use Rattle.buffer_model.specs.Calls.{Call, issue, execute, executeLoad, executeStore, executeOther, squash, commit}
+use Rattle.buffer_model.specs.Calls.{respond}
 use Rattle.buffer_model.specs.Contract.{Meets, Opens}
 
 -- a call on the memory that the calls before it left, or on another one that is lent to it alone
@@ -169,6 +171,8 @@ examples =
     ∷ executed 0 0 none ∷ executed 7 1 none ∷ [])
     -- Not starred in 01, from here on.
 
+    -- An execution without memory answers 0, whatever it computed.
+    ∷ usual (issue ∷ execute (τ 0 0) (Compute 9) ∷ []) (named (τ 0 0) ∷ executed 0 0 none ∷ [])
     -- A store of the word that the load took squashes nothing.
     ∷ usual
     (issue ∷ issue ∷ executeLoad (τ 1 1) 100 ∷ executeStore (τ 0 0) 100 140 ∷ [])
