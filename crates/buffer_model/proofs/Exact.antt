@@ -63,10 +63,6 @@ rules : (next number : ℕ) → Rules (table 0 next number) × Rules (table 1 ne
 unfolding lawfulBy rowFits marksBelow every firsts sizesFit home bank
 rules next number = (lawful-rules (table 0 next number) refl, lawful-rules (table 1 next number) refl)
 
-opens : Opens 1 1 1 1 memory done (table 0 0 0)
-unfolding sizesFit
-opens = opens-done 1 1 1 1 memory refl refl
-
 -- an issue takes the stage; a squash that is given its ticket frees it
 issues : (next number : ℕ)
     → Meets (table 0 next number) issue memory (named (τ 0 next)) (table 1 ((next + 1) % 2 ^ 32) next) memory
@@ -111,15 +107,18 @@ emptied (suc n) =
       count = ap suc (r .count);
     }
 
--- a life in which n issues came after the first one's own: the first reference was squashed, and another holds its stage
+-- a life from an opening on in which n issues came after the first, which answered τ 0 0: its reference was squashed, and
+-- another holds its stage
 pub record Reissued (n : ℕ) : Type 0 where
+  pub opened : Opens 1 1 1 1 memory done (table 0 0 0)
+  pub start : Meets (table 0 0 0) issue memory (named (τ 0 0)) (holding 0) memory
   pub later : List Event
   pub life : TableLife (holding 0) later (holding n)
   pub gone : followed later 0 ≡ none
   pub count : issuesIn later ≡ n
 
 pub reissued : (n : ℕ) → Reissued (suc n)
-unfolding tabulate followed issuesIn
+unfolding sizesFit tabulate followed issuesIn
 reissued n =
     let r = emptied n in
     let k = (n + 1) % 2 ^ 32 in
@@ -127,6 +126,8 @@ reissued n =
     let next : (k + 1) % 2 ^ 32 ≡ (suc n + 1) % 2 ^ 32 = omega arith in
     let later = event issue (named (τ 0 k)) 1 ∷ r .later in
     record {
+      opened = opens-done 1 1 1 1 memory refl refl;
+      start = issues 0 0;
       later = later;
       life = subst (TableLife (holding 0) later) (ap₂ (table 1) next number) (lived (r .life) (issues k (r .number)));
       gone = rw (r .gone);
@@ -138,7 +139,7 @@ module _ {m v : List ℕ} {x : Table} {said : Answer} where
   last-refused : Reissued (2 ^ 32 - 1) → Meets (holding (2 ^ 32 - 1)) (squash (τ 0 0)) m said x v → said ≡ refused 7
   unfolding tabulate
   last-refused r meets =
-      ticket-theorem opens born (issues 0 0) (r .life) .stale (r .gone) (omega (arith, r .count)) toSquash meets .0
+      ticket-theorem (r .opened) born (r .start) (r .life) .stale (r .gone) (omega (arith, r .count)) toSquash meets .0
 
   pub held-off : Meets (holding (2 ^ 32 - 1)) (squash (τ 0 0)) m said x v → said ≡ refused 7
   held-off = last-refused (reissued (2 ^ 32 - 2))

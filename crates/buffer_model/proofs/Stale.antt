@@ -155,7 +155,8 @@ comes c now meets = (
 )
 
 module _ {x y : Table} {m₁ m₂ : List ℕ} {said₁ said₂ : Answer}
-    (late-execute : Meets t₇ (executeLoad (τ 0 2) 1) memory said₁ x m₁) (late-squash : Meets x (squash (τ 0 2)) m₁ said₂ y m₂) where
+    (late-execute : Meets t₇ (executeLoad (τ 0 2) 1) memory said₁ x m₁)
+    (late-squash : Meets x (squash (τ 0 2)) m₁ said₂ y m₂) where
   -- the dead load's execution and squash are refused with 7, and hand back table and memory as they were
   pub late-refused : (said₁ ≡ refused 7) × (x ≡ t₇) × (m₁ ≡ memory) × (said₂ ≡ refused 7) × (y ≡ x) × (m₂ ≡ m₁)
   unfolding computing followed issuesIn

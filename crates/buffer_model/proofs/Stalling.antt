@@ -1,9 +1,9 @@
 -- "Without such a row the answer is refusal 10", both ways, through the contract: an execution answers 10 exactly where none of
 -- its smaller conditions holds and the plain list has no row for its address (lookup's proofs/Eviction.antt).
 -- Assumes nothing.
-use mathlib.Core.Bool.{Bool, true, false, not, and-eq-true-iff}
+use mathlib.Core.Bool.{Bool, true, false, not, _||_, true≢false, and-eq-true-iff}
 use mathlib.Core.List.{List, [], _∷_}
-use mathlib.Core.Path.{_≡_, refl, ap, _∙_}
+use mathlib.Core.Path.{_≡_, refl, sym, ap, _∙_}
 use Prim.Native.Nat.{ℕ, _<_}
 use native.Mathlib.Omega.{arith}
 use lib.Dec.{eqb, ltb}
@@ -35,16 +35,23 @@ pub record Executable (t : Table) (τ : Ticket) (m : List ℕ) : Type 0 where
   pub named : names (view t) τ ≡ true
   pub waits : hasExecuted (fateOf (at (view t .refs) (place (view t) τ))) ≡ false
 
--- the last condition decides where none before it holds, and only there
-last-of-five : (a b c d e : Bool)
-    → refusal (when (not a) 2 ∷ when (not b) 3 ∷ when (not c) 7 ∷ when d 8 ∷ when e 10 ∷ []) ≡ 10
-    → (a ≡ true) × (b ≡ true) × (c ≡ true) × (d ≡ false) × (e ≡ true)
-last-of-five false b c d e z = absurd (omega arith)
-last-of-five true false c d e z = absurd (omega arith)
-last-of-five true true false d e z = absurd (omega arith)
-last-of-five true true true true e z = absurd (omega arith)
-last-of-five true true true false false z = absurd (omega arith)
-last-of-five true true true false true z = (refl, refl, refl, refl, refl)
+-- the last number of an execution's refusals, or none
+abbrev lastOrNone : ℕ → Bool
+lastOrNone k = eqb k 0 || eqb k 10
+
+another : (j k : ℕ) → lastOrNone j ≡ false → lastOrNone k ≡ true → j ≡ k → ⊥
+another j k e h z = true≢false (sym h ∙ ap lastOrNone (sym z) ∙ e)
+
+-- where the refusal has the last number or none, no condition before the last holds, and the last decides
+pub last-decides : (a b c d e : Bool) (k : ℕ) → lastOrNone k ≡ true
+    → refusal (when (not a) 2 ∷ when (not b) 3 ∷ when (not c) 7 ∷ when d 8 ∷ when e 10 ∷ []) ≡ k
+    → (a ≡ true) × (b ≡ true) × (c ≡ true) × (d ≡ false) × (e ≡ eqb k 10)
+last-decides false b c d e k h z = absurd (another 2 k refl h z)
+last-decides true false c d e k h z = absurd (another 3 k refl h z)
+last-decides true true false d e k h z = absurd (another 7 k refl h z)
+last-decides true true true true e k h z = absurd (another 8 k refl h z)
+last-decides true true true false false k h z = (refl, refl, refl, refl, ap (λ (j : ℕ). eqb j 10) z)
+last-decides true true true false true k h z = (refl, refl, refl, refl, ap (λ (j : ℕ). eqb j 10) z)
 
 module _ (t : Table) (τ : Ticket) (act : Action) (m : List ℕ) where
   abbrev asked : Asked
@@ -54,7 +61,7 @@ module _ (t : Table) (τ : Ticket) (act : Action) (m : List ℕ) where
   fate = comesTo (view t) m τ act
 
   -- the position that the ticket names is live
-  named-place : names (view t) τ ≡ true → place (view t) τ < length (view t .refs)
+  pub named-place : names (view t) τ ≡ true → place (view t) τ < length (view t .refs)
   named-place e =
       let outer = and-eq-true-iff (ltb (τ .stage) (t .stages)) _ .0 e in
       let inner = and-eq-true-iff (ltb (place (view t) τ) (length (view t .refs))) _ .0 (outer .1) in
@@ -64,9 +71,10 @@ module _ (t : Table) (τ : Ticket) (act : Action) (m : List ℕ) where
       → Executable t τ m × ((a : ℕ) × (touches a fate ≡ true) × Stalled (view t) (place (view t) τ) a)
   ten-stalls meets =
       let answered : Answered asked (refused 10) = called meets in
-      let w = last-of-five (lawful t) (eqb (length m) (t .words)) (names (view t) τ)
+      let w = last-decides (lawful t) (eqb (length m) (t .words)) (names (view t) τ)
       (hasExecuted (fateOf (at (view t .refs) (place (view t) τ))))
       (eqb (survivors (view t) (place (view t) τ) fate) 0)
+      10 refl
       (refused-first 10 answered .0) in (
         record {
           rules = lawful-rules t (w .0);

@@ -33,7 +33,7 @@ use Rattle.buffer_model.proofs.Numbers.{Fits, Moves, moves, holds-named
 use Rattle.buffer_model.proofs.Numbers.{tracked-on, dead-unnamed}
 
 -- a table that keeps the rules fits the circle
-fits : {t : Table} → Rules t → Fits (view t)
+pub fits : {t : Table} → Rules t → Fits (view t)
 fits {t} rules = record { start = rules .start; live-bounded = omega (arith, rules .live-bounded, length-refs t) }
 
 -- what a call that meets its contract did to the window

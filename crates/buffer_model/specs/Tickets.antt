@@ -19,16 +19,16 @@ use Rattle.buffer_model.specs.Calls.{Call}
 use Rattle.buffer_model.specs.Contract.{Meets}
 use Rattle.buffer_model.specs.Life.{Event, issuesIn, followed, Uses, toExecute, toSquash}
 
--- with which number a ticket that names nothing is refused: 7; an execute that is lent a memory not of W words: 3 before it
+-- with which number a call that is given a dead ticket is refused: 7, or 3 where it is lent a memory that is not of W words
 abbrev pub staleNumber : {τ : Ticket} {c : Call} → Uses τ c → ℕ → List ℕ → ℕ
 staleNumber toExecute words m = cond (eqb (length m) words) 7 3
 staleNumber toSquash words m = 7
 
 -- In the life of an opened table an issue answered τ; its reference was then the youngest, at position p. The events `later`
 -- came after it, refused calls among them, and led to table w. If none of them squashed or committed the reference, the
--- ticket names it still, at the position q where they moved it. "no ticket of its squashed or committed references touches
--- a later one, as long as fewer than 4,294,967,296 issues came after it": if one of them squashed or committed it, every
--- call that is given the ticket is refused and hands back table and memory as they were.
+-- ticket names it still, at the position q where they moved it. If one of them did, "no ticket of its squashed or committed
+-- references touches a later one, as long as fewer than 4,294,967,296 issues came after it": every call that is given the
+-- ticket is refused, and hands back table and memory as they were.
 pub record TicketTruth (τ : Ticket) (p : ℕ) (later : List Event) (w : Table) : Type 0 where
   pub still-named : (q : ℕ) → followed later p ≡ some q → (names (view w) τ ≡ true) × (place (view w) τ ≡ q)
   pub stale : followed later p ≡ none → issuesIn later < 2 ^ 32
