@@ -13,7 +13,8 @@ use Rattle.machine_model.specs.Program.{programFits}
 use Rattle.machine_model.specs.Window.{registerSeen}
 use Rattle.machine_model.specs.Calls.{finishes, respond}
 use Rattle.machine_model.specs.Examples.{Example, toldBy, seenOf, AllShown, told, played, examples}
-use Rattle.machine_model.specs.Examples.{openings, refusals, unlikes, runs, parts, distances, sameWords}
+use Rattle.machine_model.specs.Examples.{openings, refusals, unlikes, runs, parts, distances, sameWords, numberings}
+use Rattle.machine_model.specs.Examples.{damaged}
 
 -- an equation of lists is one of each row
 each : (rows : List Example) → map seenOf rows ≡ map toldBy rows → AllShown rows
@@ -21,6 +22,6 @@ each [] h = tt
 each (e ∷ rows) h = (cc, each rows cc)
 
 pub shown : AllShown examples
-unfolding openings refusals unlikes runs parts distances sameWords told played respond finishes seen distance keptYounger touched
-    every count last home bank sizesFit programFits registerSeen
+unfolding openings refusals unlikes runs parts distances sameWords numberings damaged told played respond finishes seen distance
+    keptYounger touched every count last home bank sizesFit programFits registerSeen
 shown = each examples refl

@@ -9,7 +9,7 @@ use lib.ListN.{take, replicate}
 use Rattle.table.specs.Limits.{stagesMost, slots}
 use Rattle.engine.specs.Contract.{refused}
 use Rattle.machine_model.specs.declared.Instruction.{Instruction}
-use Rattle.machine_model.specs.declared.Instruction.the-variants.{Add, Load, Store, Byte, Half}
+use Rattle.machine_model.specs.declared.Instruction.the-variants.{Add, Sum, Load, Store, Byte, Half}
 use Rattle.machine_model.specs.declared.Fate.{Fate}
 use Rattle.machine_model.specs.declared.Fate.the-variants.{Waiting, Executed}
 use Rattle.machine_model.specs.declared.Entry.{Entry}
@@ -164,6 +164,9 @@ cases =
     ∷ broken (marked 3 0 (entry (Byte 1 0 12) 0 (Executed 5 12))) ∷ broken (marked 2 1 (entry (Byte 1 0 12) 0 (Executed 5 12)))
     ∷ broken (marked 3 0 (entry (Half 1 0 12) 0 (Executed 5 12))) ∷ broken (marked 2 1 (entry (Half 1 0 12) 0 (Executed 5 12)))
     ∷ sound (marked 3 0 (entry (Load 1 0 3) 0 (Executed 5 3)))
+    -- what stands for the address of an A or a P, which has none, plays no part
+    ∷ sound (windowed (theStore ∷ theLoad ∷ entry (Add 3 0 1) 2 (Executed 1 7) ∷ theIdle ∷ []))
+    ∷ sound (windowed (theStore ∷ theLoad ∷ entry (Sum 3 0 1) 2 (Executed 1 3) ∷ theIdle ∷ []))
     -- 2 compares no words, and asks nothing of instructions, indices and entries that are not live
     ∷ sound (windowed (entry (Store 1 0 3) 0 (Executed 6 3) ∷ entry (Load 2 0 3) 9 (Executed 7 3) ∷ theSum ∷ theIdle ∷ []))
     ∷ sound (windowed (entry (Store 7 7 7) 0 (Executed 5 3) ∷ theLoad ∷ theSum ∷ theIdle ∷ theSum ∷ []))

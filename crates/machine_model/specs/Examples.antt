@@ -1,36 +1,42 @@
 -- Examples of the machine as a table: the sizes, program and memory lent to an opening, what it answers, and the steps after
 -- it, each beside what is seen of it. A row whose opening is refused has no steps. With these rows each refusal of each call
 -- occurs (2, of a broken machine, in specs/Broken.antt), two conditions at once wherever two can hold, and each limit at its
--- edge and one past it. proofs/Shown.antt shows that every row comes out.
+-- edge and one past it. (Never together: 7 with 8, 9 with 10, 11 or 12 with 13 or 14, since what is not live or waits has no
+-- fate to look at.) proofs/Shown.antt shows that every row comes out.
 -- Assumes nothing.
 use mathlib.Core.Path.{_≡_}
 use mathlib.Core.Bool.{cond}
-use mathlib.Core.List.{List, [], _∷_, _++_}
+use mathlib.Core.List.{List, [], _∷_, _++_, map}
 use mathlib.Core.Option.{Option, none, some}
 use Prim.Native.Nat.{ℕ}
 use lib.Dec.{eqb}
 use lib.ListN.{replicate, set}
-use Rattle.table.specs.Moves.{withFate}
+use Rattle.table.specs.Reference
+use Rattle.table.specs.Reference.{State, numberOf, loaded, stored, merged}
+use Rattle.table.specs.Moves.{moved, withFate}
 use Rattle.engine.specs.Conditions.{refusal}
 use Rattle.engine.specs.Contract.{refused, done, named, executed, committed, finished}
 use Rattle.machine_model.specs.declared.Instruction.{Instruction}
 use Rattle.machine_model.specs.declared.Instruction.the-variants.{Add, Sum, Load, Store, Byte, Half}
+use Rattle.machine_model.specs.declared.Fate.{Fate}
 use Rattle.machine_model.specs.declared.Fate.the-variants.{Waiting, Executed}
 use Rattle.machine_model.specs.declared.Entry.{Entry}
-use Rattle.machine_model.specs.Window.{reference}
+use Rattle.machine_model.specs.Program.{instructionAt, sOf}
+use Rattle.machine_model.specs.Window.{blankEntry, reference}
 use Rattle.machine_model.specs.Calls.{Plain, Call, issue, execute, squash, commit, finish, lentTo, Answer, respond}
 use Rattle.machine_model.specs.Calls.{openChecks, opened}
 
 -- A call and its answer, a list lent to it coming back as it was; a finish with its limit and list, its answer, and the list
--- as it left it; the committed registers and the memory. And what a user can get wrong: another program and memory are lent
--- from here on; the entry at a position is another one, and its reference with it, whose load took 0 (damage that 2 does not
--- see).
+-- as it left it; the committed registers and the memory; the next issue number and those of the live references, oldest first.
+-- And what a user can get wrong: another program and memory are lent from here on; the state is another one (damage that 2 does
+-- not see).
 pub data Step : Type 0 where
   asks : Call → Answer → Step
   drains : ℕ → List ℕ → Answer → List ℕ → Step
   looks : List ℕ → List ℕ → Step
+  numbers : ℕ → List ℕ → Step
   lend : List ℕ → List ℕ → Step
-  spoil : ℕ → Entry → Step
+  damage : (Plain → Plain) → Step
 
 pub record Example : Type 0 where
   pub banks : ℕ
@@ -42,10 +48,11 @@ pub record Example : Type 0 where
   pub answer : Answer
   pub steps : List Step
 
--- what is seen of a step: of a call its answer and the list as it left it, of a look registers and memory
+-- what is seen of a step: of a call its answer and the list as it left it, of a look registers and memory, or issue numbers
 pub data Sight : Type 0 where
   says : Answer → List ℕ → Sight
   shows : List ℕ → List ℕ → Sight
+  counts : ℕ → List ℕ → Sight
 
 -- what the steps say is seen
 unfoldable pub told : List Step → List Sight
@@ -53,18 +60,9 @@ told [] = []
 told (asks c a ∷ steps) = says a (lentTo c) ∷ told steps
 told (drains k list a left ∷ steps) = says a left ∷ told steps
 told (looks registers memory ∷ steps) = shows registers memory ∷ told steps
+told (numbers next live ∷ steps) = counts next live ∷ told steps
 told (lend program memory ∷ steps) = told steps
-told (spoil p e ∷ steps) = told steps
-
-abbrev pub spoiled : Plain → ℕ → Entry → Plain
-spoiled X p e =
-    record {
-      buffer = withFate (X .buffer) p (reference e);
-      entries = set (X .entries) p e;
-      registers = X .registers;
-      count = X .count;
-      next = X .next;
-    }
+told (damage f ∷ steps) = told steps
 
 -- what is seen of them, each on the state and the memory that the one before left
 unfoldable pub played : List ℕ → Plain → List ℕ → List Step → List Sight
@@ -76,8 +74,10 @@ played program X memory (drains k list a left ∷ steps) =
     let r = respond program (finish k list) X memory in
     says (r .answer) (r .list) ∷ played program (r .state) (r .memory) steps
 played program X memory (looks registers words ∷ steps) = shows (X .registers) memory ∷ played program X memory steps
+played program X memory (numbers next live ∷ steps) =
+    counts (X .buffer .next) (map numberOf (X .buffer .refs)) ∷ played program X memory steps
 played program X memory (lend other words ∷ steps) = played other X words steps
-played program X memory (spoil p e ∷ steps) = played program (spoiled X p e) memory steps
+played program X memory (damage f ∷ steps) = played program (f X) memory steps
 
 -- what a row says is seen, and what is, the opening first
 abbrev pub toldBy : Example → List Sight
@@ -149,6 +149,26 @@ usual program steps = row 1 4 4 8 program eight done steps
 -- R 1
 abbrev pub tight : List ℕ → List Step → Example
 tight program steps = row 1 1 4 8 program eight done steps
+
+-- another buffer and other entries
+abbrev pub over : Plain → State → List Entry → Plain
+over X P es = record { buffer = P; entries = es; registers = X .registers; count = X .count; next = X .next }
+
+-- an entry of this instruction, index and fate
+abbrev pub entry : Instruction → ℕ → Fate → Entry
+entry i index f = record { instruction = i; index = index; fate = f; distance = 0 }
+
+-- the entry at a position is another one, and its reference with it, whose load took 0
+abbrev pub spoil : ℕ → Entry → Step
+spoil p e = damage (λ X. over X (withFate (X .buffer) p (reference e)) (set (X .entries) p e))
+
+-- the reference at a position has another fate, and its entry stays: the table's words alone
+abbrev pub refile : ℕ → Reference.Fate → Step
+refile p f = damage (λ X. over X (withFate (X .buffer) p f) (X .entries))
+
+-- the next issue number is another
+abbrev pub renumber : ℕ → Step
+renumber n = damage (λ X. over X (moved (X .buffer) (X .buffer .oldest) n (X .buffer .refs)) (X .entries))
 
 -- 01's script
 abbrev pub script : List ℕ
@@ -231,7 +251,7 @@ refusals =
     ∷ usual script
     (asks issue (named 0) ∷ lend (A 1 0 5 ++ L 4 0 6 ++ L 2 0 3) eight ∷ asks issue (named 1)
     ∷ asks (execute 1) (executed 16 0 none) ∷ [])
-    -- 3 with 4; 3 and 4 with 7, 10, 11 and 12 (nothing is live); 4 with 5, 6, 8 and 13
+    -- 3 with 4; 3 and 4 with 7, 11 and 12 (nothing is live); 4 with 5, 6, 8 and 13
     ∷ usual script (asks issue (named 0) ∷ lend (A 1 0 6) (replicate 7 0) ∷ refuse 3 4 [])
     ∷ usual script
     (lend (A 1 0 6) (replicate 7 0)
@@ -239,19 +259,28 @@ refusals =
     ∷ usual script (lend (A 1 0 6) eight ∷ refuse 4 4 [])
     ∷ row 1 1 1 8 (L 1 0 8) eight done
     (asks issue (named 0) ∷ asks (execute 0) (executed 0 0 none) ∷ lend (L 1 0 9) eight ∷ refuse 4 4 [])
-    -- 7: no such position; with 10, nothing is live; with 9, a live entry that waits writes register 0
+    -- 3 and 4 with 8, 9 and 10, which each position meets alone at the end
+    ∷ row 1 1 4 8 (A 1 0 5 ++ A 2 1 0 ++ L 3 0 5 ++ L 4 0 6) eight done
+    (four (asks (execute 2) (executed 15 0 none)
+    ∷ lend (A 1 0 5 ++ A 2 1 0 ++ L 3 0 5 ++ L 4 0 6) (replicate 9 0)
+    ∷ asks (execute 2) (refused 3) ∷ asks (execute 1) (refused 3) ∷ asks (execute 3) (refused 3)
+    ∷ lend (A 1 0 5 ++ A 2 1 0 ++ L 3 0 5 ++ L 4 0 7) eight
+    ∷ asks (execute 2) (refused 4) ∷ asks (execute 1) (refused 4) ∷ asks (execute 3) (refused 4)
+    ∷ lend (A 1 0 5 ++ A 2 1 0 ++ L 3 0 5 ++ L 4 0 6) eight
+    ∷ asks (execute 2) (refused 8) ∷ asks (execute 1) (refused 9) ∷ asks (execute 3) (refused 10) ∷ []))
+    -- 7: no such position; with 10, nothing is live; with 9, a live entry that waits writes the register of what stands there
     ∷ usual script
     (asks (execute 0) (refused 7) ∷ asks (squash 0) (refused 7) ∷ asks issue (named 0)
     ∷ asks (execute 1) (refused 7) ∷ asks (squash 1) (refused 7)
     ∷ asks (execute 4294967295) (refused 7) ∷ asks (squash 4294967295) (refused 7) ∷ [])
-    ∷ usual (A 0 0 5) (asks issue (named 0) ∷ asks (execute 1) (refused 7) ∷ [])
+    ∷ usual (A (sOf (blankEntry .instruction)) 0 5) (asks issue (named 0) ∷ asks (execute 1) (refused 7) ∷ [])
     -- 8; with 9 and with 10, of entries that only a damaged machine has
     ∷ usual script (asks issue (named 0) ∷ asks (execute 0) (executed 0 0 none) ∷ asks (execute 0) (refused 8) ∷ [])
     ∷ usual (A 1 0 5 ++ A 2 1 0)
-    (two (spoil 1 (record { instruction = Add 2 1 0; index = 1; fate = Executed 0 0; distance = 0 }) ∷ asks (execute 1) (refused 8) ∷ []))
+    (two (spoil 1 (entry (Add 2 1 0) 1 (Executed 0 0)) ∷ asks (execute 1) (refused 8) ∷ []))
     ∷ tight (L 1 0 5 ++ L 2 0 6)
     (two (asks (execute 0) (executed 15 0 none)
-    ∷ spoil 1 (record { instruction = Load 2 0 6; index = 1; fate = Executed 0 5; distance = 0 }) ∷ asks (execute 1) (refused 8) ∷ []))
+    ∷ spoil 1 (entry (Load 2 0 6) 1 (Executed 0 5)) ∷ asks (execute 1) (refused 8) ∷ []))
     -- 9: the writer of s, of P's imm and of S's d waits
     ∷ usual (A 1 0 5 ++ A 2 1 0) (two (asks (execute 1) (refused 9) ∷ asks (execute 0) (executed 0 0 none)
     ∷ asks (execute 1) (executed 0 0 none) ∷ []))
@@ -296,12 +325,16 @@ refusals =
 abbrev pub unlike : ℕ → Instruction → ℕ → Example
 unlike p i index =
     usual (A 1 2 3 ++ P 1 2 3 ++ L 1 2 3 ++ S 1 2 3)
-    (four (spoil p (record { instruction = i; index = index; fate = Waiting; distance = 0 }) ∷ refuse 4 4 []))
+    (four (spoil p (entry i index Waiting) ∷ refuse 4 4 []))
 
 -- the same of B and H
 abbrev pub unlikePart : ℕ → Instruction → ℕ → Example
 unlikePart p i index =
-    usual (B 1 2 3 ++ H 1 2 3) (two (spoil p (record { instruction = i; index = index; fate = Waiting; distance = 0 }) ∷ refuse 4 4 []))
+    usual (B 1 2 3 ++ H 1 2 3) (two (spoil p (entry i index Waiting) ∷ refuse 4 4 []))
+
+-- what is read where no instruction is
+abbrev pub missing : Instruction
+missing = instructionAt [] 0
 
 unfoldable pub unlikes : List Example
 unlikes =
@@ -310,14 +343,14 @@ unlikes =
     ∷ unlike 0 (Add 2 2 3) 0 ∷ unlike 1 (Sum 2 2 3) 1 ∷ unlike 2 (Load 2 2 3) 2 ∷ unlike 3 (Store 2 2 3) 3
     ∷ unlike 0 (Add 1 1 3) 0 ∷ unlike 1 (Sum 1 1 3) 1 ∷ unlike 2 (Load 1 1 3) 2 ∷ unlike 3 (Store 1 1 3) 3
     ∷ unlike 0 (Sum 1 2 3) 0 ∷ unlike 1 (Load 1 2 3) 1 ∷ unlike 2 (Store 1 2 3) 2 ∷ unlike 3 (Add 1 2 3) 3
-    -- the index of another instruction, the opened count, and one past it
-    ∷ unlike 0 (Add 1 2 3) 1 ∷ unlike 3 (Store 1 2 3) 4 ∷ unlike 3 (Store 0 0 0) 4 ∷ unlike 3 (Store 0 0 0) 5
+    -- the index of another instruction; the opened count, and one past it
+    ∷ unlike 0 (Add 1 2 3) 1 ∷ unlike 3 (Store 1 2 3) 4 ∷ unlike 3 missing 4 ∷ unlike 3 missing 5
     ∷ unlikePart 0 (Byte 1 2 4) 0 ∷ unlikePart 1 (Half 1 2 4) 1 ∷ unlikePart 0 (Byte 2 2 3) 0 ∷ unlikePart 1 (Half 2 2 3) 1
     ∷ unlikePart 0 (Byte 1 1 3) 0 ∷ unlikePart 1 (Half 1 1 3) 1 ∷ unlikePart 0 (Half 1 2 3) 0 ∷ unlikePart 1 (Byte 1 2 3) 1
     ∷ unlikePart 0 (Store 1 2 3) 0
     -- an equal instruction at another index is like it
     ∷ usual (A 1 2 3 ++ A 1 2 3)
-    (asks issue (named 0) ∷ spoil 0 (record { instruction = Add 1 2 3; index = 1; fate = Waiting; distance = 0 }) ∷ asks issue (named 1) ∷ [])
+    (asks issue (named 0) ∷ spoil 0 (entry (Add 1 2 3) 1 Waiting) ∷ asks issue (named 1) ∷ [])
     ∷ []
 
 -- ---- what accepted calls come to
@@ -537,10 +570,10 @@ distances =
     (four (asks (execute 0) (executed 0 0 none) ∷ asks (execute 1) (executed 0 0 none) ∷ asks (execute 2) (executed 5 1 none)
     ∷ asks (execute 3) (executed 0 0 none) ∷ asks commit (committed 0 1 1 5 0) ∷ asks commit (committed 1 5 12 5 0)
     ∷ asks commit (committed 2 3 2 5 1) ∷ asks commit (committed 3 6 14 327685 0) ∷ []))
-    -- a word number of W or more: 0 without an older store, else its distance; neither commits
-    ∷ usual (S 1 0 8 ++ L 2 0 8 ++ L 3 0 9)
-    (three (asks (execute 0) (executed 0 0 none) ∷ asks (execute 1) (executed 0 1 none) ∷ asks (execute 2) (executed 0 0 none)
-    ∷ asks commit (refused 13) ∷ []))
+    -- a word number of W or more: 0 without an older store, else its word and distance; neither commits
+    ∷ usual (A 1 0 5 ++ S 1 0 8 ++ L 2 0 8 ++ L 3 0 9)
+    (four (asks (execute 0) (executed 0 0 none) ∷ asks (execute 1) (executed 0 0 none) ∷ asks (execute 2) (executed 5 1 none)
+    ∷ asks (execute 3) (executed 0 0 none) ∷ asks commit (committed 0 1 1 5 0) ∷ asks commit (refused 13) ∷ []))
     -- whatever an entry holds, only a load commits with a distance
     ∷ usual (A 1 0 5) (asks issue (named 0)
     ∷ spoil 0 (record { instruction = Add 1 0 5; index = 0; fate = Executed 5 0; distance = 3 })
@@ -558,7 +591,7 @@ zeros program steps = row 1 4 4 8 program (replicate 8 0) done (four steps)
 
 -- an entry of this instruction and index that holds 13 at this address; `spoil` has its load take 0
 abbrev pub took13 : Instruction → ℕ → ℕ → Entry
-took13 i index a = record { instruction = i; index = index; fate = Executed 13 a; distance = 0 }
+took13 i index a = entry i index (Executed 13 a)
 
 -- the third entry is such a one; the two before it execute, and the second squashes from here
 abbrev pub misread : List ℕ → Instruction → ℕ → Option ℕ → Example
@@ -622,6 +655,72 @@ sameWords =
     ∷ asks (execute 0) (executed 0 0 none) ∷ []))
     ∷ []
 
+-- ---- issue numbers
+unfoldable pub numberings : List Example
+numberings =
+    -- Each issue takes the next number. No other call and no refusal moves it, and a squashed one's number is not taken again.
+    usual (A 1 0 5 ++ A 2 0 6 ++ A 3 0 7)
+    (numbers 0 [] ∷ three (numbers 3 (0 ∷ 1 ∷ 2 ∷ []) ∷ asks (execute 0) (executed 0 0 none) ∷ asks (execute 3) (refused 7)
+    ∷ numbers 3 (0 ∷ 1 ∷ 2 ∷ []) ∷ asks (squash 1) done ∷ numbers 3 (0 ∷ []) ∷ asks issue (named 1) ∷ numbers 4 (0 ∷ 3 ∷ [])
+    ∷ asks commit (committed 0 1 1 5 0) ∷ numbers 4 (3 ∷ [])
+    -- a finish issues the last one
+    ∷ drains 9 (replicate 10 7) (finished 2) (1 ∷ 1 ∷ 2 ∷ 6 ∷ 0 ∷ 2 ∷ 1 ∷ 3 ∷ 7 ∷ 0 ∷ []) ∷ numbers 5 []
+    ∷ asks issue (refused 6) ∷ numbers 5 [] ∷ []))
+    -- an execution squashes, as a call and in a finish, which issues again
+    ∷ usual script
+    (three (asks (execute 2) (executed 13 0 none) ∷ asks (execute 0) (executed 0 0 none) ∷ asks (execute 1) (executed 0 0 (some 2))
+    ∷ numbers 3 (0 ∷ 1 ∷ []) ∷ asks issue (named 2) ∷ numbers 4 (0 ∷ 1 ∷ 3 ∷ []) ∷ []))
+    ∷ usual script
+    (three (asks (execute 2) (executed 13 0 none)
+    ∷ drains 2 (replicate 10 7) (finished 2) (0 ∷ 1 ∷ 1 ∷ 5 ∷ 0 ∷ 1 ∷ 4 ∷ 3 ∷ 5 ∷ 0 ∷ []) ∷ numbers 3 []
+    ∷ drains 1 (replicate 5 7) (finished 1) (2 ∷ 3 ∷ 2 ∷ 5 ∷ 0 ∷ []) ∷ numbers 4 [] ∷ []))
+    -- it wraps from 4,294,967,295 to 0, in an issue and in a finish
+    ∷ usual (A 1 0 5 ++ A 2 0 6) (renumber 4294967295 ∷ two (numbers 1 (4294967295 ∷ 0 ∷ []) ∷ []))
+    ∷ usual (A 1 0 5)
+    (renumber 4294967295 ∷ drains 1 (replicate 5 7) (finished 1) (0 ∷ 1 ∷ 1 ∷ 5 ∷ 0 ∷ []) ∷ numbers 0 [] ∷ [])
+    ∷ []
+
+-- ---- damaged machines that 2 lets pass
+unfoldable pub damaged : List Example
+damaged =
+    -- Table and entry hold different words of a store: a load takes the table's and a commit writes it, but answers the entry's
+    -- value; so in a finish, and of stores of a part.
+    usual (A 1 0 5 ++ S 1 0 3 ++ L 2 0 3)
+    (three (asks (execute 0) (executed 0 0 none) ∷ asks (execute 1) (executed 0 0 none) ∷ refile 1 (stored 3 9)
+    ∷ asks (execute 2) (executed 9 1 none) ∷ asks commit (committed 0 1 1 5 0) ∷ asks commit (committed 1 4 3 5 0)
+    ∷ looks (0 ∷ 5 ∷ 0 ∷ 0 ∷ 0 ∷ 0 ∷ 0 ∷ 0 ∷ []) (10 ∷ 11 ∷ 12 ∷ 9 ∷ 14 ∷ 15 ∷ 16 ∷ 17 ∷ []) ∷ []))
+    ∷ usual (A 1 0 5 ++ S 1 0 3)
+    (two (asks (execute 0) (executed 0 0 none) ∷ asks (execute 1) (executed 0 0 none) ∷ refile 1 (stored 3 9)
+    ∷ drains 2 (replicate 10 7) (finished 2) (0 ∷ 1 ∷ 1 ∷ 5 ∷ 0 ∷ 1 ∷ 4 ∷ 3 ∷ 5 ∷ 0 ∷ [])
+    ∷ looks (0 ∷ 5 ∷ 0 ∷ 0 ∷ 0 ∷ 0 ∷ 0 ∷ 0 ∷ []) (10 ∷ 11 ∷ 12 ∷ 9 ∷ 14 ∷ 15 ∷ 16 ∷ 17 ∷ []) ∷ []))
+    ∷ usual (B 0 0 12 ++ H 0 0 16)
+    (two (asks (execute 0) (executed 0 0 none) ∷ asks (execute 1) (executed 0 0 none) ∷ refile 0 (merged 3 13 9)
+    ∷ refile 1 (merged 4 14 8) ∷ asks commit (committed 0 5 12 0 0) ∷ asks commit (committed 1 6 16 0 0)
+    ∷ looks (replicate 8 0) (10 ∷ 11 ∷ 12 ∷ 9 ∷ 8 ∷ 15 ∷ 16 ∷ 17 ∷ []) ∷ []))
+    -- of a load: the commit answers the entry's value, and the register becomes it
+    ∷ usual (L 1 0 3)
+    (asks issue (named 0) ∷ asks (execute 0) (executed 13 0 none) ∷ refile 0 (loaded 3 9) ∷ asks commit (committed 0 3 1 13 0)
+    ∷ looks (0 ∷ 13 ∷ 0 ∷ 0 ∷ 0 ∷ 0 ∷ 0 ∷ 0 ∷ []) eight ∷ [])
+    -- Indices that do not follow one another: after a squash the next issue is the first squashed instruction, after a called
+    -- one, one of an execution and one in a finish.
+    ∷ usual (A 1 0 5 ++ A 1 0 5 ++ A 1 0 5 ++ A 1 0 5)
+    (three (spoil 1 (entry (Add 1 0 5) 3 Waiting) ∷ asks (squash 1) done ∷ asks issue (named 1) ∷ asks issue (refused 6)
+    ∷ asks (execute 0) (executed 0 0 none) ∷ asks (execute 1) (executed 0 0 none) ∷ asks commit (committed 0 1 1 5 0)
+    ∷ asks commit (committed 3 1 1 5 0) ∷ []))
+    ∷ usual (S 0 0 3 ++ L 1 0 3 ++ L 1 0 3 ++ L 1 0 3)
+    (three (spoil 1 (entry (Load 1 0 3) 3 Waiting) ∷ asks (execute 1) (executed 13 0 none) ∷ asks (execute 0) (executed 0 0 (some 1))
+    ∷ asks issue (named 1) ∷ asks issue (refused 6) ∷ asks (execute 1) (executed 0 1 none) ∷ asks commit (committed 0 4 3 0 0)
+    ∷ asks commit (committed 3 3 1 0 1) ∷ []))
+    ∷ usual (S 0 0 3 ++ L 1 0 3 ++ L 1 0 3 ++ L 1 0 3)
+    (three (spoil 1 (entry (Load 1 0 3) 3 Waiting) ∷ asks (execute 1) (executed 13 0 none)
+    ∷ drains 9 (replicate 15 7) (finished 2) (0 ∷ 4 ∷ 3 ∷ 0 ∷ 0 ∷ 3 ∷ 3 ∷ 1 ∷ 0 ∷ 0 ∷ 7 ∷ 7 ∷ 7 ∷ 7 ∷ 7 ∷ []) ∷ []))
+    -- and the next instruction stays where nothing is squashed
+    ∷ usual (A 1 0 5 ++ A 1 0 5 ++ A 1 0 5 ++ A 1 0 5)
+    (two (spoil 1 (entry (Add 1 0 5) 3 Waiting) ∷ asks (execute 1) (executed 0 0 none) ∷ asks issue (named 2)
+    ∷ asks (execute 2) (executed 0 0 none) ∷ asks (execute 0) (executed 0 0 none) ∷ asks commit (committed 0 1 1 5 0)
+    ∷ asks commit (committed 3 1 1 5 0) ∷ asks commit (committed 2 1 1 5 0) ∷ []))
+    ∷ []
+
 -- the whole table
 abbrev pub examples : List Example
-examples = openings ++ refusals ++ unlikes ++ runs ++ parts ++ distances ++ sameWords
+examples = openings ++ refusals ++ unlikes ++ runs ++ parts ++ distances ++ sameWords ++ numberings ++ damaged
