@@ -1,9 +1,11 @@
 -- Comparing: fates by their kind and place. Sized: the arrays' lengths. Sounding: the rules and the agreement as tests.
 -- Agreeing: the code's test of the agreement. Answering: how a contract is met, and what the validation says. PlainOfView: what
 -- a machine comes to by its table's view. Opened, Moved, Committed: the calls but execute and finish. Operands, Formed,
--- Executions: execute.
--- ChecksKept, OldestReady, Finishes, FinishStep: finish. Sentences: 01's sentences of an operand and of refusal 9. Ordered: the
--- order of the conditions. Equal: when two machines have one plain state. Shown, Breaking: the examples, the broken machines.
+-- Executions: execute. ChecksKept, OldestReady, Finishes, FinishStep: finish. Sentences: 01's sentences of an operand, of
+-- refusal 9 and of a distance, over the plain state. Through the contract, Ordered: a call is refused with the smallest number
+-- that holds; Answered: where an execution answers 9 and 10; Outcomes: what an accepted one squashes, and what a load answers;
+-- Refetched: the next issue after a squash. Equal: when two machines have one plain state. Shown, Breaking: the examples, the
+-- broken machines.
 pub mod Comparing
 pub mod Sized
 pub mod Sounding
@@ -22,6 +24,9 @@ pub mod Finishes
 pub mod FinishStep
 pub mod Sentences
 pub mod Ordered
+pub mod Answered
+pub mod Outcomes
+pub mod Refetched
 pub mod Equal
 pub mod Shown
 pub mod Breaking

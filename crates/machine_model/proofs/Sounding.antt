@@ -3,7 +3,8 @@
 -- Assumes nothing.
 use mathlib.Core.Bool.{Bool, true, false, not, _&&_, true≢false, and-eq-true-iff}
 use mathlib.Core.List.{List, [], _∷_}
-use mathlib.Core.Path.{_≡_, sym, ap, ap₂, _∙_}
+use mathlib.Core.Logic.{_⊎_, inl, inr}
+use mathlib.Core.Path.{_≡_, refl, sym, ap, ap₂, _∙_}
 use Prim.Native.Nat.{ℕ, _*_, _<_}
 use lib.Dec.{eqb}
 use lib.ListN.{length}
@@ -73,3 +74,10 @@ module _ (m : Machine) where
 
   pub broken-tests : (lawful (m .table) && agreeing m (m .table .live)) ≡ false → Sound m → ⊥
   broken-tests h s = true≢false (sym (sound-tests s) ∙ h)
+
+  pub sound-or : Sound m ⊎ (Sound m → ⊥)
+  sound-or = go (lawful (m .table) && agreeing m (m .table .live)) refl
+    where
+      go : (b : Bool) → (lawful (m .table) && agreeing m (m .table .live)) ≡ b → Sound m ⊎ (Sound m → ⊥)
+      go true e = inl (tests-sound e)
+      go false e = inr (broken-tests e)

@@ -668,8 +668,8 @@ numberings =
     ∷ asks issue (refused 6) ∷ numbers 5 [] ∷ []))
     -- an execution squashes, as a call and in a finish, which issues again
     ∷ usual script
-    (three (asks (execute 2) (executed 13 0 none) ∷ asks (execute 0) (executed 0 0 none) ∷ asks (execute 1) (executed 0 0 (some 2))
-    ∷ numbers 3 (0 ∷ 1 ∷ []) ∷ asks issue (named 2) ∷ numbers 4 (0 ∷ 1 ∷ 3 ∷ []) ∷ []))
+    (three (asks (execute 2) (executed 13 0 none) ∷ asks (execute 0) (executed 0 0 none)
+    ∷ asks (execute 1) (executed 0 0 (some 2)) ∷ numbers 3 (0 ∷ 1 ∷ []) ∷ asks issue (named 2) ∷ numbers 4 (0 ∷ 1 ∷ 3 ∷ []) ∷ []))
     ∷ usual script
     (three (asks (execute 2) (executed 13 0 none)
     ∷ drains 2 (replicate 10 7) (finished 2) (0 ∷ 1 ∷ 1 ∷ 5 ∷ 0 ∷ 1 ∷ 4 ∷ 3 ∷ 5 ∷ 0 ∷ []) ∷ numbers 3 []
@@ -708,9 +708,9 @@ damaged =
     ∷ asks (execute 0) (executed 0 0 none) ∷ asks (execute 1) (executed 0 0 none) ∷ asks commit (committed 0 1 1 5 0)
     ∷ asks commit (committed 3 1 1 5 0) ∷ []))
     ∷ usual (S 0 0 3 ++ L 1 0 3 ++ L 1 0 3 ++ L 1 0 3)
-    (three (spoil 1 (entry (Load 1 0 3) 3 Waiting) ∷ asks (execute 1) (executed 13 0 none) ∷ asks (execute 0) (executed 0 0 (some 1))
-    ∷ asks issue (named 1) ∷ asks issue (refused 6) ∷ asks (execute 1) (executed 0 1 none) ∷ asks commit (committed 0 4 3 0 0)
-    ∷ asks commit (committed 3 3 1 0 1) ∷ []))
+    (three (spoil 1 (entry (Load 1 0 3) 3 Waiting) ∷ asks (execute 1) (executed 13 0 none)
+    ∷ asks (execute 0) (executed 0 0 (some 1)) ∷ asks issue (named 1) ∷ asks issue (refused 6)
+    ∷ asks (execute 1) (executed 0 1 none) ∷ asks commit (committed 0 4 3 0 0) ∷ asks commit (committed 3 3 1 0 1) ∷ []))
     ∷ usual (S 0 0 3 ++ L 1 0 3 ++ L 1 0 3 ++ L 1 0 3)
     (three (spoil 1 (entry (Load 1 0 3) 3 Waiting) ∷ asks (execute 1) (executed 13 0 none)
     ∷ drains 9 (replicate 15 7) (finished 2) (0 ∷ 4 ∷ 3 ∷ 0 ∷ 0 ∷ 3 ∷ 3 ∷ 1 ∷ 0 ∷ 0 ∷ 7 ∷ 7 ∷ 7 ∷ 7 ∷ 7 ∷ []) ∷ []))
