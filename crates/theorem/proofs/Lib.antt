@@ -2,8 +2,9 @@
 -- them, across an append. Core: the window alone, its steps, and what is kept of it. Knowing, Keeping: each step keeps it.
 -- Paired: the buffer's references beside the window's entries. Links: the plain state over the window alone. Linking: each
 -- call is steps of the window. Finishing: so is a finish. Record: the record theorem. Closing: the record theorem of the
--- calls, from their contracts. Finished: how much a finish commits, of the play and of the calls. Witness: histories that
--- they speak of, computed. Lived: a life of calls on machines that they speak of.
+-- calls, from their contracts. Finished: how much a finish commits, of the play and of the calls. Outcome: as many commits have
+-- one outcome, and what else the theorems come to. Witness: histories that they speak of, computed. Lived: a life of calls on
+-- machines that they speak of.
 pub mod Cases
 pub mod Sentences
 pub mod Distances
@@ -17,5 +18,6 @@ pub mod Finishing
 pub mod Record
 pub mod Closing
 pub mod Finished
+pub mod Outcome
 pub mod Witness
 pub mod Lived

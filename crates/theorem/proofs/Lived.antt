@@ -3,7 +3,6 @@
 -- call comes to is computed, and so is that the machines are sound. The theorem is used where the run goes on and at its end.
 -- Assumes nothing.
 use mathlib.Core.Path.{_≡_, refl}
-use mathlib.Core.Bool.{true}
 use mathlib.Core.List.{List, [], _∷_, _++_}
 use mathlib.Core.Option.{none}
 use Prim.Native.Nat.{ℕ, _≤_}
@@ -24,15 +23,13 @@ use Rattle.machine_model.specs.Calls.{Call, issue, execute, commit, finish, Ans
 use Rattle.machine_model.specs.Contract.{freshMachine, plain, Sound, Meets, Opens}
 use Rattle.machine_model.proofs.Opened.{fresh-sound, opens-done}
 use Rattle.machine_model.proofs.Answering.{refused-meets, accepted-meets, validate-passes}
-use Rattle.theorem.specs.Sequential.{runAfter, ends}
-use Rattle.theorem.specs.Play.{needed}
+use Rattle.theorem.specs.Play.{without, needed}
 use Rattle.theorem.specs.Life.{Life, born, lived}
 use Rattle.theorem.specs.Truth.{CallsTruth}
-use Rattle.theorem.specs.Finish.{FinishTruth}
 use Rattle.theorem.proofs.Cases.{computing}
 use Rattle.theorem.proofs.Sentences.{Unrefused}
 use Rattle.theorem.proofs.Closing.{life-join, calls-theorem, calls-next}
-use Rattle.theorem.proofs.Finished.{calls-finish}
+use Rattle.theorem.proofs.Outcome.{finish-over}
 use Rattle.theorem.proofs.Witness.{program, memory, numbers}
 
 -- a machine whose table has no marks, with this fate at stage 0 of the program's first instruction
@@ -156,15 +153,14 @@ pub goes-on-there : (length (needed (plain m₀)) ≤ 3) × Unrefused (named 0 �
 unfolding computing
 goes-on-there = calls-next opens begins refl needs
 
--- the finish said 3 of 5 with five places left, so the run has ended
-pub finish-there : ends program (runAfter program memory 4) ≡ true
-unfolding computing tabulate
-finish-there =
-    let f : FinishTruth program memory 1 5 lent (finished 3) = calls-finish opens (life-join begins needs) finishes-all in
-    f .ended 3 refl (omega arith) (omega arith)
+-- and the record is then the run's: without its distances it is concluded, not computed
+pub records-there : without (take 5 numbers) ≡ 0 ∷ 1 ∷ 1 ∷ 9 ∷ []
+unfolding computing
+records-there = calls-theorem opens begins .goes-on refl needs .3
 
--- and no further calls tell of a commit
+-- the finish said 3 of 5 with five places left, so no further calls tell of a commit
 pub stops-there : {cs : List Call} {answers : List Answer} {x : Machine} {y more : List ℕ} {j : ℕ}
     → Life program m₄ final cs answers x y more j
     → j ≡ 0
-stops-there more = true-of-it .stops finish-there more
+unfolding computing tabulate
+stops-there more = finish-over opens (life-join begins needs) 5 3 lent finishes-all (omega arith) (omega arith) more

@@ -1,26 +1,29 @@
 -- The record theorem is about something: one program and one list of calls, refused ones and a finish among them, whose history
 -- has a violation, a stage wrap and an eviction, on a buffer of one bank with one row and three stages. Computed are what each
 -- call answers, where the window stood after the wrap, and the record, which the sequential run gives too. What the theorem
--- says is used in the middle, where the run goes on, and at its end. In the history of a second program a load takes a word
--- that is not in memory yet, and its run ends at a fault, an H at an odd byte number.
+-- says is used in the middle, where the run goes on, at its end, beside the same program finished in order, and of a finish:
+-- there only the run and what the theorem asks for are computed, and what the calls do is concluded. In the history of a second
+-- program a load takes a word that is not in memory yet, and its run ends at a fault, an H at an odd byte number.
 -- Assumes nothing.
-use mathlib.Core.Path.{_≡_, refl}
+use mathlib.Core.Path.{_≡_, refl, ap, _∙_}
 use mathlib.Core.Bool.{true, false}
 use mathlib.Core.List.{List, [], _∷_}
 use mathlib.Core.Option.{none, some}
-use Prim.Native.Nat.{ℕ, _≤_}
+use Prim.Native.Nat.{ℕ, suc, _+_, _≤_}
 use native.Mathlib.Omega.{arith}
 use lib.ListN.{length, take, drop, replicate}
 use Rattle.marks.specs.Circle.{stage}
 use Rattle.table.specs.Limits.{sizesFit}
 use Rattle.engine.specs.Contract.{refused, done, named, executed, committed, finished}
-use Rattle.machine_model.specs.Calls.{Call, issue, execute, squash, commit, finish, opened}
-use Rattle.theorem.specs.Sequential.{runAfter, ends}
+use Rattle.machine_model.specs.Calls.{Call, issue, execute, squash, commit, finish, Answer, respond, opened}
+use Rattle.theorem.specs.Sequential.{runAfter, ends, step}
 use Rattle.theorem.specs.Play.{without, Played, play, start, answersOf, allAccepted}
-use Rattle.theorem.specs.Truth.{next, Truth}
+use Rattle.theorem.specs.Truth.{run, next, Truth}
+use Rattle.theorem.specs.Finish.{stepsLeft, FinishTruth}
 use Rattle.theorem.proofs.Cases.{computing}
 use Rattle.theorem.proofs.Record.{record-theorem}
 use Rattle.theorem.proofs.Finished.{finish-theorem}
+use Rattle.theorem.proofs.Outcome.{one-outcome}
 
 -- r1 becomes 9; it is stored at 3; r2 loads 3; r3 loads 4
 abbrev pub program : List ℕ
@@ -83,27 +86,67 @@ pub true-of-it : (cs : List Call) → Truth program memory (play program opening
 unfolding computing sizesFit
 true-of-it cs = record-theorem 1 1 3 8 program memory refl cs
 
--- After the wrap the run has two instructions left. Two calls are needed to commit the next one, the load of 3: both are
--- accepted, and the record then has its numbers too.
-pub goes-on-there : (next wrap ≡ execute 0 ∷ commit ∷ []) × (allAccepted program wrap (next wrap) ≡ true)
-    × (length (next wrap) ≤ 3)
+-- After the wrap two instructions are committed and two are left. Two calls are needed to commit the next one, the load of 3.
+pub next-there : (next wrap ≡ execute 0 ∷ commit ∷ []) × (wrap .commits ≡ 2) × (ends program (run program memory wrap) ≡ false)
+    × (step program (run program memory wrap) .record′ ≡ without (take 15 numbers))
+unfolding computing without
+next-there = (refl, refl, refl, refl)
+
+-- both are accepted, and the record then has its numbers too: concluded, not computed
+pub goes-on-there : (allAccepted program wrap (next wrap) ≡ true) × (length (next wrap) ≤ 3)
     × (play program wrap (next wrap) .commits ≡ 3)
     × (without (play program wrap (next wrap) .record′) ≡ without (take 15 numbers))
-unfolding computing without
 goes-on-there =
-    let g = true-of-it (take 11 calls) .goes-on refl in
-    (refl, g .0, g .1, g .2, g .3)
+    let g = true-of-it (take 11 calls) .goes-on (next-there .2) in
+    (g .0, g .1, g .2 ∙ ap suc (next-there .1), g .3 ∙ next-there .3)
 
 -- at the end no further calls commit anything
 pub stops-there : (more : List Call) → play program x more .commits ≡ 4
 unfolding computing
 stops-there more = true-of-it calls .stops refl more
 
--- a finish with limit 5 and room for four commits says 2: the run has ended
-pub finish-there : ends program (runAfter program memory 4) ≡ true
+-- the same program finished in order, on two banks and a longer window: as many commits, so one outcome
+abbrev y : Played
+y = play program (start (opened 2 1 5 8 program) memory) (finish 9 (replicate 20 0) ∷ [])
+
+as-many : x .commits ≡ y .commits
+unfolding computing
+as-many = refl
+
+true-in-order : Truth program memory y
 unfolding computing sizesFit
-finish-there =
-    finish-theorem 1 1 3 8 program memory refl (take 13 calls) 5 (replicate 20 0) .ended 2 refl (omega arith) (omega arith)
+true-in-order = record-theorem 2 1 5 8 program memory refl (finish 9 (replicate 20 0) ∷ [])
+
+pub outcome-there : (without (x .record′) ≡ without (y .record′)) × (x .state .registers ≡ y .state .registers)
+    × (x .memory ≡ y .memory)
+outcome-there = one-outcome (true-of-it calls) true-in-order as-many
+
+-- ---- a finish
+
+-- two instructions are committed, then a finish is made with limit 5 and room for four commits
+abbrev two : Played
+two = play program opening (take 13 calls)
+
+abbrev said : Answer
+said = respond program (finish 5 (replicate 20 0)) (two .state) (two .memory) .answer
+
+two-committed : two .commits ≡ 2
+unfolding computing
+two-committed = refl
+
+finish-true : FinishTruth program memory (two .commits) 5 (replicate 20 0) said
+unfolding computing sizesFit
+finish-true = finish-theorem 1 1 3 8 program memory refl (take 13 calls) 5 (replicate 20 0)
+
+-- it says 2, as many as the run has left: of the finish nothing is computed
+pub finish-says : said ≡ finished 2
+unfolding stepsLeft runAfter
+finish-says =
+    finish-true .commits-left ∙ ap (λ (c : ℕ). finished (stepsLeft program (runAfter program memory c) 4)) two-committed
+
+-- that is fewer than its limit and than its list has room for, so the run has ended
+pub finish-ends : ends program (runAfter program memory (two .commits + 2)) ≡ true
+finish-ends = finish-true .ended 2 finish-says (omega arith) (omega arith)
 
 -- ---- a run that ends at a fault
 
