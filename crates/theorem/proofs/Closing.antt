@@ -38,17 +38,17 @@ pub record Follows (program : List ℕ) (x : Played) (cs : List Call) (answers :
   pub played : reached u v (x .record′ ++ record′) (x .commits + n) ≡ play program x cs
   pub said : answers ≡ answersOf program x cs
 
-same-played : {X Y : Plain} {v w r s : List ℕ} {i j : ℕ} → X ≡ Y → v ≡ w → r ≡ s → i ≡ j
+pub same-played : {X Y : Plain} {v w r s : List ℕ} {i j : ℕ} → X ≡ Y → v ≡ w → r ≡ s → i ≡ j
     → _≡_ {A = Played} (record { state = X; memory = v; record′ = r; commits = i })
     (record { state = Y; memory = w; record′ = s; commits = j })
 same-played p q t h = rw (p, q, t, h)
 
 module _ (program : List ℕ) where
   -- ---- the play, call by call
-  play-snoc : (x : Played) (cs : List Call) (c : Call) → play program x (cs ++ (c ∷ [])) ≡ plays program (play program x cs) c
+  pub play-append : (x : Played) (cs ds : List Call) → play program x (cs ++ ds) ≡ play program (play program x cs) ds
   unfolding play
-  play-snoc x [] c = refl
-  play-snoc x (b ∷ cs) c = play-snoc (plays program x b) cs c
+  play-append x [] ds = refl
+  play-append x (c ∷ cs) ds = play-append (plays program x c) cs ds
 
   answers-snoc : (x : Played) (cs : List Call) (c : Call)
       → answersOf program x (cs ++ (c ∷ []))
@@ -81,7 +81,7 @@ module _ (program : List ℕ) where
         played = same-played refl refl (sym (append-assoc r record′ (recorded said list))) (sym (add-assoc n k (commitsIn said)))
             ∙ meets-plays c (r ++ record′) (n + k) (f .sound) h
             ∙ ap (λ z. plays program z c) (f .played)
-            ∙ sym (play-snoc x cs c);
+            ∙ sym (play-append x cs (c ∷ []));
         said = ap₂ (λ l a. l ++ (a ∷ [])) (f .said)
             (h .answer (f .sound) ∙ ap (λ z. respond program c (z .state) (z .memory) .answer) (f .played))
             ∙ sym (answers-snoc x cs c);

@@ -50,7 +50,7 @@ module _ (program : List ℕ) where
       (rw q) (rw q)
 
   -- the calls that are needed next commit the oldest as a finish makes it ready
-  play-next : (x : Played) → play program x (next x) ≡ plays program (moved x (ready program (x .state) (x .memory))) commit
+  pub play-next : (x : Played) → play program x (next x) ≡ plays program (moved x (ready program (x .state) (x .memory))) commit
   unfolding play respond
   play-next x = go (x .state .entries) refl
     where

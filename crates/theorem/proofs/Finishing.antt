@@ -41,17 +41,16 @@ pub either : {A : Type 0} (P : A → Type 0) (t : Bool) {x y : A} → P x → P 
 either P true p q = p
 either P false p q = q
 
--- the end of a way from X: its state is linked, its numbers and commits are those of steps, and there are perCommit a commit
+-- the end of a way from X: its state is linked, and its numbers and commits are those of steps
 record Goes (program : List ℕ) (X : Plain) (memory : List ℕ) (w : Drain) : Type 0 where
   linked : Linked program (w .state) (w .memory)
   steps : (rec : List ℕ) (n : ℕ)
       → Steps program (coreOf X memory rec n) (coreOf (w .state) (w .memory) (rec ++ w .numbers) (n + w .commits))
-  grows : length (w .numbers) ≡ w .commits * perCommit
 
 goes-stopped : (program : List ℕ) (X : Plain) (memory : List ℕ) → Linked program X memory
     → Goes program X memory (drainStopped X memory)
 goes-stopped program X memory l =
-    record { linked = l; steps = λ rec n. steps-quiet stays; grows = refl }
+    record { linked = l; steps = λ rec n. steps-quiet stays }
 
 -- Y is linked and reached from X by steps that record nothing
 record Reaches (program : List ℕ) (X Y : Plain) (memory : List ℕ) : Type 0 where
@@ -113,7 +112,7 @@ ready-reaches program X memory l =
 reaches-goes : {program memory : List ℕ} {X Y : Plain} {w : Drain} → Reaches program X Y memory → Goes program Y memory w
     → Goes program X memory w
 reaches-goes r g =
-    record { linked = g .linked; steps = λ rec n. steps-join (r .steps rec n) (g .steps rec n); grows = g .grows }
+    record { linked = g .linked; steps = λ rec n. steps-join (r .steps rec n) (g .steps rec n) }
 
 -- the count of a way with one commit before it
 one-more : (n m : ℕ) → n + 1 + m ≡ n + suc m
@@ -137,7 +136,6 @@ answer-goes program Y memory l (committed i c r v d) Z words list h rest g =
           steps-join (h .steps rec n)
           (rw (append-assoc rec (i ∷ c ∷ r ∷ v ∷ d ∷ []) (rest .numbers), one-more n (rest .commits)) at
           (g .steps (rec ++ (i ∷ c ∷ r ∷ v ∷ d ∷ [])) (n + 1)));
-      grows = omega (arith, g .grows);
     }
 answer-goes program Y memory l (finished n) Z words list h rest g = goes-stopped program Y memory l
 
@@ -155,6 +153,29 @@ finishes-goes program (suc k) places X memory l =
     (answer-goes program Y memory (y .linked) (r .answer) (r .state) (r .memory) (r .list) h _
     (finishes-goes program k (places - perCommit) (r .state) (r .memory) (h .linked))))
 
+-- its numbers are perCommit a commit
+abbrev Grows : Drain → Type 0
+Grows w = length (w .numbers) ≡ w .commits * perCommit
+
+answer-grows : (a : Answer) (here rest : Drain) → Grows here → Grows rest → Grows (continueOn a here rest)
+answer-grows (refused k) here rest h g = h
+answer-grows (named p) here rest h g = h
+answer-grows (executed v d s) here rest h g = h
+answer-grows done here rest h g = h
+answer-grows (committed i c r v d) here rest h g = omega (arith, g)
+answer-grows (finished n) here rest h g = h
+
+pub finishes-grow : (program : List ℕ) (k places : ℕ) (X : Plain) (memory : List ℕ)
+    → Grows (finishes program k places X memory)
+unfolding finishes
+finishes-grow program zero places X memory = refl
+finishes-grow program (suc k) places X memory =
+    let Y = ready program X memory in
+    let r = commits program Y memory in
+    either Grows (ltb places perCommit || programDone X) refl
+    (answer-grows (r .answer) (drainStopped Y memory) _ refl
+    (finishes-grow program k (places - perCommit) (r .state) (r .memory)))
+
 pub finish-links : (program : List ℕ) (X : Plain) (memory : List ℕ) → Linked program X memory → (k : ℕ) (list : List ℕ)
     → Links program X memory (finishing program X memory k list)
 finish-links program X memory l k list =
@@ -166,7 +187,9 @@ finish-links program X memory l k list =
       steps = λ rec n.
           subst
           (λ (l : List ℕ). Steps program (coreOf X memory rec n) (coreOf (w .state) (w .memory) (rec ++ l) (n + w .commits)))
-          (sym (take-at (w .numbers) (drop (length (w .numbers)) list) (w .commits * perCommit) (g .grows)))
+          (sym
+          (take-at (w .numbers) (drop (length (w .numbers)) list) (w .commits * perCommit)
+          (finishes-grow program k (length list) X memory)))
           (g .steps rec n);
     })
     (record { linked = l; steps = λ rec n. steps-quiet stays })

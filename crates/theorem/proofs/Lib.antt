@@ -3,7 +3,8 @@
 -- Paired: the buffer's references beside the window's entries. Links: the plain state over the window alone. Linking: each
 -- call is steps of the window. Finishing: so is a finish. Record: the record theorem. Closing: the record theorem of the
 -- calls, from their contracts. Finished: how much a finish commits, of the play and of the calls. Outcome: as many commits have
--- one outcome, and what else the theorems come to. Witness: histories that they speak of, computed. Lived: a life of calls on
+-- one outcome, and what else the theorems come to. Unrolled: a finish is the single calls that it repeats. Answered: a commit
+-- passes up what its entry's execution answered. Witness: histories that they speak of, computed. Lived: a life of calls on
 -- machines that they speak of.
 pub mod Cases
 pub mod Sentences
@@ -19,5 +20,7 @@ pub mod Record
 pub mod Closing
 pub mod Finished
 pub mod Outcome
+pub mod Unrolled
+pub mod Answered
 pub mod Witness
 pub mod Lived

@@ -26,10 +26,12 @@ use Rattle.machine_model.proofs.Answering.{refused-meets, accepted-meets, valid
 use Rattle.theorem.specs.Play.{without, needed}
 use Rattle.theorem.specs.Life.{Life, born, lived}
 use Rattle.theorem.specs.Truth.{CallsTruth}
+use Rattle.theorem.specs.Answered.{told, toldBy, oldest}
 use Rattle.theorem.proofs.Cases.{computing}
 use Rattle.theorem.proofs.Sentences.{Unrefused}
 use Rattle.theorem.proofs.Closing.{life-join, calls-theorem, calls-next}
 use Rattle.theorem.proofs.Outcome.{finish-over}
+use Rattle.theorem.proofs.Answered.{calls-passed-up}
 use Rattle.theorem.proofs.Witness.{program, memory, numbers}
 
 -- a machine whose table has no marks, with this fate at stage 0 of the program's first instruction
@@ -157,6 +159,12 @@ goes-on-there = calls-next opens begins refl needs
 pub records-there : without (take 5 numbers) ≡ 0 ∷ 1 ∷ 1 ∷ 9 ∷ []
 unfolding computing
 records-there = calls-theorem opens begins .goes-on refl needs .3
+
+-- the commit's numbers were passed up by the execution before it: nothing of what is told is computed
+pub passed-there : oldest (toldBy [] (issue ∷ execute 0 ∷ []) (named 0 ∷ executed 0 0 none ∷ [])) ≡ told 0 0
+unfolding computing tabulate
+passed-there =
+    calls-passed-up opens (lived (execute 0) (lived issue born issues) executes) (tt, (tt, tt)) 0 1 1 9 0 commits
 
 -- the finish said 3 of 5 with five places left, so no further calls tell of a commit
 pub stops-there : {cs : List Call} {answers : List Answer} {x : Machine} {y more : List ℕ} {j : ℕ}

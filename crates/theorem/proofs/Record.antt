@@ -43,7 +43,7 @@ pub record Held (program memory : List ℕ) (x : Played) : Type 0 where
   pub kept : Kept program memory (coreOf (x .state) (x .memory) (x .record′) (x .commits))
 
 -- x and one call more, with this result
-abbrev played : Played → Result → Played
+abbrev pub played : Played → Result → Played
 played x r =
     record {
       state = r .state;

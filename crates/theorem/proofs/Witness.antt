@@ -3,11 +3,12 @@
 -- call answers, where the window stood after the wrap, and the record, which the sequential run gives too. What the theorem
 -- says is used in the middle, where the run goes on, at its end, beside the same program finished in order, and of a finish:
 -- there only the run and what the theorem asks for are computed, and what the calls do is concluded. In the history of a second
--- program a load takes a word that is not in memory yet, and its run ends at a fault, an H at an odd byte number.
+-- program a load takes a word that is not in memory yet, which its commit by a finish passes up, and the run ends at a fault, an
+-- H at an odd byte number.
 -- Assumes nothing.
 use mathlib.Core.Path.{_≡_, refl, ap, _∙_}
 use mathlib.Core.Bool.{true, false}
-use mathlib.Core.List.{List, [], _∷_}
+use mathlib.Core.List.{List, [], _∷_, _++_}
 use mathlib.Core.Option.{none, some}
 use Prim.Native.Nat.{ℕ, suc, _+_, _≤_}
 use native.Mathlib.Omega.{arith}
@@ -20,10 +21,13 @@ use Rattle.theorem.specs.Sequential.{runAfter, ends, step}
 use Rattle.theorem.specs.Play.{without, Played, play, start, answersOf, allAccepted}
 use Rattle.theorem.specs.Truth.{run, next, Truth}
 use Rattle.theorem.specs.Finish.{stepsLeft, FinishTruth}
+use Rattle.theorem.specs.Unrolled.{repeated, unrolled}
+use Rattle.theorem.specs.Answered.{told, toldBy, oldest}
 use Rattle.theorem.proofs.Cases.{computing}
 use Rattle.theorem.proofs.Record.{record-theorem}
 use Rattle.theorem.proofs.Finished.{finish-theorem}
 use Rattle.theorem.proofs.Outcome.{one-outcome}
+use Rattle.theorem.proofs.Answered.{commit-passes}
 
 -- r1 becomes 9; it is stored at 3; r2 loads 3; r3 loads 4
 abbrev pub program : List ℕ
@@ -198,3 +202,31 @@ part-recorded = (refl, refl, refl)
 pub part-stops : (more : List Call) → play parts (play parts part-opening part-calls) more .commits ≡ 4
 unfolding computing sizesFit
 part-stops more = record-theorem 1 1 3 8 parts memory refl part-calls .stops refl more
+
+-- ---- what an execution answered
+
+-- of the three entries that are live before the finish: the byte and the half word have no distance, the load has one
+pub part-told : toldBy [] (take 11 part-calls) (answersOf parts part-opening (take 11 part-calls))
+    ≡ told 0 0 ∷ told 0 0 ∷ told 33554181 1 ∷ []
+unfolding computing toldBy
+part-told = refl
+
+-- the finish repeats three commits, and then issue, execute and a commit, which is refused
+abbrev until-load : List Call
+until-load = take 11 part-calls ++ (commit ∷ commit ∷ [])
+
+pub part-unrolled : unrolled parts part-opening (take 12 part-calls) ≡ until-load ++ (commit ∷ issue ∷ execute 0 ∷ commit ∷ [])
+unfolding computing unrolled repeated
+part-unrolled = refl
+
+-- the third commits the load, two commits after its execution: what that one answered is concluded from the commit
+load-committed : respond parts commit (play parts part-opening until-load .state) (play parts part-opening until-load .memory)
+    .answer
+    ≡ committed 3 3 2 33554181 1
+unfolding computing
+load-committed = refl
+
+pub part-passed : oldest (toldBy [] until-load (answersOf parts part-opening until-load)) ≡ told 33554181 1
+part-passed =
+    commit-passes parts part-opening refl (take 12 part-calls) until-load (issue ∷ execute 0 ∷ commit ∷ []) part-unrolled 3 3 2
+    33554181 1 load-committed

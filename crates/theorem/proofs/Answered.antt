@@ -1,0 +1,250 @@
+-- 02: "Execute passes it up through machine, commit and finish." A commit answers the distance that the execution of its entry
+-- answered in that list of calls, and of a load the value (PassesUp): after single calls (passed-up), for each commit of any
+-- calls, called or repeated by a finish (commit-passes), and of the calls of an opened machine, read off their own answers
+-- (calls-passed-up). The record of any calls is that of their single ones (Unrolled).
+--
+-- What is told of the live entries is at all times what the entries themselves have of it (told-kept): an execution puts the
+-- numbers that it answers into its entry, the other entries keep theirs, and both lists are cut alike. Nothing is asked of the
+-- state but that the window was empty at first.
+-- Assumes nothing.
+use mathlib.Core.Path.{_≡_, refl, sym, subst, ap, ap₂, _∙_}
+use mathlib.Core.Bool.{Bool, true, false, cond, not}
+use mathlib.Core.List.{List, [], _∷_, _++_, map}
+use mathlib.Core.Option.{Option, none, some}
+use Prim.Native.Nat.{ℕ, zero, suc}
+use native.Mathlib.Omega.{arith}
+use lib.Dec.{eqb, leb, ltb}
+use lib.ListN.{length, take, drop, set, length-map, length-set, List·getD-map}
+use lib.Seq.{take-all}
+use borrow.Author.Tests.{eqb-true, ltb-false}
+use Rattle.engine.specs.Contract.{done, committed}
+use Rattle.engine.specs.Conditions.{refusal}
+use Rattle.machine_model.specs.declared.Instruction.{Instruction}
+use Rattle.machine_model.specs.declared.Instruction.the-variants.{Add, Sum, Load, Store, Byte, Half}
+use Rattle.machine_model.specs.declared.Kind.{Kind}
+use Rattle.machine_model.specs.declared.Kind.the-variants.{Computing, Loading, Storing, Merging}
+use Rattle.machine_model.specs.declared.Fate.{Fate}
+use Rattle.machine_model.specs.declared.Fate.the-variants.{Waiting, Executed}
+use Rattle.machine_model.specs.declared.Entry.{Entry}
+use Rattle.machine_model.specs.declared.Machine.{Machine}
+use Rattle.machine_model.specs.Program.{codeOf, kind}
+use Rattle.machine_model.specs.Window.{blankEntry, entryAt, entryWith, with₂, evaluate}
+use Rattle.machine_model.specs.Calls.{Plain, Call, issue, execute, squash, commit, finish, Answer, Result, waits, fitsProgram}
+use Rattle.machine_model.specs.Calls.{valueBy, answerBy, loadDistance, evaluated, known, unknown, survivorsOf}
+use Rattle.machine_model.specs.Calls.{executing, executions, committing, commits, respond}
+use Rattle.machine_model.specs.Calls.{issueChecks, executeChecks, squashChecks, commitChecks}
+use Rattle.machine_model.specs.Contract.{plain, Meets, Opens}
+use Rattle.theorem.specs.Play.{Played, plays, play, start, answersOf}
+use Rattle.theorem.specs.Life.{Life}
+use Rattle.theorem.specs.Unrolled.{Single, Singles, unrolled}
+use Rattle.theorem.specs.Answered.{Told, silent, told, before, tells, toldBy, oldest, PassesUp}
+use Rattle.theorem.proofs.Links.{passes}
+use Rattle.theorem.proofs.Finishing.{either}
+use Rattle.theorem.proofs.Closing.{from-opening, done-opens}
+use Rattle.theorem.proofs.Unrolled.{turnedDown, singles-first, unrolled-single}
+
+-- ---- a list's image, cut alike
+module _ {A B : Type 0} (f : A → B) where
+  map-snoc : (l : List A) (a : A) → map f (l ++ (a ∷ [])) ≡ map f l ++ (f a ∷ [])
+  map-snoc [] a = refl
+  map-snoc (x ∷ l) a = ap (λ (m : List B). f x ∷ m) (map-snoc l a)
+
+  map-take : (n : ℕ) (l : List A) → map f (take n l) ≡ take n (map f l)
+  map-take zero l = refl
+  map-take (suc n) [] = refl
+  map-take (suc n) (x ∷ l) = ap (λ (m : List B). f x ∷ m) (map-take n l)
+
+  map-rest : (l : List A) → map f (drop 1 l) ≡ drop 1 (map f l)
+  map-rest [] = refl
+  map-rest (x ∷ l) = refl
+
+  map-set : (l : List A) (i : ℕ) (a : A) → map f (set l i a) ≡ set (map f l) i (f a)
+  map-set [] i a = refl
+  map-set (x ∷ l) zero a = refl
+  map-set (x ∷ l) (suc i) a = ap (λ (m : List B). f x ∷ m) (map-set l i a)
+
+-- ---- what an entry has of its execution's answer
+abbrev keptBy : Instruction → Fate → ℕ → Told
+keptBy i Waiting d = silent
+keptBy i (Executed v a) d = told (answerBy (kind i) v) (answerBy (kind i) d)
+
+abbrev kept : Entry → Told
+kept e = keptBy (e .instruction) (e .fate) (e .distance)
+
+executed-kept : (i : Instruction) (f : Fate) (d : ℕ) → waits f ≡ false
+    → keptBy i f d ≡ told (answerBy (kind i) (valueBy f)) (answerBy (kind i) d)
+executed-kept i Waiting d e = absurd (let z : _≡_ {A = ℕ} 0 1 = cc in omega arith)
+executed-kept i (Executed v a) d e = refl
+
+-- a number that is answered of a load is answered once more as it is
+answer-twice : (k : Kind) (n : ℕ) → answerBy k (answerBy k n) ≡ answerBy k n
+answer-twice Computing n = refl
+answer-twice Loading n = refl
+answer-twice Storing n = refl
+answer-twice Merging n = refl
+
+-- a load's number is answered, of other codes 0
+answer-code : (i : Instruction) (v : ℕ) → answerBy (kind i) v ≡ cond (eqb (codeOf i) 3) v 0
+answer-code (Add d s imm) v = refl
+answer-code (Sum d s k) v = refl
+answer-code (Load d s imm) v = refl
+answer-code (Store d s imm) v = refl
+answer-code (Byte d s imm) v = refl
+answer-code (Half d s imm) v = refl
+
+-- what an instruction comes to is never that it waits
+both-known : (x y : Option ℕ) (f : ℕ → ℕ → Fate) → ((a b : ℕ) → waits (f a b) ≡ false) → unknown (with₂ x y f) ≡ false
+    → waits (known (with₂ x y f)) ≡ false
+both-known none y f w e = absurd (let z : _≡_ {A = ℕ} 0 1 = cc in omega arith)
+both-known (some a) none f w e = absurd (let z : _≡_ {A = ℕ} 0 1 = cc in omega arith)
+both-known (some a) (some b) f w e = w a b
+
+comes-known : (i : Instruction) (ρ : ℕ → Option ℕ) (μ : ℕ → ℕ) → unknown (evaluate i ρ μ) ≡ false
+    → waits (known (evaluate i ρ μ)) ≡ false
+comes-known (Add d s imm) ρ μ e = both-known (ρ s) (some imm) _ (λ a b. refl) e
+comes-known (Sum d s k) ρ μ e = both-known (ρ s) (ρ k) _ (λ a b. refl) e
+comes-known (Load d s imm) ρ μ e = both-known (ρ s) (some imm) _ (λ a b. refl) e
+comes-known (Store d s imm) ρ μ e = both-known (ρ s) (ρ d) _ (λ a b. refl) e
+comes-known (Byte d s imm) ρ μ e = both-known (ρ s) (ρ d) _ (λ a b. refl) e
+comes-known (Half d s imm) ρ μ e = both-known (ρ s) (ρ d) _ (λ a b. refl) e
+
+-- the first `left` stay, whether the answer names that position or, where all stay, none
+squashed-before : (left n : ℕ) (ts : List Told) → length ts ≡ n → before (cond (ltb left n) (some left) none) ts ≡ take left ts
+squashed-before left n ts same = go (ltb left n) refl
+  where
+    go : (t : Bool) → ltb left n ≡ t → before (cond t (some left) none) ts ≡ take left ts
+    go true e = refl
+    go false e = sym (take-all left ts (omega (arith, ltb-false left n e)))
+
+-- ---- one call
+
+-- what is told after a call with this result is again what the entries have
+abbrev Tells : Plain → Call → Result → Type 0
+Tells X c r = tells (map kept (X .entries)) c (r .answer) ≡ map kept (r .state .entries)
+
+executing-tells : (X : Plain) (memory : List ℕ) (p left : ℕ) (f : Fate) → waits f ≡ false
+    → Tells X (execute p) (executing X memory p f left)
+executing-tells X memory p left f w =
+    let es = X .entries in
+    let i = entryAt es p .instruction in
+    let d = loadDistance X p f in
+    let e = entryWith (entryAt es p) f d in
+    let v = answerBy (kind i) (valueBy f) in
+    let same : told v d ≡ kept e = sym (executed-kept i f d w ∙ ap (told v) (answer-twice (kind i) _)) in
+    squashed-before left (length es) _ (length-set (map kept es) p _ ∙ length-map es kept)
+    ∙ ap (λ (t : Told). take left (set (map kept es) p t)) same
+    ∙ ap (take left) (sym (map-set kept es p e))
+    ∙ sym (map-take kept left (set es p e))
+
+-- the result of an execution that passed its checks has a fate that does not wait
+execution-tells : (program : List ℕ) (X : Plain) (memory : List ℕ) (p : ℕ)
+    → Tells X (execute p) (executions program X memory p)
+execution-tells program X memory p = go (eqb (refusal (executeChecks program X memory p)) 0) refl
+  where
+    f : Fate
+    f = known (evaluated X memory p)
+
+    ran : Result
+    ran = executing X memory p f (survivorsOf X memory p f)
+
+    fate-known : refusal (executeChecks program X memory p) ≡ 0 → waits f ≡ false
+    fate-known z =
+        let three = passes (not (eqb (length memory) (X .buffer .words))) 2 _ z in
+        let four = passes (not (fitsProgram program X)) 3 _ (three .1) in
+        let seven = passes (leb (length (X .entries)) p) 6 _ (four .1) in
+        let eight = passes (not (waits (entryAt (X .entries) p .fate))) 7 _ (seven .1) in
+        comes-known (entryAt (X .entries) p .instruction) _ _ (passes (unknown (evaluated X memory p)) 8 _ (eight .1) .0)
+
+    go : (t : Bool) → eqb (refusal (executeChecks program X memory p)) 0 ≡ t
+        → Tells X (execute p) (cond t ran (turnedDown (refusal (executeChecks program X memory p)) X memory []))
+    go true e =
+        executing-tells X memory p (survivorsOf X memory p f) f
+        (fate-known (eqb-true (refusal (executeChecks program X memory p)) 0 e))
+    go false e = refl
+
+call-tells : (program : List ℕ) (c : Call) → Single c → (X : Plain) (memory : List ℕ)
+    → Tells X c (respond program c X memory)
+unfolding respond
+call-tells program issue s X memory =
+    either (Tells X issue) (eqb (refusal (issueChecks program X)) 0) (sym (map-snoc kept (X .entries) _)) refl
+call-tells program (execute p) s X memory = execution-tells program X memory p
+call-tells program (squash p) s X memory =
+    either (Tells X (squash p)) (eqb (refusal (squashChecks program X p)) 0) (sym (map-take kept p (X .entries))) refl
+call-tells program commit s X memory =
+    either (Tells X commit) (eqb (refusal (commitChecks program X memory)) 0) (sym (map-rest kept (X .entries))) refl
+call-tells program (finish k list) s X memory = absurd s
+
+-- ---- single calls, one after the other
+told-kept : (program : List ℕ) (x : Played) (cs : List Call) → Singles cs
+    → toldBy (map kept (x .state .entries)) cs (answersOf program x cs) ≡ map kept (play program x cs .state .entries)
+unfolding toldBy answersOf play
+told-kept program x [] s = refl
+told-kept program x (c ∷ cs) s =
+    ap (λ (ts : List Told). toldBy ts cs (answersOf program (plays program x c) cs))
+    (call-tells program c (s .0) (x .state) (x .memory))
+    ∙ told-kept program (plays program x c) cs (s .1)
+
+-- what the oldest has where its commit is accepted
+commit-kept : (program : List ℕ) (X : Plain) (memory : List ℕ) (i c r v d : ℕ)
+    → commits program X memory .answer ≡ committed i c r v d
+    → oldest (map kept (X .entries)) ≡ told (cond (eqb c 3) v 0) d
+commit-kept program X memory i c r v d = go (eqb (refusal (commitChecks program X memory)) 0) refl
+  where
+    e : Entry
+    e = entryAt (X .entries) 0
+
+    executed-there : refusal (commitChecks program X memory) ≡ 0 → waits (e .fate) ≡ false
+    executed-there z =
+        let three = passes (not (eqb (length memory) (X .buffer .words))) 2 _ z in
+        let four = passes (not (fitsProgram program X)) 3 _ (three .1) in
+        let eleven = passes (eqb (length (X .entries)) 0) 10 _ (four .1) in
+        passes (waits (e .fate)) 11 _ (eleven .1) .0
+
+    go : (t : Bool) → eqb (refusal (commitChecks program X memory)) 0 ≡ t
+        → cond t (committing X memory) (turnedDown (refusal (commitChecks program X memory)) X memory []) .answer
+        ≡ committed i c r v d
+        → oldest (map kept (X .entries)) ≡ told (cond (eqb c 3) v 0) d
+    go true z says =
+        let code : codeOf (e .instruction) ≡ c = cc in
+        let value : valueBy (e .fate) ≡ v = cc in
+        let far : answerBy (kind (e .instruction)) (e .distance) ≡ d = cc in
+        List·getD-map kept (X .entries) 0 blankEntry
+        ∙ executed-kept (e .instruction) (e .fate) (e .distance)
+        (executed-there (eqb-true (refusal (commitChecks program X memory)) 0 z))
+        ∙ ap₂ told (answer-code (e .instruction) (valueBy (e .fate)) ∙ ap₂ (λ (k w : ℕ). cond (eqb k 3) w 0) code value) far
+    go false z says = absurd (let y : _≡_ {A = ℕ} 0 1 = cc in omega arith)
+
+-- after single calls from an empty window
+pub passed-up : (program : List ℕ) (x : Played) → x .state .entries ≡ [] → (cs : List Call) → Singles cs
+    → (i c r v d : ℕ)
+    → respond program commit (play program x cs .state) (play program x cs .memory) .answer ≡ committed i c r v d
+    → PassesUp (oldest (toldBy [] cs (answersOf program x cs))) c v d
+unfolding respond
+passed-up program x empty cs s i c r v d says =
+    let y = play program x cs in
+    let all = ap (λ (es : List Entry). toldBy (map kept es) cs (answersOf program x cs)) (sym empty) ∙ told-kept program x cs s in
+    ap oldest all ∙ commit-kept program (y .state) (y .memory) i c r v d says
+
+-- every commit among the single calls of any calls, called or repeated by a finish
+pub commit-passes : (program : List ℕ) (x : Played) → x .state .entries ≡ [] → (cs pre post : List Call)
+    → unrolled program x cs ≡ pre ++ (commit ∷ post)
+    → (i c r v d : ℕ)
+    → respond program commit (play program x pre .state) (play program x pre .memory) .answer ≡ committed i c r v d
+    → PassesUp (oldest (toldBy [] pre (answersOf program x pre))) c v d
+commit-passes program x empty cs pre post is =
+    passed-up program x empty pre (singles-first pre (commit ∷ post) (subst Singles is (unrolled-single program x cs)))
+
+-- of the calls of an opened machine, each as its contract says: what is told is read off their own answers
+pub calls-passed-up : {B R n W : ℕ} {program w : List ℕ} {m : Machine} (opens : Opens B R n W program w done m) {cs : List Call}
+    {answers : List Answer} {u : Machine} {v record′ : List ℕ} {k : ℕ} (life : Life program m w cs answers u v record′ k)
+    → Singles cs
+    → (i c r value d : ℕ) {x : Machine} {y list : List ℕ}
+    → Meets program u commit v (committed i c r value d) x y list
+    → PassesUp (oldest (toldBy [] cs answers)) c value d
+calls-passed-up {program = program} {w = w} {m = m} opens {cs = cs} life s i c r value d meets =
+    let f = from-opening opens life in
+    let empty = ap (λ (X : Plain). X .entries) (opens .state (done-opens opens) .1) in
+    let says = meets .answer (f .sound) ∙ ap (λ (z : Played). respond program commit (z .state) (z .memory) .answer) (f .played)
+    in
+    subst (λ (l : List Answer). PassesUp (oldest (toldBy [] cs l)) c value d) (sym (f .said))
+    (passed-up program (start (plain m) w) empty cs s i c r value d (sym says))
