@@ -40,7 +40,7 @@ use Rattle.script_model.proofs.Openings.{script-opens}
 
 -- ---- what is printed
 
-printed-long : (text : List ℕ) → most < length text → printed text ≡ badLine 0
+pub printed-long : (text : List ℕ) → most < length text → printed text ≡ badLine 0
 unfolding printed
 printed-long text long = rw (lt-ltb most (length text) long)
 
@@ -205,16 +205,14 @@ module _ {text : List ℕ} {whole : Bool} {program memory : List ℕ} where
 
   begins-unread : {q : Player} (n : ℕ) → wronglyLent text whole program memory ≡ false → scriptOf text ≡ unread
       → firstPlayer text ≡ idle (Bad n) → q ≡ idle (Bad n) → Begins text whole program memory q program memory
-  begins-unread n right none first is =
-      record {
-        refuses = λ wrong. absurd (false≢true (sym right ∙ wrong));
-        begins = λ _. (
-          is ∙ sym first,
-          ap (λ (s : Script). s .body .program ++ drop (length (s .body .program)) program) (sym none),
-          empty-list memory (lent-rightly text whole program memory right .1 ∙ ap (λ (s : Script). s .words) none)
-              ∙ ap (λ (s : Script). replicate (s .words) 0) (sym none),
-        );
-      }
+  begins-unread {q} n right none first is =
+      let starts : q ≡ firstPlayer text = is ∙ sym first in
+      let stays : program ≡ scriptOf text .body .program ++ drop (length (scriptOf text .body .program)) program =
+      ap (λ (s : Script). s .body .program ++ drop (length (s .body .program)) program) (sym none) in
+      let clear : memory ≡ replicate (wordsOf text) 0 =
+      empty-list memory (lent-rightly text whole program memory right .1 ∙ ap (λ (s : Script). s .words) none)
+      ∙ ap (λ (s : Script). replicate (s .words) 0) (sym none) in
+      record { refuses = λ wrong. absurd (false≢true (sym right ∙ wrong)); begins = λ _. (starts, stays, clear) }
 
   pub begins-long : {q : Player} → wronglyLent text whole program memory ≡ false → most < length text → q ≡ idle (Bad 0)
       → Begins text whole program memory q program memory
@@ -260,18 +258,16 @@ module _ {text : List ℕ} {whole : Bool} {program memory : List ℕ} where
       loads .starts (head .starts)
       ∙ ap (lineStart text) (let e : line - 1 ≡ suc k = omega (arith, loads .lines, long) in e) in
       let number : line ≡ suc (suc k) = omega (arith, loads .lines, long) in
-      record {
-        refuses = λ wrong. absurd (false≢true (sym right ∙ wrong));
-        begins = λ _. (
-          ap₂ (λ (c l : ℕ). player Stepping c l 0 used u) place number
-              ∙ ap₂ (λ (n : ℕ) (m : Machine). player Stepping (lineStart text (suc k)) (suc (suc k)) 0 n m) (sym long) made
-              ∙ ap (λ (t : Bool). cond t (openedPlayer text s k) (idle (Bad 1))) (sym (head .fit))
-              ∙ sym (player-short text s short is),
-          loads .rest ∙ ap (λ (n : ℕ). numbers ++ drop n program) (sym long)
-              ∙ ap (λ (r : Script). r .body .program ++ drop (length (r .body .program)) program) (sym is),
-          zeros ∙ ap (λ (r : Script). replicate (r .words) 0) (sym is),
-        );
-      }
+      let first : player Stepping cursor line 0 used u ≡ firstPlayer text =
+      ap₂ (λ (c l : ℕ). player Stepping c l 0 used u) place number
+      ∙ ap₂ (λ (n : ℕ) (m : Machine). player Stepping (lineStart text (suc k)) (suc (suc k)) 0 n m) (sym long) made
+      ∙ ap (λ (t : Bool). cond t (openedPlayer text s k) (idle (Bad 1))) (sym (head .fit))
+      ∙ sym (player-short text s short is) in
+      let behind : into ≡ scriptOf text .body .program ++ drop (length (scriptOf text .body .program)) program =
+      loads .rest ∙ ap (λ (n : ℕ). numbers ++ drop n program) (sym long)
+      ∙ ap (λ (r : Script). r .body .program ++ drop (length (r .body .program)) program) (sym is) in
+      let clear : after ≡ replicate (wordsOf text) 0 = zeros ∙ ap (λ (r : Script). replicate (r .words) 0) (sym is) in
+      record { refuses = λ wrong. absurd (false≢true (sym right ∙ wrong)); begins = λ _. (first, behind, clear) }
 
 -- ---- all is left to print
 
@@ -281,9 +277,9 @@ record Starts (text : List ℕ) (q : Player) (numbers memory : List ℕ) : Type 
   prints : left text numbers q memory ≡ printed text
   playing : Playing text numbers q memory
 
-bad-starts : (text memory : List ℕ) (n : ℕ) (s : Script) → s ≡ unread → printed text ≡ badLine n
-    → Starts text (idle (Bad n)) (s .body .program) memory
-bad-starts text memory n s none prints =
+bad-starts : (text : List ℕ) (n : ℕ) (s : Script) → s ≡ unread → printed text ≡ badLine n
+    → Starts text (idle (Bad n)) (s .body .program) (replicate (s .words) 0)
+bad-starts text n s none prints =
     record {
       used = ap (λ (r : Script). length (r .body .program)) (sym none);
       prints = sym prints;
@@ -389,7 +385,7 @@ first-starts text = by-length (ltb most (length text)) refl
         → Starts text (firstPlayer text) (scriptOf text .body .program) (replicate (wordsOf text) 0)
     by-header short Nothing e =
         shown (idle (Bad 1)) (player-headless text short e)
-        (bad-starts text (replicate (wordsOf text) 0) 1 (scriptOf text) (script-headless text short e)
+        (bad-starts text 1 (scriptOf text) (script-headless text short e)
         (printed-short text short ∙ ap output (script-unheaded text e) ∙ unread-prints))
     by-header short (Four banks rows stages words from) e =
         let s = scriptOf text in
@@ -405,7 +401,7 @@ first-starts text = by-length (ltb most (length text)) refl
     by-length true e =
         let long = ltb-true most (length text) e in
         shown (idle (Bad 0)) (player-long text long)
-        (bad-starts text (replicate (wordsOf text) 0) 0 (scriptOf text) (script-long text long) (printed-long text long))
+        (bad-starts text 0 (scriptOf text) (script-long text long) (printed-long text long))
     by-length false e = by-header (ltb-false most (length text) e) (headerOf text) refl
 
 -- the program stands in the places that the player uses

@@ -1,14 +1,16 @@
 -- 01's sample script, byte for byte, computed: what is printed is what 01 shows. The load of 3 executes before the
 -- older store to 3, which squashes it; it is issued and executed once more. Behind it the lines of B and H and of distances, and
--- scripts with them; the words are small, since large ones take long to compute.
+-- scripts with them; the words are small, since large ones take long to compute. Last come bad lines and the largest input.
 -- Assumes nothing.
-use mathlib.Core.Path.{_≡_, refl}
-use mathlib.Core.List.{List, [], _∷_}
-use Prim.Native.Nat.{ℕ}
+use mathlib.Core.Path.{_≡_, refl, _∙_}
+use mathlib.Core.List.{List, [], _∷_, _++_}
+use Prim.Native.Nat.{ℕ, _/_}
 use Prim.Native.String.{String}
+use native.Mathlib.Omega.{arith}
+use lib.ListN.{length}
 use Rattle.text.specs.Decimal.{digits}
 use Rattle.text.specs.Fields.{bytes}
-use Rattle.text.specs.Lines.{linesFrom}
+use Rattle.text.specs.Lines.{linesFrom, linesOf}
 use Rattle.marks.specs.Counting.{count, last, every}
 use Rattle.table.specs.Bank.{home, bank}
 use Rattle.table.specs.Limits.{sizesFit}
@@ -17,12 +19,17 @@ use Rattle.lookup.specs.Violation.{keptYounger}
 use Rattle.lookup.specs.Rows.{touched}
 use Rattle.machine_model.specs.Program.{programFits}
 use Rattle.machine_model.specs.Window.{registerSeen}
-use Rattle.machine_model.specs.Calls.{respond, finishes}
+use Rattle.machine_model.specs.Calls.{perCommit, respond, finishes}
 use Rattle.theorem.specs.Play.{play}
+use Rattle.theorem.proofs.Cases.{computing}
 use Rattle.script_model.specs.declared.Item.the-variants.{Operation}
-use Rattle.script_model.specs.Language.{codeFrom, parsedLine, steps, body}
-use Rattle.script_model.specs.Output.{commitLine, committedLines, commitLines, wordLines, printed}
+use Rattle.script_model.specs.Language.{codeFrom, parsedLine, steps, body, Script, script}
+use Rattle.script_model.specs.Output.{commitLine, committedLines, commitLines, wordLines, ending, endLine, printed}
 use Rattle.script_model.specs.Message.{ascii}
+use Rattle.script_model.specs.Truth.{scriptPlayed, scriptRun, distancesOf, woven, scriptRecord, ScriptTruth}
+use Rattle.script_model.proofs.Beginnings.{printed-long, printed-short}
+use Rattle.script_model.proofs.Truth.{script-truth}
+use Rattle.script_model.proofs.Outputs.{record-counted, prints-all}
 
 -- `N,1,2,4,8`, `A,1,0,5`, `S,1,0,3`, `L,2,0,3`, `i`, `i`, `i`, `e,2`, `e,0`, `e,1`, `c`, `c`, `i`, `e,0`, `c`
 abbrev sample : List ℕ
@@ -59,6 +66,34 @@ pub sample-printed : printed sample ≡ expected
 unfolding printed linesFrom codeFrom body steps bytes digits commitLines wordLines sizesFit
     play respond every programFits seen distance keptYounger touched count last home bank registerSeen
 sample-printed = refl
+
+-- The same from the sequential run. The statement is of this script, and by it what is printed is the run's record with the
+-- distances, the run's word and a number on the end line that the record gives: fifteen numbers of it are three commits.
+abbrev sampled : Script
+sampled = script (linesOf sample)
+
+pub sample-true : ScriptTruth sample sampled
+unfolding linesFrom codeFrom body steps bytes sizesFit
+sample-true = script-truth sample (omega arith) refl
+
+run-numbers : length (scriptRecord sampled) ≡ 15
+unfolding computing linesFrom codeFrom body steps bytes sizesFit woven distancesOf
+run-numbers = refl
+
+pub sample-commits : scriptPlayed sampled .commits ≡ 3
+sample-commits = omega (arith, record-counted sample-true, run-numbers)
+
+run-printed :
+    let numbers = scriptRecord sampled in
+    commitLines numbers
+    ++ (wordLines 0 (scriptRun sampled .memory) ++ endLine (ending (scriptPlayed sampled .state)) (length numbers / perCommit))
+    ≡ expected
+unfolding computing linesFrom codeFrom body steps bytes digits commitLines wordLines sizesFit woven distancesOf
+run-printed = refl
+
+pub sample-by-run : printed sample ≡ expected
+unfolding linesFrom codeFrom body steps bytes sizesFit
+sample-by-run = prints-all sample-true refl ∙ run-printed
 
 byte-read : parsedLine (ascii "B,1,0,3") ≡ Operation 5 1 0 3
 unfolding ascii bytes codeFrom
@@ -109,3 +144,21 @@ distances-printed = (refl, refl)
 distance-printed : committedLines 255 3 7 771 15 ≡ ascii "f,255,15\n255,L,7,771\n"
 unfolding ascii digits
 distance-printed = refl
+
+-- What the steps before a bad line committed is printed, and then the bad line alone: no word of memory, and nothing of the
+-- steps after it. The last line is unended.
+bad-printed :
+    ("N,1,2,4,8\nA,1,0,5\nS,1,0,3\nA,2,0,1\nx,2\nz\nx,1\n" prints "0,A,1,5\n1,S,3,5\nbad,6\n")
+    × ("N,1,2,4,8\nA,1,0,5\nS,1,0,3\nx,2\ni" prints "0,A,1,5\n1,S,3,5\nbad,5\n")
+unfolding ascii printed linesFrom codeFrom body steps bytes digits commitLines wordLines sizesFit
+    play respond every programFits seen distance keptYounger touched count last home bank registerSeen finishes
+bad-printed = (refl, refl)
+
+-- Input of 65,536 bytes is read: its first line, an empty one, is bad. Of input that is one byte longer nothing is.
+largest-read : (rest : List ℕ) → length rest ≡ 65535 → printed (10 ∷ rest) ≡ ascii "bad,1\n"
+unfolding ascii digits linesFrom play commitLines
+largest-read rest h = printed-short (10 ∷ rest) (omega (arith, h))
+
+largest-passed : (rest : List ℕ) → length rest ≡ 65536 → printed (10 ∷ rest) ≡ ascii "bad,0\n"
+unfolding ascii digits
+largest-passed rest h = printed-long (10 ∷ rest) (omega (arith, h))

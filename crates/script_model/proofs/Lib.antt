@@ -11,9 +11,10 @@
 -- Beginnings: what `begin` hands back.
 -- Bad lines. Flaws: there is a reason exactly where a script prints its bad line, and for that line. Looking: how the reason is
 -- found. Messages: how it is written. MessageExamples: a script for each reason, and its message.
--- The theorems. Pieces: the pieces together are what the script prints. Weaving: a record is what it is without its distances,
--- woven with them. Truth: the commits printed are the sequential run's. Examples: 01's sample and scripts with B, H and
--- distances, computed.
+-- The theorems. Pieces: the pieces together are what the script prints. Lending: what is lent wrongly or too small changes
+-- nothing. Weaving: a record is what it is without its distances, woven with them. Truth: the commits printed are the
+-- sequential run's. Outputs: what that statement gives by itself. Witness: a script played in pieces, of which the theorems
+-- speak. Examples: 01's sample, from the run too, scripts with B, H and distances, bad lines and the largest input, computed.
 pub mod Letters
 pub mod Items
 pub mod Heads
@@ -34,8 +35,11 @@ pub mod Ways
 pub mod Openings
 pub mod Beginnings
 pub mod Pieces
+pub mod Lending
 pub mod Weaving
 pub mod Truth
+pub mod Outputs
+pub mod Witness
 pub mod Examples
 pub mod Flaws
 pub mod Looking

@@ -1,8 +1,7 @@
 -- THE THEOREM OF THE PIECES. Begin a script with a program and a memory lent rightly, and call `fill` as often as you
 -- like, each time on any buffer, with the player and the memory that the call before handed back. Write the first
 -- `end` bytes of each buffer. Then at every moment what was written, followed by what is left to print, is what the
--- script prints (`so-far`); and once the player is over, what was written is what the script prints, byte for byte
--- (`pieces-are`).
+-- script prints; and once the player is over, what was written is what the script prints, byte for byte (PiecesTruth).
 --
 -- At the beginning all is left and nothing is written. A fill moves a piece from the front of what is left to the end
 -- of what is written: the piece is the first `end` bytes of the buffer, as it was set there from place 0. A player
@@ -22,12 +21,12 @@ use Rattle.script_model.specs.declared.Player.{Player}
 use Rattle.script_model.specs.Language.{Steps}
 use Rattle.script_model.specs.Output.{printed}
 use Rattle.script_model.specs.Playing.{isOver, Fills, wronglyLent, Begins}
-use Rattle.script_model.specs.Truth.{Fillings, ready, filled, joined}
+use Rattle.script_model.specs.Truth.{Fillings, ready, filled, joined, PiecesTruth}
 use Rattle.script_model.proofs.Invariant.{leftIn, left, Playing}
 use Rattle.script_model.proofs.StepContract.{steps-used, steps-go}
 use Rattle.script_model.proofs.Beginnings.{begins-left}
 
-joined-snoc : (pieces : List (List ℕ)) (piece : List ℕ) → joined (pieces ++ (piece ∷ [])) ≡ joined pieces ++ piece
+pub joined-snoc : (pieces : List (List ℕ)) (piece : List ℕ) → joined (pieces ++ (piece ∷ [])) ≡ joined pieces ++ piece
 unfolding joined
 joined-snoc [] piece = append-nil piece
 joined-snoc (first ∷ pieces) piece =
@@ -89,14 +88,17 @@ module _ (text : List ℕ) (whole : Bool) (program memory : List ℕ) (q : Playe
     (begun : Begins text whole program memory q into after) (lent : wronglyLent text whole program memory ≡ false)
     (pieces : List (List ℕ)) (r : Player) (w : List ℕ) (run : Fillings text into q after pieces r w) where
   -- what was written is the beginning of what the script prints, and the rest is left
-  pub so-far : printed text ≡ joined pieces ++ left text (take (r .used) into) r w
+  so-far : printed text ≡ joined pieces ++ left text (take (r .used) into) r w
   unfolding joined
   so-far =
       let start = begins-left begun lent in
       stands text into q after (record { told = sym (start .0); playing = start .1 }) run .told
 
-  pub pieces-are : isOver (r .phase) ≡ true → joined pieces ≡ printed text
-  pieces-are over =
+  over : isOver (r .phase) ≡ true → joined pieces ≡ printed text
+  over ends =
       sym
-      (so-far ∙ ap (λ (l : List ℕ). joined pieces ++ l) (over-left (take (r .used) into) (r .phase) _ _ over)
+      (so-far ∙ ap (λ (l : List ℕ). joined pieces ++ l) (over-left (take (r .used) into) (r .phase) _ _ ends)
       ∙ append-nil (joined pieces))
+
+  pub pieces-are : PiecesTruth text pieces r
+  pieces-are = record { rest = left text (take (r .used) into) r w; so-far = so-far; all = over }

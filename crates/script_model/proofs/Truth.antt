@@ -16,7 +16,7 @@ use Rattle.text.specs.Lines.{linesOf}
 use Rattle.theorem.proofs.Record.{record-theorem}
 use Rattle.script_model.specs.declared.Player.{Player}
 use Rattle.script_model.specs.Language.{script}
-use Rattle.script_model.specs.Output.{commitLines, wordLines, ending, endLine, closing, most}
+use Rattle.script_model.specs.Output.{commitLines, wordLines, ending, endLine, closing, most, printed}
 use Rattle.script_model.specs.Playing.{isOver, wronglyLent, Begins}
 use Rattle.script_model.specs.Truth.{Sized, zeros, scriptPlayed, distancesOf, woven, scriptRecord, ScriptTruth}
 use Rattle.script_model.specs.Truth.{Fillings, joined}
@@ -33,15 +33,17 @@ script-truth text short sized =
     let t = record-theorem (s .banks) (s .rows) (s .stages) (s .words) (s .body .program) (zeros s) opens
     (s .body .steps .calls) in
     let w = weaves (scriptPlayed s .record′) (scriptPlayed s .commits) (t .record-grows) in
+    let same : scriptPlayed s .record′ ≡ scriptRecord s =
+    sym (w .same) ∙ ap (λ (numbers : List ℕ). woven numbers (distancesOf (scriptPlayed s .record′))) (t .record-is) in
+    let told : printed text ≡ commitLines (scriptRecord s) ++ closing (scriptPlayed s) (s .body .steps .flaw) =
+    printed-short text short
+    ∙ ap (λ (numbers : List ℕ). commitLines numbers ++ closing (scriptPlayed s) (s .body .steps .flaw)) same in
+    let end : List ℕ = endLine (ending (scriptPlayed s .state)) (scriptPlayed s .commits) in
     record {
       opens = opens;
       truth = t;
-      prints = printed-short text short
-          ∙ ap (λ (numbers : List ℕ). commitLines numbers ++ closing (scriptPlayed s) (s .body .steps .flaw))
-          (sym (w .same) ∙ ap (λ (numbers : List ℕ). woven numbers (distancesOf (scriptPlayed s .record′))) (t .record-is));
-      closes = ap
-          (λ (memory : List ℕ). wordLines 0 memory ++ endLine (ending (scriptPlayed s .state)) (scriptPlayed s .commits))
-          (t .memory-is);
+      prints = told;
+      closes = ap (λ (memory : List ℕ). wordLines 0 memory ++ end) (t .memory-is);
       counts = sym (ap length (t .record-is)) ∙ w .four;
       distances = w .one;
     }
@@ -57,5 +59,5 @@ pub pieces-tell : (text : List ℕ) (whole : Bool) (program memory : List ℕ) (
     → let s = script (linesOf text) in
     Sized s → joined pieces ≡ commitLines (scriptRecord s) ++ closing (scriptPlayed s) (s .body .steps .flaw)
 pieces-tell text whole program memory q into after begun lent pieces r w fills over short sized =
-    pieces-are text whole program memory q into after begun lent pieces r w fills over
+    pieces-are text whole program memory q into after begun lent pieces r w fills .all over
     ∙ script-truth text short sized .prints

@@ -95,7 +95,7 @@ Onward {text} {program} {p} {memory₀} {out₀} {q} {memory} here r after into 
     (weight text r after < weight text q memory) × Filling text program p memory₀ out₀ r after into end
 
 -- a call that was made, by where it leads
-called : {program : List ℕ} {c : Call} {from r : Player} {memory after list : List ℕ} {said : Answer} {u : Machine}
+pub called : {program : List ℕ} {c : Call} {from r : Player} {memory after list : List ℕ} {said : Answer} {u : Machine}
     → Meets program (from .machine) c memory said u after list → length after ≡ length memory → r ≡ afterCall c said u from
     → CallStep program c from memory (toldBy said list) r after
 called {list = list} {said} {u} meets lent leads =

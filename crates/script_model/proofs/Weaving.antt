@@ -28,3 +28,13 @@ weaves (i ∷ c ∷ r ∷ v ∷ d ∷ xs) k h =
       four = omega (arith, w .four);
       one = omega (arith, w .one);
     }
+
+-- a distance for each commit makes five numbers of its four
+pub woven-length : (xs ds : List ℕ) (k : ℕ) → length xs ≡ k * 4 → length ds ≡ k → length (woven xs ds) ≡ k * perCommit
+unfolding woven
+woven-length [] ds k h e = omega arith
+woven-length (i ∷ []) ds k h e = absurd (omega arith)
+woven-length (i ∷ c ∷ []) ds k h e = absurd (omega arith)
+woven-length (i ∷ c ∷ r ∷ []) ds k h e = absurd (omega arith)
+woven-length (i ∷ c ∷ r ∷ v ∷ xs) [] k h e = absurd (omega arith)
+woven-length (i ∷ c ∷ r ∷ v ∷ xs) (d ∷ ds) k h e = omega (arith, woven-length xs ds (k - 1) (omega arith) (omega arith))

@@ -1,5 +1,5 @@
--- What the record theorem says of a script (ScriptTruth), and what the calls of `fill` hand out (Fillings, joined). The
--- theorems are proved in proofs/Truth.antt and proofs/Pieces.antt.
+-- What the record theorem says of a script (ScriptTruth), and the theorem of the pieces of what the calls of `fill` hand out
+-- (PiecesTruth). They are proved in proofs/Truth.antt and proofs/Pieces.antt.
 -- Assumes nothing.
 use mathlib.Core.Path.{_≡_}
 use mathlib.Core.Bool.{true}
@@ -16,7 +16,7 @@ use Rattle.theorem.specs.Truth.{Truth}
 use Rattle.script_model.specs.declared.Player.{Player}
 use Rattle.script_model.specs.Language.{Script}
 use Rattle.script_model.specs.Output.{commitLines, wordLines, ending, endLine, closing, scriptOpening, printed}
-use Rattle.script_model.specs.Playing.{Fills}
+use Rattle.script_model.specs.Playing.{isOver, Fills}
 
 -- the sizes of a good first line
 abbrev pub Sized : Script → Type 0
@@ -84,3 +84,10 @@ pub data Fillings (text program : List ℕ) (p : Player) (memory : List ℕ) : L
 unfoldable pub joined : List (List ℕ) → List ℕ
 joined [] = []
 joined (piece ∷ pieces) = piece ++ joined pieces
+
+-- Calls of `fill` from a `begin` that was lent rightly wrote these pieces and led to player r: what was written is the beginning of
+-- what the script prints, and all of it once the player is over.
+pub record PiecesTruth (text : List ℕ) (pieces : List (List ℕ)) (r : Player) : Type 0 where
+  pub rest : List ℕ
+  pub so-far : printed text ≡ joined pieces ++ rest
+  pub all : isOver (r .phase) ≡ true → joined pieces ≡ printed text
