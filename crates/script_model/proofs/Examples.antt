@@ -2,7 +2,7 @@
 -- older store to 3, which squashes it; it is issued and executed once more. Behind it the lines of B and H and of distances, and
 -- scripts with them; the words are small, since large ones take long to compute. Last come bad lines and the largest input.
 -- Assumes nothing.
-use mathlib.Core.Path.{_≡_, refl, _∙_}
+use mathlib.Core.Path.{_≡_, refl, sym, _∙_}
 use mathlib.Core.List.{List, [], _∷_, _++_}
 use Prim.Native.Nat.{ℕ, _/_}
 use Prim.Native.String.{String}
@@ -29,7 +29,7 @@ use Rattle.script_model.specs.Message.{ascii}
 use Rattle.script_model.specs.Truth.{scriptPlayed, scriptRun, distancesOf, woven, scriptRecord, ScriptTruth}
 use Rattle.script_model.proofs.Beginnings.{printed-long, printed-short}
 use Rattle.script_model.proofs.Truth.{script-truth}
-use Rattle.script_model.proofs.Outputs.{record-counted, prints-all}
+use Rattle.script_model.proofs.Outputs.{record-counted, prints-all, one-outcome}
 
 -- `N,1,2,4,8`, `A,1,0,5`, `S,1,0,3`, `L,2,0,3`, `i`, `i`, `i`, `e,2`, `e,0`, `e,1`, `c`, `c`, `i`, `e,0`, `c`
 abbrev sample : List ℕ
@@ -94,6 +94,36 @@ run-printed = refl
 pub sample-by-run : printed sample ≡ expected
 unfolding linesFrom codeFrom body steps bytes sizesFit
 sample-by-run = prints-all sample-true refl ∙ run-printed
+
+-- The same program by one finish, on eight banks and a window of one stage: as many commits, and so the same memory.
+abbrev other : List ℕ
+other = ascii "N,8,1,1,8\nA,1,0,5\nS,1,0,3\nL,2,0,3\nx,3\n"
+
+abbrev finished : Script
+finished = script (linesOf other)
+
+-- a script of this program, on eight words, that commits it all
+abbrev Commits : Script → Type 0
+Commits s =
+    (s .body .program ≡ 1 ∷ 1 ∷ 0 ∷ 5 ∷ 4 ∷ 1 ∷ 0 ∷ 3 ∷ 3 ∷ 2 ∷ 0 ∷ 3 ∷ []) × (s .words ≡ 8) × (scriptPlayed s .commits ≡ 3)
+
+sample-reads : Commits sampled
+unfolding linesFrom codeFrom body steps bytes sizesFit
+sample-reads = (refl, refl, sample-commits)
+
+finished-reads : Commits finished
+unfolding computing ascii linesFrom codeFrom body steps bytes sizesFit
+finished-reads = (refl, refl, refl)
+
+finished-true : ScriptTruth other finished
+unfolding ascii linesFrom codeFrom body steps bytes sizesFit
+finished-true = script-truth other (omega arith) refl
+
+pub sample-alike : scriptPlayed sampled .memory ≡ scriptPlayed finished .memory
+sample-alike =
+    let p = sample-reads in
+    let q = finished-reads in
+    one-outcome sample-true finished-true (p .0 ∙ sym (q .0)) (p .1 ∙ sym (q .1)) (p .2 ∙ sym (q .2)) .2
 
 byte-read : parsedLine (ascii "B,1,0,3") ≡ Operation 5 1 0 3
 unfolding ascii bytes codeFrom

@@ -194,7 +194,8 @@ begun : Begins text true (replicate 1024 0) (7 ∷ []) (at Stepping 18 3 0 m₀)
 unfolding ascii linesFrom codeFrom body steps bytes sizesFit feedIn lineStart computing
 begun = record { refuses = λ wrong. absurd (false≢true wrong); begins = λ _. (refl, refl, refl) }
 
-two-fillings : Fillings text own (at Stepping 18 3 0 m₀) (0 ∷ []) ([] ∷ ascii "0,A,1,9\n" ∷ []) (at (Finishing 0) 24 5 1 m₁) (0 ∷ [])
+two-fillings :
+    Fillings text own (at Stepping 18 3 0 m₀) (0 ∷ []) ([] ∷ ascii "0,A,1,9\n" ∷ []) (at (Finishing 0) 24 5 1 m₁) (0 ∷ [])
 unfolding ascii
 two-fillings = filled (filled ready none-filled) first-filled
 

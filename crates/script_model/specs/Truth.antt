@@ -85,8 +85,8 @@ unfoldable pub joined : List (List ℕ) → List ℕ
 joined [] = []
 joined (piece ∷ pieces) = piece ++ joined pieces
 
--- Calls of `fill` from a `begin` that was lent rightly wrote these pieces and led to player r: what was written is the beginning of
--- what the script prints, and all of it once the player is over.
+-- Calls of `fill` from a `begin` that was lent rightly wrote these pieces and led to player r: what was written is the beginning
+-- of what the script prints, and all of it once the player is over.
 pub record PiecesTruth (text : List ℕ) (pieces : List (List ℕ)) (r : Player) : Type 0 where
   pub rest : List ℕ
   pub so-far : printed text ≡ joined pieces ++ rest
