@@ -12,9 +12,9 @@ use lib.Dec.{eqb, leb, ltb}
 use lib.ListN.{length, getD, length-append}
 use borrow.Author.Tests.{leb-true, ltb-true, eqb-true, lt-ltb, le-ltb}
 use Rattle.text.specs.Fields.{Open, empty, value, Reading, bad, reading, comma, digit, byte, bytes, closed, fields}
+use Rattle.text.specs.Fields.{largest}
 use Rattle.text.specs.Lines.{linesOf}
 use Rattle.text.proofs.Trip.{digit-first}
-use Rattle.text.specs.computed.Reader.{largest}
 use Rattle.table.specs.Limits.{sizesFit, banksMost, rowsMost, stagesMost, wordsMost}
 use Rattle.machine_model.specs.Program.{wellFormed}
 use Rattle.script_model.specs.declared.Item.{Item}

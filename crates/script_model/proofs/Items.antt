@@ -12,8 +12,8 @@ use lib.Dec.{eqb, leb}
 use lib.ListN.{length, getD, take, drop-of-length-le}
 use lib.Seq.{length-take-le, slice, slice-cons}
 use borrow.Author.Tests.{leb-false, eq-eqb, ne-eqb}
-use Rattle.text.specs.Fields.{fields}
-use Rattle.text.specs.computed.Reader.{largest, fitting}
+use Rattle.text.specs.Fields.{largest, fields}
+use Rattle.text.specs.computed.Reader.{fitting}
 use Rattle.script_model.specs.declared.Item.{Item}
 use Rattle.script_model.specs.declared.Item.the-variants.{Malformed}
 use Rattle.script_model.specs.Language.{alone, withOne, withThree, withFour, lettered, parsedLine}

@@ -18,9 +18,8 @@ use lib.Seq.{slice, length-sets, drop-cons}
 use borrow.Author.Tests.{lt-ltb, le-ltb}
 use Rattle.text.specs.declared.Line.{Line}
 use Rattle.text.specs.declared.Line.the-variants.{End, Unended, Whole}
-use Rattle.text.specs.Fields.{fields}
+use Rattle.text.specs.Fields.{largest, fields}
 use Rattle.text.specs.Lines.{Lines, lineAt}
-use Rattle.text.specs.computed.Reader.{largest}
 use Rattle.text.proofs.Splits.{line-is, line-end, line-unended, line-whole}
 use Rattle.text.proofs.Trip.{Within, written-fields}
 use Rattle.machine_model.specs.declared.Machine.{Machine}

@@ -10,9 +10,8 @@ use mathlib.Core.Option.{Option, none, some}
 use Prim.Native.Nat.{ℕ, suc, _+_, _-_, _*_}
 use lib.Dec.{eqb, leb, ltb}
 use lib.ListN.{length, getD}
-use Rattle.text.specs.Fields.{Open, empty, value}
+use Rattle.text.specs.Fields.{largest, Open, empty, value}
 use Rattle.text.specs.Lines.{Lines, linesOf}
-use Rattle.text.specs.computed.Reader.{largest}
 use Rattle.table.specs.Limits.{banksMost, rowsMost, stagesMost, wordsMost}
 use Rattle.machine_model.specs.Program.{wellFormed}
 use Rattle.script_model.specs.declared.Item.{Item}

@@ -6,9 +6,8 @@ use mathlib.Core.Option.{Option, none, some}
 use Prim.Native.Nat.{ℕ, suc, _*_}
 use lib.Dec.{eqb, ltb}
 use lib.ListN.{length, getD, replicate}
-use Rattle.text.specs.Fields.{fields}
+use Rattle.text.specs.Fields.{largest, fields}
 use Rattle.text.specs.Lines.{Lines}
-use Rattle.text.specs.computed.Reader.{largest}
 use Rattle.table.specs.Limits.{sizesFit}
 use Rattle.machine_model.specs.Program.{wellFormed}
 use Rattle.machine_model.specs.Calls.{Call, issue, execute, squash, commit, finish, perCommit}

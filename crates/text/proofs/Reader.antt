@@ -13,8 +13,8 @@ use lib.ListN.{length, getD, take, set, length-append, drop-of-length-le}
 use lib.Seq.{length-take-le, take-suc-set, slice, slice-cons}
 use borrow.Author.Tests.{ltb-true, ltb-false, leb-true, lt-ltb, le-ltb, le-leb, lt-leb, ne-eqb}
 use Rattle.text.specs.Fields.{Open, empty, value, Reading, bad, reading, digit, comma, byte, bytes}
-use Rattle.text.specs.Fields.{closed, fields, fieldsText}
-use Rattle.text.specs.computed.Reader.{largest, capacity, state, few, fitting}
+use Rattle.text.specs.Fields.{largest, closed, fields, fieldsText}
+use Rattle.text.specs.computed.Reader.{capacity, state, few, fitting}
 use Rattle.text.proofs.Trip.{digit-byte, digit-first, Within, fields-written, written-fields}
 
 few-in : (ns : List ℕ) (o : Open) → length ns < 64 → few (reading ns o) ≡ reading ns o

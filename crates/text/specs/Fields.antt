@@ -7,6 +7,10 @@ use Prim.Native.Nat.{ℕ, _+_, _-_, _*_}
 use lib.Dec.{eqb, leb, ltb}
 use Rattle.text.specs.Decimal.{decimal}
 
+-- "numbers in decimal up to 4294967295": the limit of each number of a script
+abbrev pub largest : ℕ
+largest = 4294967295
+
 -- numbers parted by commas (44), as they are written
 unfoldable pub fieldsText : List ℕ → List ℕ
 fieldsText [] = []

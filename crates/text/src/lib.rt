@@ -8,9 +8,9 @@ ghost use lib.Dec.{leb, ltb};
 ghost use lib.ListN.{length};
 ghost use lib.Seq.{sets, slice};
 ghost use Rattle.text.specs.Decimal.{decimal};
-ghost use Rattle.text.specs.Fields.{bad, byte, closed, fields};
+ghost use Rattle.text.specs.Fields.{largest, bad, byte, closed, fields};
 ghost use Rattle.text.specs.Lines.{lineAt};
-ghost use Rattle.text.specs.computed.Reader.{largest, capacity, shown, few, fitting, parsedFields};
+ghost use Rattle.text.specs.computed.Reader.{capacity, shown, few, fitting, parsedFields};
 
 // The fields of a line: the first `count` of `values`. While the line is read, `current` is the open
 // field, if it has digits (`begun`). Not `good`: the line is no list of numbers, or has too many.

@@ -3,8 +3,8 @@
 use mathlib.Core.Path.{sym, ap, _∙_}
 use Prim.Native.Nat.{ℕ}
 use native.Mathlib.Omega.{arith}
-use Rattle.text.specs.Fields.{byte}
-use Rattle.text.specs.computed.Reader.{largest, shown, few}
+use Rattle.text.specs.Fields.{largest, byte}
+use Rattle.text.specs.computed.Reader.{shown, few}
 use Rattle.text.proofs.Reader.{below-digits, above-digits}
 use borrow.Author.Needs.{needs}
 use Rattle.text.proofs.next_byte.Statement.{statement}

@@ -5,8 +5,8 @@ use Prim.Native.Nat.{_-_}
 use native.Mathlib.Omega.{arith}
 use lib.Seq.{slice}
 use borrow.Author.Needs.{needs}
-use Rattle.text.specs.Fields.{bytes, closed, fields}
-use Rattle.text.specs.computed.Reader.{largest, shown, fitting}
+use Rattle.text.specs.Fields.{largest, bytes, closed, fields}
+use Rattle.text.specs.computed.Reader.{shown, fitting}
 use Rattle.text.proofs.Reader.{read-on, read-all}
 use Rattle.text.proofs.read_fields.Statement.{statement}
 use Rattle.text.proofs.read_fields.Tie as tie

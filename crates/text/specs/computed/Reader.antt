@@ -9,10 +9,7 @@ use lib.ListN.{length, take}
 use Rattle.text.specs.Fields.{Reading, bad, reading, empty, value}
 use Rattle.text.specs.declared.Numbers.{Numbers}
 
--- the largest number that is read, and how many fields there may be
-abbrev pub largest : ℕ
-largest = 4294967295
-
+-- how many fields there may be
 abbrev pub capacity : ℕ
 capacity = 64
 
