@@ -33,7 +33,7 @@ use Rattle.script_model.specs.declared.Ask.the-variants as ask
 use Rattle.script_model.specs.declared.Order.{Order}
 use Rattle.script_model.specs.declared.Player.{Player}
 use Rattle.script_model.specs.Output.{committedLines, badLine, ending, endLine}
-use Rattle.script_model.specs.Playing.{oneMore, orderAt, player, turned, past, firstLines, toldBy, countedBy, phaseAfter}
+use Rattle.script_model.specs.Playing.{oneMore, orderAt, player, inPhase, past, firstLines, toldBy, countedBy, phaseAfter}
 use Rattle.script_model.specs.Playing.{afterCall, CallStep, LineStep, wordLineAt, StepIn, longest}
 use Rattle.script_model.proofs.Writing.{writes-none}
 use Rattle.script_model.proofs.Invariant.{weight}
@@ -117,11 +117,11 @@ module _ {text program : List ℕ} {p : Player} {memory₀ out₀ : List ℕ} {q
         put
 
     pub bad-way : {b : ℕ} {into : List ℕ} {end : ℕ} → q .phase ≡ Bad b → Puts out at (badLine b) into end
-        → Onward here (turned q Over) memory into end
+        → Onward here (inPhase q Over) memory into end
     bad-way e put = in-phase e (record { prints = refl; leads = refl; keeps = refl }) put
 
     -- a finish whose limit is reached
-    pub limit-way : {k : ℕ} → q .phase ≡ Finishing k → k ≡ 0 → Onward here (turned q Stepping) memory out at
+    pub limit-way : {k : ℕ} → q .phase ≡ Finishing k → k ≡ 0 → Onward here (inPhase q Stepping) memory out at
     limit-way e none = in-phase e (inl (none, record { prints = refl; leads = refl; keeps = refl })) (put-none out at)
 
     -- a finish with a list of one commit
@@ -155,12 +155,12 @@ module _ {text program : List ℕ} {p : Player} {memory₀ out₀ : List ℕ} {q
 
     -- the closing lines
     pub word-way : {a end : ℕ} {into : List ℕ} → q .phase ≡ Words a → a < length memory
-        → Puts out at (wordLineAt memory a) into end → Onward here (turned q (Words (a + 1))) memory into end
+        → Puts out at (wordLineAt memory a) into end → Onward here (inPhase q (Words (a + 1))) memory into end
     word-way e h put = in-phase e (inl (h, record { prints = refl; leads = refl; keeps = refl })) put
 
     pub end-way : {a end : ℕ} {into : List ℕ} {x : Ending} → q .phase ≡ Words a → length memory ≤ a
         → x ≡ ending (plain (q .machine)) → Puts out at (endLine x (q .commits)) into end
-        → Onward here (turned q Over) memory into end
+        → Onward here (inPhase q Over) memory into end
     end-way {end = end} {into} e h is put =
         in-phase e (inr (h, record { prints = refl; leads = refl; keeps = refl }))
         (subst (λ (y : Ending). Puts out at (endLine y (q .commits)) into end) is put)
@@ -198,7 +198,7 @@ module _ {text program : List ℕ} {p : Player} {memory₀ out₀ : List ℕ} {q
         (subst (λ (l : List ℕ). Puts out at l out at) (sym (quiet .silent)) (put-none out at))
 
   module _ {here : Ready text program p memory₀ out₀ q memory out at} {o : Order} (line : AtLine here o) where
-    pub turn-way : {h : Phase} → o .ask ≡ ask.Turn h → Onward here (turned (past q o) h) memory out at
+    pub turn-way : {h : Phase} → o .ask ≡ ask.Turn h → Onward here (inPhase (past q o) h) memory out at
     turn-way asked = line-way line asked (record { prints = refl; leads = refl; keeps = refl }) (put-none out at)
 
     -- a commit that was made

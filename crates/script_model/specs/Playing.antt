@@ -65,8 +65,8 @@ player phase cursor line commits used machine =
     record { phase = phase; cursor = cursor; line = line; commits = commits; used = used; machine = machine }
 
 -- the player in another phase
-abbrev pub turned : Player → Phase → Player
-turned p phase = player phase (p .cursor) (p .line) (p .commits) (p .used) (p .machine)
+abbrev pub inPhase : Player → Phase → Player
+inPhase p phase = player phase (p .cursor) (p .line) (p .commits) (p .used) (p .machine)
 
 -- the player past the line that it was at
 abbrev pub past : Player → Order → Player
@@ -123,7 +123,7 @@ pub record CallStep (program : List ℕ) (c : Call) (p : Player) (memory piece :
 
 -- a step that takes a line, by what it asks for
 abbrev pub LineStep : List ℕ → Ask → Player → List ℕ → List ℕ → Player → List ℕ → Type 0
-LineStep program (ask.Turn phase) p = QuietStep [] (turned p phase)
+LineStep program (ask.Turn phase) p = QuietStep [] (inPhase p phase)
 LineStep program ask.Issue p = CallStep program issue p
 LineStep program (ask.Execute k) p = CallStep program (execute k) p
 LineStep program (ask.Squash k) p = CallStep program (squash k) p
@@ -137,16 +137,16 @@ wordLineAt memory a = cond (eqb (getD memory a 0) 0) [] (wordLine a (getD memory
 -- A player that is over makes none.
 abbrev pub StepIn : List ℕ → List ℕ → Phase → Player → List ℕ → List ℕ → Player → List ℕ → Type 0
 StepIn text program Over p memory piece q after = ⊥
-StepIn text program (Bad n) p memory piece q after = QuietStep (badLine n) (turned p Over) memory piece q after
+StepIn text program (Bad n) p memory piece q after = QuietStep (badLine n) (inPhase p Over) memory piece q after
 StepIn text program Stepping p memory piece q after =
     let order = orderAt text (p .cursor) (p .line) in
     LineStep program (order .ask) (past p order) memory piece q after
 StepIn text program (Finishing k) p memory piece q after =
-    ((k ≡ 0) × QuietStep [] (turned p Stepping) memory piece q after)
+    ((k ≡ 0) × QuietStep [] (inPhase p Stepping) memory piece q after)
     ⊎ ((k ≡ 0 → ⊥) × CallStep program (finish k (replicate perCommit 0)) p memory piece q after)
 StepIn text program (Words a) p memory piece q after =
-    ((a < length memory) × QuietStep (wordLineAt memory a) (turned p (Words (a + 1))) memory piece q after)
-    ⊎ ((length memory ≤ a) × QuietStep (endLine (ending (plain (p .machine))) (p .commits)) (turned p Over) memory piece q after)
+    ((a < length memory) × QuietStep (wordLineAt memory a) (inPhase p (Words (a + 1))) memory piece q after)
+    ⊎ ((length memory ≤ a) × QuietStep (endLine (ending (plain (p .machine))) (p .commits)) (inPhase p Over) memory piece q after)
 
 pub record PlayerStep (text program : List ℕ) (p : Player) (memory piece : List ℕ) (q : Player) (after : List ℕ) : Type 0 where
   pub made : StepIn text program (p .phase) p memory piece q after

@@ -37,7 +37,7 @@ use Rattle.machine_model.specs.Contract.{plain, Meets, Opens}
 use Rattle.theorem.specs.Play.{Played, plays, play, start, answersOf}
 use Rattle.theorem.specs.Life.{Life}
 use Rattle.theorem.specs.Unrolled.{Single, Singles, unrolled}
-use Rattle.theorem.specs.Answered.{Told, silent, told, before, tells, toldBy, oldest, PassesUp}
+use Rattle.theorem.specs.Answered.{Told, silent, told, unsquashed, tells, toldAfter, oldest, PassesUp}
 use Rattle.theorem.proofs.Links.{passes}
 use Rattle.theorem.proofs.Finishing.{either}
 use Rattle.theorem.proofs.Closing.{from-opening, done-opens}
@@ -109,10 +109,10 @@ comes-known (Byte d s imm) ρ μ e = both-known (ρ s) (ρ d) _ (λ a b. refl) e
 comes-known (Half d s imm) ρ μ e = both-known (ρ s) (ρ d) _ (λ a b. refl) e
 
 -- the first `left` stay, whether the answer names that position or, where all stay, none
-squashed-before : (left n : ℕ) (ts : List Told) → length ts ≡ n → before (cond (ltb left n) (some left) none) ts ≡ take left ts
-squashed-before left n ts same = go (ltb left n) refl
+squashed-gone : (left n : ℕ) (ts : List Told) → length ts ≡ n → unsquashed (cond (ltb left n) (some left) none) ts ≡ take left ts
+squashed-gone left n ts same = go (ltb left n) refl
   where
-    go : (t : Bool) → ltb left n ≡ t → before (cond t (some left) none) ts ≡ take left ts
+    go : (t : Bool) → ltb left n ≡ t → unsquashed (cond t (some left) none) ts ≡ take left ts
     go true e = refl
     go false e = sym (take-all left ts (omega (arith, ltb-false left n e)))
 
@@ -131,7 +131,7 @@ executing-tells X memory p left f w =
     let e = entryWith (entryAt es p) f d in
     let v = answerBy (kind i) (valueBy f) in
     let same : told v d ≡ kept e = sym (executed-kept i f d w ∙ ap (told v) (answer-twice (kind i) _)) in
-    squashed-before left (length es) _ (length-set (map kept es) p _ ∙ length-map es kept)
+    squashed-gone left (length es) _ (length-set (map kept es) p _ ∙ length-map es kept)
     ∙ ap (λ (t : Told). take left (set (map kept es) p t)) same
     ∙ ap (take left) (sym (map-set kept es p e))
     ∙ sym (map-take kept left (set es p e))
@@ -176,11 +176,11 @@ call-tells program (finish k list) s X memory = absurd s
 
 -- ---- single calls, one after the other
 told-kept : (program : List ℕ) (x : Played) (cs : List Call) → Singles cs
-    → toldBy (map kept (x .state .entries)) cs (answersOf program x cs) ≡ map kept (play program x cs .state .entries)
-unfolding toldBy answersOf play
+    → toldAfter (map kept (x .state .entries)) cs (answersOf program x cs) ≡ map kept (play program x cs .state .entries)
+unfolding toldAfter answersOf play
 told-kept program x [] s = refl
 told-kept program x (c ∷ cs) s =
-    ap (λ (ts : List Told). toldBy ts cs (answersOf program (plays program x c) cs))
+    ap (λ (ts : List Told). toldAfter ts cs (answersOf program (plays program x c) cs))
     (call-tells program c (s .0) (x .state) (x .memory))
     ∙ told-kept program (plays program x c) cs (s .1)
 
@@ -218,11 +218,12 @@ commit-kept program X memory i c r v d = go (eqb (refusal (commitChecks program 
 pub passed-up : (program : List ℕ) (x : Played) → x .state .entries ≡ [] → (cs : List Call) → Singles cs
     → (i c r v d : ℕ)
     → respond program commit (play program x cs .state) (play program x cs .memory) .answer ≡ committed i c r v d
-    → PassesUp (oldest (toldBy [] cs (answersOf program x cs))) c v d
+    → PassesUp (oldest (toldAfter [] cs (answersOf program x cs))) c v d
 unfolding respond
 passed-up program x empty cs s i c r v d says =
     let y = play program x cs in
-    let all = ap (λ (es : List Entry). toldBy (map kept es) cs (answersOf program x cs)) (sym empty) ∙ told-kept program x cs s in
+    let all =
+    ap (λ (es : List Entry). toldAfter (map kept es) cs (answersOf program x cs)) (sym empty) ∙ told-kept program x cs s in
     ap oldest all ∙ commit-kept program (y .state) (y .memory) i c r v d says
 
 -- every commit among the single calls of any calls, called or repeated by a finish
@@ -230,7 +231,7 @@ pub commit-passes : (program : List ℕ) (x : Played) → x .state .entries ≡ 
     → unrolled program x cs ≡ pre ++ (commit ∷ post)
     → (i c r v d : ℕ)
     → respond program commit (play program x pre .state) (play program x pre .memory) .answer ≡ committed i c r v d
-    → PassesUp (oldest (toldBy [] pre (answersOf program x pre))) c v d
+    → PassesUp (oldest (toldAfter [] pre (answersOf program x pre))) c v d
 commit-passes program x empty cs pre post is =
     passed-up program x empty pre (singles-first pre (commit ∷ post) (subst Singles is (unrolled-single program x cs)))
 
@@ -240,11 +241,11 @@ pub calls-passed-up : {B R n W : ℕ} {program w : List ℕ} {m : Machine} (open
     → Singles cs
     → (i c r value d : ℕ) {x : Machine} {y list : List ℕ}
     → Meets program u commit v (committed i c r value d) x y list
-    → PassesUp (oldest (toldBy [] cs answers)) c value d
+    → PassesUp (oldest (toldAfter [] cs answers)) c value d
 calls-passed-up {program = program} {w = w} {m = m} opens {cs = cs} life s i c r value d meets =
     let f = from-opening opens life in
     let empty = ap (λ (X : Plain). X .entries) (opens .state (done-opens opens) .1) in
     let says = meets .answer (f .sound) ∙ ap (λ (z : Played). respond program commit (z .state) (z .memory) .answer) (f .played)
     in
-    subst (λ (l : List Answer). PassesUp (oldest (toldBy [] cs l)) c value d) (sym (f .said))
+    subst (λ (l : List Answer). PassesUp (oldest (toldAfter [] cs l)) c value d) (sym (f .said))
     (passed-up program (start (plain m) w) empty cs s i c r value d (sym says))

@@ -26,7 +26,7 @@ use Rattle.machine_model.proofs.Answering.{refused-meets, accepted-meets, valid
 use Rattle.theorem.specs.Play.{without, needed}
 use Rattle.theorem.specs.Life.{Life, born, lived}
 use Rattle.theorem.specs.Truth.{CallsTruth}
-use Rattle.theorem.specs.Answered.{told, toldBy, oldest}
+use Rattle.theorem.specs.Answered.{told, toldAfter, oldest}
 use Rattle.theorem.proofs.Cases.{computing}
 use Rattle.theorem.proofs.Sentences.{Unrefused}
 use Rattle.theorem.proofs.Closing.{life-join, calls-theorem, calls-next}
@@ -161,7 +161,7 @@ unfolding computing
 records-there = calls-theorem opens begins .goes-on refl needs .3
 
 -- the commit's numbers were passed up by the execution before it: nothing of what is told is computed
-pub passed-there : oldest (toldBy [] (issue ∷ execute 0 ∷ []) (named 0 ∷ executed 0 0 none ∷ [])) ≡ told 0 0
+pub passed-there : oldest (toldAfter [] (issue ∷ execute 0 ∷ []) (named 0 ∷ executed 0 0 none ∷ [])) ≡ told 0 0
 unfolding computing tabulate
 passed-there =
     calls-passed-up opens (lived (execute 0) (lived issue born issues) executes) (tt, (tt, tt)) 0 1 1 9 0 commits

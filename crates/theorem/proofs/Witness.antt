@@ -22,7 +22,7 @@ use Rattle.theorem.specs.Play.{without, Played, play, start, answersOf, 
 use Rattle.theorem.specs.Truth.{run, next, Truth}
 use Rattle.theorem.specs.Finish.{stepsLeft, FinishTruth}
 use Rattle.theorem.specs.Unrolled.{repeated, unrolled}
-use Rattle.theorem.specs.Answered.{told, toldBy, oldest}
+use Rattle.theorem.specs.Answered.{told, toldAfter, oldest}
 use Rattle.theorem.proofs.Cases.{computing}
 use Rattle.theorem.proofs.Record.{record-theorem}
 use Rattle.theorem.proofs.Finished.{finish-theorem}
@@ -206,9 +206,9 @@ part-stops more = record-theorem 1 1 3 8 parts memory refl part-calls .stops ref
 -- ---- what an execution answered
 
 -- of the three entries that are live before the finish: the byte and the half word have no distance, the load has one
-pub part-told : toldBy [] (take 11 part-calls) (answersOf parts part-opening (take 11 part-calls))
+pub part-told : toldAfter [] (take 11 part-calls) (answersOf parts part-opening (take 11 part-calls))
     ≡ told 0 0 ∷ told 0 0 ∷ told 33554181 1 ∷ []
-unfolding computing toldBy
+unfolding computing toldAfter
 part-told = refl
 
 -- the finish repeats three commits, and then issue, execute and a commit, which is refused
@@ -226,7 +226,7 @@ load-committed : respond parts commit (play parts part-opening until-load .state
 unfolding computing
 load-committed = refl
 
-pub part-passed : oldest (toldBy [] until-load (answersOf parts part-opening until-load)) ≡ told 33554181 1
+pub part-passed : oldest (toldAfter [] until-load (answersOf parts part-opening until-load)) ≡ told 33554181 1
 part-passed =
     commit-passes parts part-opening refl (take 12 part-calls) until-load (issue ∷ execute 0 ∷ commit ∷ []) part-unrolled 3 3 2
     33554181 1 load-committed

@@ -19,15 +19,15 @@ pub data Told : Type 0 where
   told : ℕ → ℕ → Told
 
 -- the entries before the position squashed from stay
-abbrev pub before : Option ℕ → List Told → List Told
-before none ts = ts
-before (some q) ts = take q ts
+abbrev pub unsquashed : Option ℕ → List Told → List Told
+unsquashed none ts = ts
+unsquashed (some q) ts = take q ts
 
 -- after an execution of position p with this answer
 abbrev pub ran : ℕ → List Told → Answer → List Told
 ran p ts (refused k) = ts
 ran p ts (named q) = ts
-ran p ts (executed v d s) = before s (set ts p (told v d))
+ran p ts (executed v d s) = unsquashed s (set ts p (told v d))
 ran p ts done = ts
 ran p ts (committed i c r v d) = ts
 ran p ts (finished n) = ts
@@ -42,10 +42,10 @@ tells ts commit a = cond (isRefused a) ts (drop 1 ts)
 tells ts (finish k list) a = ts
 
 -- the same after several calls
-unfoldable pub toldBy : List Told → List Call → List Answer → List Told
-toldBy ts [] answers = ts
-toldBy ts (c ∷ cs) [] = ts
-toldBy ts (c ∷ cs) (a ∷ answers) = toldBy (tells ts c a) cs answers
+unfoldable pub toldAfter : List Told → List Call → List Answer → List Told
+toldAfter ts [] answers = ts
+toldAfter ts (c ∷ cs) [] = ts
+toldAfter ts (c ∷ cs) (a ∷ answers) = toldAfter (tells ts c a) cs answers
 
 -- what is told of the oldest
 abbrev pub oldest : List Told → Told
