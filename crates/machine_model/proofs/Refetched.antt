@@ -16,7 +16,9 @@ use borrow.Author.Tests.{leb-false, lt-ltb}
 use Rattle.engine.specs.Contract.{refused, done, named, executed, committed, finished}
 use Rattle.engine.proofs.Refusing.{holds-one, passed-none}
 use Rattle.engine.proofs.Deciding.{Comes}
+use Rattle.machine_model.specs.declared.Entry.{Entry}
 use Rattle.machine_model.specs.declared.Machine.{Machine}
+use Rattle.machine_model.specs.Program.{instructionAt}
 use Rattle.machine_model.specs.Window.{blankEntry, entryAt}
 use Rattle.machine_model.specs.Calls.{Plain, Call, issue, execute, squash, commit, finish, Answer, checksOf, programCheck}
 use Rattle.machine_model.specs.Calls.{newEntry, evaluated, known, survivorsOf, squashChecks}
@@ -118,25 +120,31 @@ module _ (program : List ℕ) (m : Machine) (w : List ℕ) where
 
   -- the entry issued is the next instruction
   pub issued-next : {q : ℕ} {u : Machine} {v kept : List ℕ} → Meets program m issue w (named q) u v kept
-      → entryAt (plain u .entries) q ≡ newEntry program (m .next)
+      → (entryAt (plain u .entries) q .index ≡ m .next)
+      × (entryAt (plain u .entries) q .instruction ≡ instructionAt program (m .next))
   issued-next {q} {u} {v} {kept} meets =
       let came = decides program m issue w meets .accepted tt in
       let e = came .answer in
       let last : length (plain m .entries) ≡ q = cc in
+      let new : entryAt (plain u .entries) q ≡ newEntry program (m .next) =
       ap (λ (X : Plain). entryAt (X .entries) q) (came .state)
-      ∙ getD-at (plain m .entries) (newEntry program (m .next)) [] blankEntry q last
+      ∙ getD-at (plain m .entries) (newEntry program (m .next)) [] blankEntry q last in
+      (ap (λ (x : Entry). x .index) new, ap (λ (x : Entry). x .instruction) new)
 
 pub next-kept : {m x : Machine} → Quiet m x → x .next ≡ m .next
 next-kept still = refl
 next-kept (after {u = u} program c w before meets quiet) = call-quiet program u w c meets quiet ∙ next-kept before
 
--- "the next issue is the first squashed instruction": a call squashed from position k on; calls that neither issue nor squash
--- followed; then the entry issued is the program's instruction at the index of the entry that was at k
+-- "the next issue is the first squashed instruction": a call squashed from position k on, calls that neither issue nor squash
+-- followed; then the entry issued has the index of the entry that was at k, and is the program's instruction there
 pub first-squashed-next : (program : List ℕ) (m : Machine) (c : Call) (w : List ℕ) {said : Answer} {u : Machine} {v kept : List ℕ}
     → Meets program m c w said u v kept → (k : ℕ) → SquashesFrom k c said
     → (x : Machine) → Quiet u x
-    → (again : List ℕ) (lent : List ℕ) {q : ℕ} {y : Machine} {left rest : List ℕ} → Meets again x issue lent (named q) y left rest
-    → entryAt (plain y .entries) q ≡ newEntry again (entryAt (plain m .entries) k .index)
+    → (again lent : List ℕ) {q : ℕ} {y : Machine} {left rest : List ℕ} → Meets again x issue lent (named q) y left rest
+    → (entryAt (plain y .entries) q .index ≡ entryAt (plain m .entries) k .index)
+    × (entryAt (plain y .entries) q .instruction ≡ instructionAt again (entryAt (plain m .entries) k .index))
 first-squashed-next program m c w meets k from x between again lent issued =
-    issued-next again x lent issued
-    ∙ ap (newEntry again) (next-kept between ∙ next-first program m w c meets k from)
+    let next : x .next ≡ entryAt (plain m .entries) k .index =
+    next-kept between ∙ next-first program m w c meets k from in
+    let new = issued-next again x lent issued in
+    (new .0 ∙ next, new .1 ∙ ap (instructionAt again) next)
