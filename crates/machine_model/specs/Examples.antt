@@ -697,10 +697,11 @@ damaged =
     (two (asks (execute 0) (executed 0 0 none) ∷ asks (execute 1) (executed 0 0 none) ∷ refile 0 (merged 3 13 9)
     ∷ refile 1 (merged 4 14 8) ∷ asks commit (committed 0 5 12 0 0) ∷ asks commit (committed 1 6 16 0 0)
     ∷ looks (replicate 8 0) (10 ∷ 11 ∷ 12 ∷ 9 ∷ 8 ∷ 15 ∷ 16 ∷ 17 ∷ []) ∷ []))
-    -- of a load: the commit answers the entry's value, and the register becomes it
-    ∷ usual (L 1 0 3)
-    (asks issue (named 0) ∷ asks (execute 0) (executed 13 0 none) ∷ refile 0 (loaded 3 9) ∷ asks commit (committed 0 3 1 13 0)
-    ∷ looks (0 ∷ 13 ∷ 0 ∷ 0 ∷ 0 ∷ 0 ∷ 0 ∷ 0 ∷ []) eight ∷ [])
+    -- of a load: an operand is the entry's value, and so are the commit's and the register's
+    ∷ usual (L 1 0 3 ++ A 2 1 0)
+    (two (asks (execute 0) (executed 13 0 none) ∷ refile 0 (loaded 3 9) ∷ asks (execute 1) (executed 0 0 none)
+    ∷ asks commit (committed 0 3 1 13 0) ∷ asks commit (committed 1 1 2 13 0)
+    ∷ looks (0 ∷ 13 ∷ 13 ∷ 0 ∷ 0 ∷ 0 ∷ 0 ∷ 0 ∷ []) eight ∷ []))
     -- Indices that do not follow one another: after a squash the next issue is the first squashed instruction, after a called
     -- one, one of an execution and one in a finish.
     ∷ usual (A 1 0 5 ++ A 1 0 5 ++ A 1 0 5 ++ A 1 0 5)
