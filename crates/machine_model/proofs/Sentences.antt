@@ -191,7 +191,8 @@ module _ (X : Plain) (memory : List ℕ) (p : ℕ) (inside : p ≤ length (X .en
 -- ---- how far the word came
 
 -- "a fifth number, 0 for other codes": of L, whose code is 3, it is the distance
-pub distance-told : (i : Instruction) (d : ℕ) → (codeOf i ≡ 3 → answerBy (kind i) d ≡ d) × ((codeOf i ≡ 3 → ⊥) → answerBy (kind i) d ≡ 0)
+pub distance-told : (i : Instruction) (d : ℕ)
+    → (codeOf i ≡ 3 → answerBy (kind i) d ≡ d) × ((codeOf i ≡ 3 → ⊥) → answerBy (kind i) d ≡ 0)
 distance-told (Add r s imm) d = (λ e. absurd (omega arith), λ other. refl)
 distance-told (Sum r s k) d = (λ e. absurd (omega arith), λ other. refl)
 distance-told (Load r s imm) d = (λ e. refl, λ other. absurd (other refl))

@@ -1,6 +1,6 @@
 -- Machines that break the rules, beside neighbours that keep them: "the table breaks its own rules, or window and table disagree
--- on which stages are live and executed, at which address and with which mark". A B or an H has both marks. proofs/Breaking.antt shows of each which it is,
--- and that every call on a broken one is refused with 2.
+-- on which stages are live and executed, at which address and with which mark". A B or an H has both marks.
+-- proofs/Breaking.antt shows of each which it is, and that every call on a broken one is refused with 2.
 -- Assumes nothing.
 use mathlib.Core.Path.{_≡_}
 use mathlib.Core.List.{List, [], _∷_, _++_}
@@ -132,7 +132,8 @@ cases =
     ∷ broken (unread (2 ∷ []))
     -- marks of a stage in two rows, of one kind and of both
     ∷ broken (rowed 1 (3 ∷ 4 ∷ []) (2 ∷ 2 ∷ []) (1 ∷ []))
-    ∷ broken (machine 1 2 4 8 0 4 7 (3 ∷ 4 ∷ []) (2 ∷ 1 ∷ []) (1 ∷ []) (entry (Byte 1 0 12) 0 (Executed 5 12) ∷ theLoad ∷ theSum ∷ theIdle ∷ []))
+    ∷ broken (machine 1 2 4 8 0 4 7 (3 ∷ 4 ∷ []) (2 ∷ 1 ∷ []) (1 ∷ [])
+    (entry (Byte 1 0 12) 0 (Executed 5 12) ∷ theLoad ∷ theSum ∷ theIdle ∷ []))
     -- two rows of one address; a free row may have it too
     ∷ broken (rowed 1 (3 ∷ 3 ∷ []) (2 ∷ 0 ∷ []) (0 ∷ 1 ∷ []))
     ∷ sound (rowed 1 (3 ∷ 3 ∷ []) (2 ∷ 0 ∷ []) (1 ∷ 0 ∷ []))

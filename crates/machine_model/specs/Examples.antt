@@ -371,7 +371,8 @@ runs =
     -- sums are modulo 2 ^ 32, of values and of addresses
     ∷ usual (A 1 0 4294967295 ++ A 2 1 1 ++ A 2 1 2 ++ P 3 1 1 ++ L 4 1 4 ++ S 3 1 5)
     (drains 6 (replicate 30 7) (finished 6)
-    (0 ∷ 1 ∷ 1 ∷ 4294967295 ∷ 0 ∷ 1 ∷ 1 ∷ 2 ∷ 0 ∷ 0 ∷ 2 ∷ 1 ∷ 2 ∷ 1 ∷ 0 ∷ 3 ∷ 2 ∷ 3 ∷ 4294967294 ∷ 0 ∷ 4 ∷ 3 ∷ 4 ∷ 13 ∷ 0 ∷ 5 ∷ 4 ∷ 4 ∷ 4294967294 ∷ 0 ∷ [])
+    (0 ∷ 1 ∷ 1 ∷ 4294967295 ∷ 0 ∷ 1 ∷ 1 ∷ 2 ∷ 0 ∷ 0 ∷ 2 ∷ 1 ∷ 2 ∷ 1 ∷ 0 ∷ 3 ∷ 2 ∷ 3 ∷ 4294967294 ∷ 0 ∷ 4 ∷ 3 ∷ 4 ∷ 13 ∷ 0
+    ∷ 5 ∷ 4 ∷ 4 ∷ 4294967294 ∷ 0 ∷ [])
     ∷ looks (0 ∷ 4294967295 ∷ 1 ∷ 4294967294 ∷ 13 ∷ 0 ∷ 0 ∷ 0 ∷ [])
     (10 ∷ 11 ∷ 12 ∷ 13 ∷ 4294967294 ∷ 15 ∷ 16 ∷ 17 ∷ []) ∷ [])
     -- a load takes the word of the nearest older store, which is not in memory yet
@@ -388,7 +389,8 @@ runs =
     ∷ asks commit (committed 3 1 3 6 0) ∷ asks issue (refused 6) ∷ asks commit (refused 11) ∷ []))
     -- R 1: the row whose marks are all younger is evicted, and squashed from position 1
     ∷ tight (L 1 0 5 ++ L 2 0 6 ++ L 3 0 6)
-    (three (asks (execute 2) (executed 16 0 none) ∷ asks (execute 1) (executed 16 0 none) ∷ asks (execute 0) (executed 15 0 (some 1))
+    (three (asks (execute 2) (executed 16 0 none) ∷ asks (execute 1) (executed 16 0 none)
+    ∷ asks (execute 0) (executed 15 0 (some 1))
     ∷ asks commit (committed 0 3 1 15 0) ∷ asks issue (named 0) ∷ asks (execute 0) (executed 16 0 none)
     ∷ asks commit (committed 1 3 2 16 0) ∷ []))
     -- a squash, and the issues after it; the first entry stays as it was
@@ -457,7 +459,9 @@ parts =
     usual
     (A 1 0 4042322160 ++ B 1 0 0 ++ B 1 0 1 ++ B 1 0 2 ++ B 1 0 3 ++ A 1 0 67305985 ++ B 1 0 0 ++ B 1 0 3 ++ H 1 0 4 ++ H 1 0 6)
     (drains 10 (replicate 50 7) (finished 10)
-    (0 ∷ 1 ∷ 1 ∷ 4042322160 ∷ 0 ∷ 1 ∷ 5 ∷ 0 ∷ 240 ∷ 0 ∷ 2 ∷ 5 ∷ 1 ∷ 61680 ∷ 0 ∷ 3 ∷ 5 ∷ 2 ∷ 15790320 ∷ 0 ∷ 4 ∷ 5 ∷ 3 ∷ 4042322160 ∷ 0 ∷ 5 ∷ 1 ∷ 1 ∷ 67305985 ∷ 0 ∷ 6 ∷ 5 ∷ 0 ∷ 4042321921 ∷ 0 ∷ 7 ∷ 5 ∷ 3 ∷ 32567297 ∷ 0 ∷ 8 ∷ 6 ∷ 4 ∷ 513 ∷ 0 ∷ 9 ∷ 6 ∷ 6 ∷ 33620481 ∷ 0 ∷ [])
+    (0 ∷ 1 ∷ 1 ∷ 4042322160 ∷ 0 ∷ 1 ∷ 5 ∷ 0 ∷ 240 ∷ 0 ∷ 2 ∷ 5 ∷ 1 ∷ 61680 ∷ 0 ∷ 3 ∷ 5 ∷ 2 ∷ 15790320 ∷ 0
+    ∷ 4 ∷ 5 ∷ 3 ∷ 4042322160 ∷ 0 ∷ 5 ∷ 1 ∷ 1 ∷ 67305985 ∷ 0 ∷ 6 ∷ 5 ∷ 0 ∷ 4042321921 ∷ 0 ∷ 7 ∷ 5 ∷ 3 ∷ 32567297 ∷ 0
+    ∷ 8 ∷ 6 ∷ 4 ∷ 513 ∷ 0 ∷ 9 ∷ 6 ∷ 6 ∷ 33620481 ∷ 0 ∷ [])
     ∷ looks (0 ∷ 67305985 ∷ 0 ∷ 0 ∷ 0 ∷ 0 ∷ 0 ∷ 0 ∷ []) (32567297 ∷ 33620481 ∷ 12 ∷ 13 ∷ 14 ∷ 15 ∷ 16 ∷ 17 ∷ []) ∷ [])
     -- the byte number is modulo 2 ^ 32
     ∷ usual (A 1 0 4294967295 ++ B 1 1 6)
@@ -487,10 +491,13 @@ parts =
     ∷ early (S 0 0 1 ++ B 0 0 8) 0 (executed 0 0 none) ∷ early (B 0 0 7 ++ B 0 0 8) 0 (executed 0 0 none)
     ∷ early (L 1 0 2 ++ B 0 0 8) 0 (executed 12 0 none) ∷ early (B 0 0 8 ++ S 0 0 2) 0 (executed 0 0 none)
     ∷ usual (B 0 0 9 ++ S 0 0 2 ++ L 1 0 2)
-    (three (asks (execute 1) (executed 0 0 none) ∷ asks (execute 2) (executed 0 1 none) ∷ asks (execute 0) (executed 0 0 none) ∷ []))
+    (three (asks (execute 1) (executed 0 0 none) ∷ asks (execute 2) (executed 0 1 none)
+    ∷ asks (execute 0) (executed 0 0 none) ∷ []))
     -- 9: the writer of s and of d waits; they are nobody's writer
-    ∷ usual (A 1 0 5 ++ B 0 1 0) (two (asks (execute 1) (refused 9) ∷ [])) ∷ usual (A 1 0 5 ++ B 1 0 0) (two (asks (execute 1) (refused 9) ∷ []))
-    ∷ usual (A 1 0 5 ++ H 0 1 0) (two (asks (execute 1) (refused 9) ∷ [])) ∷ usual (A 1 0 5 ++ H 1 0 0) (two (asks (execute 1) (refused 9) ∷ []))
+    ∷ usual (A 1 0 5 ++ B 0 1 0) (two (asks (execute 1) (refused 9) ∷ []))
+    ∷ usual (A 1 0 5 ++ B 1 0 0) (two (asks (execute 1) (refused 9) ∷ []))
+    ∷ usual (A 1 0 5 ++ H 0 1 0) (two (asks (execute 1) (refused 9) ∷ []))
+    ∷ usual (A 1 0 5 ++ H 1 0 0) (two (asks (execute 1) (refused 9) ∷ []))
     ∷ usual (B 1 0 3 ++ A 2 1 0) (two (asks (execute 1) (executed 0 0 none) ∷ []))
     ∷ usual (H 1 0 3 ++ A 2 1 0) (two (asks (execute 1) (executed 0 0 none) ∷ []))
     -- rows go by the word: 10 at another word, none in the same one, and an eviction
