@@ -382,7 +382,9 @@ fn at_end(part: Part) -> Reason
 fn look(s: &[u8], at: usize, part: Part) -> Outlook
     ensures { λ r. ⌜ Looks (now (s .entry)) at part r ⌝ }
 {
-    let line = text::line_at(s, at);
+    let taken = text::take_line(s, at);
+    let line = taken.line;
+    let next = taken.next;
     match line {
         Line::End => Outlook::Ends(at_end(part)),
         Line::Unended(_) => Outlook::Ends(Reason::Unended),
@@ -390,7 +392,7 @@ fn look(s: &[u8], at: usize, part: Part) -> Outlook
             let item = script_reading::read_item(s, from, to);
             let reason = reason_in(s, from, to, part, item);
             if is_fine(reason) {
-                return Outlook::Goes(next_part(part, item), to + 1);
+                return Outlook::Goes(next_part(part, item), next);
             }
             Outlook::Ends(reason)
         }

@@ -9,10 +9,10 @@ use text::Line;
 use text::Numbers;
 ghost use mathlib.Core.Bool.{cond};
 ghost use mathlib.Core.Path.{_≡_};
-ghost use Prim.Native.Nat.{ℕ, _+_, _≤_, _<_};
+ghost use Prim.Native.Nat.{_+_, _≤_, _<_};
 ghost use lib.ListN.{length};
 ghost use lib.Seq.{slice};
-ghost use Rattle.text.specs.declared.Line.the-variants.{Whole};
+ghost use Rattle.text.specs.Lines.{lineAt};
 ghost use Rattle.text.specs.computed.Reader.{parsedFields};
 ghost use Rattle.script_model.specs.declared.Found.the-variants.{Nothing};
 ghost use Rattle.script_model.specs.declared.Item.the-variants.{Malformed};
@@ -177,15 +177,17 @@ fn take_four(item: Item, first: bool, at: usize) -> Found
     }
 }
 
-// The four numbers that a line of the text gives.
-fn found_on(s: &[u8], line: Line, first: bool) -> Found
-    requires { ⌜ ((from to : ℕ) → line ≡ Whole from to → to < length (now s)) ⌝ }
-    ensures { λ r. ⌜ r ≡ foundBy first (now (s .entry)) line ⌝ }
+// The four numbers that the line gives which a reader at `at` hands out, and where the reader stands then.
+fn found_on(s: &[u8], at: usize, first: bool) -> Found
+    ensures { λ r. ⌜ r ≡ foundBy first (now (s .entry)) (lineAt (now (s .entry)) at) ⌝ }
 {
+    let taken = text::take_line(s, at);
+    let line = taken.line;
+    let next = taken.next;
     match line {
         Line::End => Found::Nothing,
         Line::Unended(_) => Found::Nothing,
-        Line::Whole(from, to) => take_four(read_item(s, from, to), first, to + 1),
+        Line::Whole(from, to) => take_four(read_item(s, from, to), first, next),
     }
 }
 
@@ -193,14 +195,14 @@ fn found_on(s: &[u8], line: Line, first: bool) -> Found
 pub fn read_header(s: &[u8]) -> Found
     ensures { λ r. ⌜ r ≡ headerOf (now (s .entry)) ⌝ }
 {
-    found_on(s, text::first_line(s), true)
+    found_on(s, 0, true)
 }
 
 // The instruction on the line that begins at `at`.
 fn find_operation(s: &[u8], at: usize) -> Found
     ensures { λ r. ⌜ r ≡ foundAt (now (s .entry)) at ⌝ }
 {
-    found_on(s, text::line_at(s, at), false)
+    found_on(s, at, false)
 }
 
 // How many words of memory the script asks for; 0 where its first line is bad.

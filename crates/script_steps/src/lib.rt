@@ -104,23 +104,25 @@ fn ask_of(item: Item, line: u64) -> Ask
 pub fn next_order(s: &[u8], cursor: usize, line: u64) -> Order
     ensures { λ r. ⌜ r ≡ orderAt (now (s .entry)) cursor line ⌝ }
 {
-    let found = text::line_at(s, cursor);
+    let taken = text::take_line(s, cursor);
+    let found = taken.line;
+    let next = taken.next;
     match found {
         Line::End => Order {
             ask: Ask::Turn(Phase::Words(0)),
-            cursor,
+            cursor: next,
             line,
         },
         Line::Unended(_) => Order {
             ask: Ask::Turn(Phase::Bad(line)),
-            cursor,
+            cursor: next,
             line,
         },
         Line::Whole(from, to) => {
             let item = script_reading::read_item(s, from, to);
             Order {
                 ask: ask_of(item, line),
-                cursor: to + 1,
+                cursor: next,
                 line: one_more(line),
             }
         }

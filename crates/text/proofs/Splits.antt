@@ -1,6 +1,6 @@
 -- The line at an index is the first of the text's lines from there on, and the others are those after its line feed.
--- So asking for one line after another, each from behind the last one's line feed, hands out the text's lines and its
--- rest. The search for the line feed goes byte by byte: passing an index that holds none leaves the first one as it is.
+-- So a reader, which stands behind each line that it handed out, hands out the text's lines and its rest. The search for the
+-- line feed goes byte by byte: passing an index that holds none leaves the first one as it is.
 -- Assumes nothing.
 use mathlib.Core.Bool.{Bool, true, false}
 use mathlib.Core.Path.{_≡_, refl, sym, ap, ap₂, subst, _∙_}
@@ -13,7 +13,7 @@ use lib.Dec.{eqb, ltb}
 use lib.ListN.{length, getD, take, drop, length-drop, drop-of-length-le}
 use lib.Seq.{drop-cons, drop-drop, take-nil, slice}
 use borrow.Author.Tests.{ltb-true, ltb-false, lt-ltb, le-ltb, eq-eqb, ne-eqb}
-use Rattle.text.specs.Lines.{feedIn, feed, lineAt, Lines, ended, linesFrom, linesOf}
+use Rattle.text.specs.Lines.{feedIn, feed, lineAt, Lines, ended, linesFrom, linesOf, handed}
 use Rattle.text.specs.declared.Line.{Line}
 use Rattle.text.specs.declared.Line.the-variants.{End, Unended, Whole}
 
@@ -114,33 +114,24 @@ line-is s at l e =
     go true p false q = rw (p, q) (refl, ltb-true at (length s) p, ltb-false (feed s at) (length s) q)
     go true p true q = rw (p, q) (refl, refl, ltb-true (feed s at) (length s) q)
 
--- the lines handed out from `at` on, at most n: what follows a whole line is asked for from behind its line feed
-abbrev follow : List ℕ → (ℕ → Lines) → Line → Lines
-follow s after End = record { whole = []; rest = [] }
-follow s after (Unended from) = record { whole = []; rest = drop from s }
-follow s after (Whole from to) = ended (slice from to s) (after (suc to))
-
-unfoldable pub handed : ℕ → List ℕ → ℕ → Lines
-handed zero s at = record { whole = []; rest = [] }
-handed (suc n) s at = follow s (λ next. handed n s next) (lineAt s at)
-
 handed-from : (n : ℕ) (s : List ℕ) (at : ℕ) → length s ≤ at + n → handed n s at ≡ linesOf (drop at s)
 unfolding handed
 handed-from zero s at h = sym (line-end s at (omega arith))
 handed-from (suc n) s at h =
     go (ltb at (length s)) refl (ltb (feed s at) (length s)) refl
-    (handed-from n s (suc (feed s at)) (omega arith))
+    (handed-from n s (feed s at + 1) (omega arith))
   where
     go : (t : Bool) → ltb at (length s) ≡ t → (u : Bool) → ltb (feed s at) (length s) ≡ u
-        → handed n s (suc (feed s at)) ≡ linesOf (drop (suc (feed s at)) s)
+        → handed n s (feed s at + 1) ≡ linesOf (drop (feed s at + 1) s)
         → handed (suc n) s at ≡ linesOf (drop at s)
     go false e u f more = rw e (sym (line-end s at (ltb-false at (length s) e)))
     go true e false f more = rw (e, f) (sym (line-unended s at (ltb-false (feed s at) (length s) f)))
     go true e true f more =
         rw (e, f)
-        (ap (λ (r : Lines). ended (slice at (feed s at) s) r) more
+        (ap (λ (r : Lines). ended (slice at (feed s at) s) r)
+        (more ∙ ap (λ (i : ℕ). linesOf (drop i s)) (add-one (feed s at)))
         ∙ sym (line-whole s at (ltb-true (feed s at) (length s) f)))
 
--- asking from the start on hands out the text's lines
+-- a reader that stands at the start hands out the text's lines
 pub handed-all : (s : List ℕ) → handed (length s) s 0 ≡ linesOf s
 handed-all s = handed-from (length s) s 0 (omega arith)

@@ -1,11 +1,12 @@
--- Lines of a text: bytes ended by a line feed (10). Where the next line feed stands, which line begins at an index, and
--- the whole text as a list of lines.
+-- Lines of a text: bytes ended by a line feed (10). Where the next line feed stands, which line begins at an index, where a
+-- reader stands behind a line, the whole text as a list of lines, and what a reader hands out of it.
 -- Assumes nothing.
 use mathlib.Core.Bool.{cond}
 use mathlib.Core.List.{List, [], _∷_, _++_}
-use Prim.Native.Nat.{ℕ, suc, _+_}
+use Prim.Native.Nat.{ℕ, zero, suc, _+_}
 use lib.Dec.{eqb, ltb}
 use lib.ListN.{length, drop}
+use lib.Seq.{slice}
 use Rattle.text.specs.declared.Line.{Line}
 use Rattle.text.specs.declared.Line.the-variants.{End, Unended, Whole}
 
@@ -23,6 +24,12 @@ abbrev pub lineAt : List ℕ → ℕ → Line
 lineAt s at =
     cond (ltb at (length s)) (cond (ltb (feed s at) (length s)) (Whole at (feed s at)) (Unended at)) End
 
+-- where a reader stands that stood at `at` and handed out this line: behind its line feed; where it has none, the reader stays
+abbrev pub afterLine : Line → ℕ → ℕ
+afterLine End at = at
+afterLine (Unended from) at = at
+afterLine (Whole from to) at = to + 1
+
 -- the bytes of each whole line, without its line feed, and the bytes after the last line feed
 pub record Lines : Type 0 where
   pub whole : List (List ℕ)
@@ -39,3 +46,14 @@ linesFrom line (b ∷ bs) = cond (eqb b 10) (ended line (linesFrom [] bs)) (line
 
 abbrev pub linesOf : List ℕ → Lines
 linesOf s = linesFrom [] s
+
+-- a line that a reader hands out, in front of what it hands out after it
+abbrev pub before : List ℕ → Line → Lines → Lines
+before s End ls = record { whole = []; rest = [] }
+before s (Unended from) ls = record { whole = []; rest = drop from s }
+before s (Whole from to) ls = ended (slice from to s) ls
+
+-- what a reader that stands at `at` hands out, one line after another, at most n of them
+unfoldable pub handed : ℕ → List ℕ → ℕ → Lines
+handed zero s at = record { whole = []; rest = [] }
+handed (suc n) s at = before s (lineAt s at) (handed n s (afterLine (lineAt s at) at))

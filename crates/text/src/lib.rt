@@ -3,13 +3,14 @@
 // nothing.
 ghost use mathlib.Core.Bool.{_&&_};
 ghost use mathlib.Core.Path.{_≡_};
-ghost use Prim.Native.Nat.{_+_, _*_, _≤_, _<_};
+ghost use Prim.Native.Nat.{ℕ, _+_, _*_, _^_, _≤_, _<_};
 ghost use lib.Dec.{leb, ltb};
 ghost use lib.ListN.{length};
 ghost use lib.Seq.{sets, slice};
 ghost use Rattle.text.specs.Decimal.{decimal};
 ghost use Rattle.text.specs.Fields.{largest, bad, byte, closed, fields};
-ghost use Rattle.text.specs.Lines.{lineAt};
+ghost use Rattle.text.specs.Lines.{lineAt, afterLine};
+ghost use Rattle.text.specs.declared.Line.the-variants.{Whole};
 ghost use Rattle.text.specs.computed.Reader.{capacity, shown, few, fitting, parsedFields};
 
 // The fields of a line: the first `count` of `values`. While the line is read, `current` is the open
@@ -176,7 +177,7 @@ pub enum Line {
 }
 
 // The line that begins at `at`.
-pub fn line_at(s: &[u8], at: usize) -> Line
+fn line_at(s: &[u8], at: usize) -> Line
     ensures { λ r. ⌜ r ≡ lineAt (now (s .entry)) at ⌝ }
 {
     if s.len() <= at {
@@ -192,36 +193,52 @@ pub fn line_at(s: &[u8], at: usize) -> Line
     Line::Unended(at)
 }
 
+// Where a reader stands that stood at `at` and handed out this line.
+fn place_after(line: Line, at: usize) -> usize
+    requires { ⌜ ((from to : ℕ) → line ≡ Whole from to → to + 1 < 2 ^ 64) ⌝ }
+    ensures { λ r. ⌜ r ≡ afterLine line at ⌝ }
+{
+    match line {
+        Line::End => at,
+        Line::Unended(_) => at,
+        Line::Whole(_, to) => to + 1,
+    }
+}
+
 // A reader over a lent text: the text, and where its next line begins.
 pub struct LineReader<'a> {
     pub src: &'a [u8],
     pub at: usize,
 }
 
-// A reader at the start of the text.
-pub fn read_from<'a>(src: &'a [u8]) -> LineReader<'a>
-    ensures { λ r. ⌜ (r .src ≡ src .entry) × (r .at ≡ 0) ⌝ }
+// A reader that stands at `at`.
+pub fn read_from<'a>(src: &'a [u8], at: usize) -> LineReader<'a>
+    ensures { λ r. ⌜ (r .src ≡ src .entry) × (r .at ≡ at) ⌝ }
 {
-    LineReader { src, at: 0 }
+    LineReader { src, at }
 }
 
-// The reader's next line.
-pub fn next_line<'a>(r: LineReader<'a>) -> Line
-    ensures { λ l. ⌜ l ≡ lineAt (now (r .entry .src)) (r .entry .at) ⌝ }
+// Hands out the next line, and moves the reader behind it.
+pub fn next_line<'s, 'a>(r: &'s mut LineReader<'a>) -> Line
+    ensures { λ l. ⌜ (l ≡ lineAt (now (now (r .entry) .src)) (now (r .entry) .at)) × (now (r .exit) .src ≡ now (r .entry) .src)
+        × (now (r .exit) .at ≡ afterLine l (now (r .entry) .at)) ⌝ }
 {
-    line_at(r.src, r.at)
+    let line = line_at(r.src, r.at);
+    r.at = place_after(line, r.at);
+    line
 }
 
-// The reader of the same text at another index.
-pub fn moved<'a>(r: LineReader<'a>, at: usize) -> LineReader<'a>
-    ensures { λ q. ⌜ (q .src ≡ r .entry .src) × (q .at ≡ at) ⌝ }
-{
-    LineReader { src: r.src, at }
+// A line that a reader handed out, and where the reader stands then.
+pub struct Taken {
+    pub line: Line,
+    pub next: usize,
 }
 
-// The first line of a text.
-pub fn first_line(s: &[u8]) -> Line
-    ensures { λ r. ⌜ r ≡ lineAt (now (s .entry)) 0 ⌝ }
+// What a reader over s that stands at `at` hands out.
+pub fn take_line(s: &[u8], at: usize) -> Taken
+    ensures { λ r. ⌜ (r .line ≡ lineAt (now (s .entry)) at) × (r .next ≡ afterLine (lineAt (now (s .entry)) at) at) ⌝ }
 {
-    next_line(read_from(s))
+    let mut r = read_from(s, at);
+    let line = next_line(&mut r);
+    Taken { line, next: r.at }
 }
