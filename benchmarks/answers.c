@@ -112,7 +112,9 @@ static void spoiled(enum mix mix, struct sizes sizes, size_t part)
         j.calls = SPOILED_CALLS;
         size_t by = j.seed * UINT32_C(2654435761) >> 17;
         j.spoiling = (struct spoiling){left[times % 3], part, by};
-        // words wrap: W becomes smaller than the memory
+        // sizes wrap: B and R become smaller, also under marked rows, and W smaller than the memory
+        if (part < 2)
+            j.spoiling.by = times % 2 ? 0 - by % 8 : by % 8;
         if (part == 3 && times % 2)
             j.spoiling.by = 0 - (1 + by % 40);
         // a short program, after which its last instruction stands once more

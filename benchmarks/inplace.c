@@ -67,7 +67,8 @@ static bool address_alone(const struct table *t, size_t first, size_t r)
     return true;
 }
 
-// The table's own rules. Where `found` is given and they hold, it says where the marks are.
+// The table's own rules. A bank has eight places, and no marks but in the first R. Where `found` is given and they
+// hold, it says where the marks are.
 static inline bool keeps_rules(const struct table *t, struct marked *found)
 {
     if (!sizes_fit((struct sizes){t->banks, t->rows, t->stages, t->words}) || t->live > t->stages ||
@@ -75,11 +76,12 @@ static inline bool keeps_rules(const struct table *t, struct marked *found)
         return false;
     uint32_t free = ~(t->executed & first_stages(t, t->live)), loads = 0, stores = 0;
     for (size_t b = 0; b < t->banks; b++) {
-        for (size_t r = b * 8; r < b * 8 + t->rows; r++) {
+        for (size_t r = b * 8; r < b * 8 + 8; r++) {
             uint32_t marks = marks_of(t, r);
             if (!marks)
                 continue;
-            if ((marks & free) || bank_of(t->banks, t->addresses[r]) != b || !address_alone(t, b * 8, r))
+            if (r % 8 >= t->rows || (marks & free) || bank_of(t->banks, t->addresses[r]) != b ||
+                !address_alone(t, b * 8, r))
                 return false;
             free |= marks;
             loads |= t->loads[r];
@@ -354,6 +356,17 @@ unsigned buffer_other(struct table *t, struct ticket ticket, struct memory memor
     out->value = out->distance = 0;
     out->squashed = false;
     return 0;
+}
+
+unsigned buffer_execute(struct table *t, struct ticket ticket, struct action action, struct memory memory,
+                        struct outcome *out)
+{
+    switch (action.what) {
+    case LOAD: return buffer_load(t, ticket, action.address, memory, out);
+    case STORE: return buffer_store(t, ticket, action.address, action.value, memory, out);
+    case PART: return buffer_part(t, ticket, action.part, action.address, action.value, memory, out);
+    default: return buffer_other(t, ticket, memory, out);
+    }
 }
 
 unsigned buffer_squash(struct table *t, struct ticket ticket)
@@ -736,6 +749,26 @@ static enum part part_drawn(size_t drawn)
     return drawn / 1024 % 2 ? HALF : BYTE;
 }
 
+// A byte of the word at the address drawn.
+static uint32_t byte_drawn(size_t drawn)
+{
+    return address_drawn(drawn) * 4 + drawn / 256 % 4;
+}
+
+// One of four actions, as often each: a load, two stores, the second of a part where the kind 28 is, and no memory.
+static struct action action_drawn(size_t drawn, size_t whole, size_t word)
+{
+    uint32_t address = address_drawn(word), value = word_drawn(word);
+    switch (drawn / 8192) {
+    case 0: return (struct action){LOAD, BYTE, address, value};
+    case 3: return (struct action){OTHER, BYTE, address, value};
+    default:
+        if (drawn / 8192 == 2 && whole <= 28)
+            return (struct action){PART, part_drawn(word), byte_drawn(word), value};
+        return (struct action){STORE, BYTE, address, value};
+    }
+}
+
 // In a row of the table the marks of one kind come or go where there is one of the other, or one mark does.
 static void spoil_marks(struct table *t, size_t x)
 {
@@ -756,22 +789,22 @@ static void spoil_taken(struct table *t, size_t x)
         t->taken[s] = word_drawn(x);
 }
 
+// Sizes wrap, so that they shrink too; the row is any of the arrays', also one that the sizes do not give.
 static void spoil(struct table *t, size_t what, size_t x)
 {
     size_t r = x % 64;
     uint32_t bit = UINT32_C(1) << (x / 64 % 16);
-    bool outside = t->banks <= r / 8 || t->rows <= r % 8;
     switch (what) {
-    case 0: t->banks += x % 8; break;
-    case 1: t->rows += x % 8; break;
+    case 0: t->banks += x; break;
+    case 1: t->rows += x; break;
     case 2: t->stages += x % 16; break;
     case 3: t->words += x; break;
     case 4: t->oldest += x % 16; break;
     case 5: t->live = x % 20; break;
     case 6: t->executed ^= bit; break;
-    case 7: t->loads[r] ^= outside ? 0 : bit; break;
-    case 8: t->stores[r] = outside ? t->stores[r] : x < 16384 ? t->stores[r] ^ bit : marks_of(t, r); break;
-    case 9: t->addresses[r] = outside ? t->addresses[r] : address_drawn(x / 64); break;
+    case 7: t->loads[r] ^= bit; break;
+    case 8: t->stores[r] = x < 16384 ? t->stores[r] ^ bit : marks_of(t, r); break;
+    case 9: t->addresses[r] = address_drawn(x / 64); break;
     case 10: spoil_marks(t, x); break;
     default: spoil_taken(t, x);
     }
@@ -799,20 +832,22 @@ uint64_t inplace_buffer(struct sizes sizes, uint32_t calls, uint64_t seed, struc
             continue;
         }
         ticket = ticket_drawn(&t, drawn / 32);
-        uint32_t address = address_drawn(bits(second));
         if (kind == 31) {
             sum = with_done(sum, buffer_squash(&t, ticket));
             continue;
         }
+        size_t word = bits(second);
+        uint32_t address = address_drawn(word), value = word_drawn(word);
         if (kind < 25)
             why = buffer_load(&t, ticket, address, memory, &out);
         else if (kind < whole)
-            why = buffer_store(&t, ticket, address, word_drawn(bits(second)), memory, &out);
+            why = buffer_store(&t, ticket, address, value, memory, &out);
         else if (kind < 30)
-            why = buffer_part(&t, ticket, part_drawn(bits(second)), address * 4 + bits(second) / 256 % 4,
-                              word_drawn(bits(second)), memory, &out);
-        else
+            why = buffer_part(&t, ticket, part_drawn(word), byte_drawn(word), value, memory, &out);
+        else if (word < 16384)
             why = buffer_other(&t, ticket, memory, &out);
+        else
+            why = buffer_execute(&t, ticket, action_drawn(drawn, whole, word), memory, &out);
         sum = with_executed(sum, why, &out);
     }
     return sum;

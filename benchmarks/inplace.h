@@ -6,8 +6,8 @@
 #include <stddef.h>
 #include <stdint.h>
 
-// Row i of bank b is at b * 8 + i; rows past `rows` and banks past `banks` are not in the table. The word that a
-// store stores stands at its stage, and beside it the one that a load took.
+// Row i of bank b is at b * 8 + i. A marked row past `rows` breaks the rules; banks past `banks` are not in the
+// table. The word that a store stores stands at its stage, and beside it the one that a load took.
 struct table {
     size_t banks, rows, stages, words, oldest, live;
     uint32_t next, executed;
@@ -25,6 +25,14 @@ struct ticket {
 
 // What a part store replaces: the byte at its byte number, or the half word that holds it.
 enum part { BYTE, HALF };
+
+// What is executed, as one argument: the address of a part is its byte number. The value counts for stores alone; an
+// execution that touches no memory answers 0 whatever it is.
+struct action {
+    enum { LOAD, STORE, PART, OTHER } what;
+    enum part part;
+    uint32_t address, value;
+};
 
 // The answer of an execution that was not refused. The distance of a load is how many positions older the store is
 // whose word it took; 0: it took memory's, or is no load.
@@ -79,6 +87,8 @@ unsigned buffer_store(struct table *t, struct ticket ticket, uint32_t address, u
 unsigned buffer_part(struct table *t, struct ticket ticket, enum part part, uint32_t byte, uint32_t from,
                      struct memory memory, struct outcome *out);
 unsigned buffer_other(struct table *t, struct ticket ticket, struct memory memory, struct outcome *out);
+unsigned buffer_execute(struct table *t, struct ticket ticket, struct action action, struct memory memory,
+                        struct outcome *out);
 unsigned buffer_squash(struct table *t, struct ticket ticket);
 unsigned buffer_commit(struct table *t, struct memory memory, struct ticket *ticket);
 
@@ -99,8 +109,9 @@ struct spoiling {
 };
 
 // The mixes of crates/mixes_buffer and mixes_machine, with the same answers. Turns of the kinds 25 to 29 are the
-// buffer's stores, those from `whole` on of a part. In falling order each window is issued whole, executed from its
-// youngest reference down to its oldest, and committed. The machine is finished at the end.
+// buffer's stores, those from `whole` on of a part; half of those of the kind 30 execute a drawn action. In falling
+// order each window is issued whole, executed from its youngest reference down to its oldest, and committed. The
+// machine is finished at the end.
 uint64_t inplace_buffer(struct sizes sizes, uint32_t calls, uint64_t seed, struct spoiling spoiling,
                         size_t whole, bool falling, struct memory memory);
 uint64_t inplace_machine(struct sizes sizes, uint32_t calls, uint64_t seed, struct spoiling spoiling,

@@ -176,21 +176,19 @@ fn spoil_marks(t: Table, x: usize) -> Table
 }
 
 // A table with one number, the marks of one row or the words taken changed, which mostly breaks a rule; words never do. Sizes
-// only grow: rows that a smaller size would leave outside are none of the table's in C.
+// wrap, so that they shrink too, also under a marked row; the row is any of the arrays', also one that the sizes do not give.
 pub fn spoil(t: Table, what: usize, x: usize) -> Table
     ensures { λ r. ⌜ (r .next ≡ t .next) × (r .numbers ≡ t .numbers) × (r .values ≡ t .values) ⌝ }
 {
-    let banks = t.banks;
-    let rows = t.rows;
     let r = x % SLOTS;
     let bit: u32 = 1 << (x / SLOTS % STAGES);
     let mut n = t;
     if what == 0 {
-        n.banks = std::num::wrapping_add_usize(banks, x % 8);
+        n.banks = std::num::wrapping_add_usize(t.banks, x);
         return n;
     }
     if what == 1 {
-        n.rows = std::num::wrapping_add_usize(rows, x % 8);
+        n.rows = std::num::wrapping_add_usize(t.rows, x);
         return n;
     }
     if what == 2 {
@@ -219,9 +217,6 @@ pub fn spoil(t: Table, what: usize, x: usize) -> Table
     if what == 11 {
         let words = [word_drawn(x); STAGES];
         n.taken = words;
-        return n;
-    }
-    if (banks <= r / ROWS) | (rows <= r % ROWS) {
         return n;
     }
     if what == 7 {

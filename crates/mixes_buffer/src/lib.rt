@@ -82,10 +82,27 @@ fn byte_drawn(drawn: usize) -> u32 {
     mixes::address_drawn(drawn) * 4 + (drawn / 256 % 4) as u32
 }
 
+// One of four actions, as often each: a load, two stores, the second of a part where the kind 28 is, and a value alone.
+fn action_drawn(drawn: usize, whole: usize, word: usize) -> buffer::Action {
+    let which = drawn / 8192;
+    let address = mixes::address_drawn(word);
+    let value = mixes::word_drawn(word);
+    if which == 0 {
+        return buffer::Action::LoadAt(address);
+    }
+    if (which == 2) & (whole <= 28) {
+        return buffer::Action::PartAt(part_drawn(word), byte_drawn(word), value);
+    }
+    if which < 3 {
+        return buffer::Action::StoreAt(address, value);
+    }
+    buffer::Action::Compute(value)
+}
+
 // `calls` turns of a buffer with these sizes. Of 32 turns 12 are an issue, 8 a commit, 5 a load, 5 a store, 1
-// an execution of something else and 1 a squash. The stores are the kinds 25 to 29, those from `whole` on of a
-// part. Unless `falling` is 0 the turns come in falling order (`turn_drawn` of crates/mixes), half of the executions
-// loads and half stores. In the turn after which `when` are left, the table is spoiled instead.
+// an execution of something else, half of them of a drawn action, and 1 a squash. The stores are the kinds 25 to 29,
+// those from `whole` on of a part. Unless `falling` is 0 the turns come in falling order (`turn_drawn` of crates/mixes),
+// half of the executions loads and half stores. In the turn after which `when` are left, the table is spoiled instead.
 //
 // The calls stand in the loop, and not in a function of their own: each layer would copy the table once more.
 #[no_mangle]
@@ -140,30 +157,24 @@ pub extern "C" fn mixes_buffer(
         } else {
             let numbers = t.numbers;
             let ticket = ticket_drawn(t.oldest, t.stages, t.live, t.executed, numbers, drawn / 32);
-            let word = mixes::bits(second);
-            let address = mixes::address_drawn(word);
-            if kind < 25 {
-                let loaded = buffer::execute_load(t, ticket, address, memory);
-                let said = loaded.answer;
-                t = loaded.table;
-                executed_tally(said)
-            } else if kind < whole {
-                let value = mixes::word_drawn(word);
-                let stored = buffer::execute_store(t, ticket, address, value, memory);
-                let said = stored.answer;
-                t = stored.table;
-                executed_tally(said)
-            } else if kind < 30 {
-                let byte = byte_drawn(word);
-                let value = mixes::word_drawn(word);
-                let merged = buffer::execute_part(t, ticket, part_drawn(word), byte, value, memory);
-                let said = merged.answer;
-                t = merged.table;
-                executed_tally(said)
-            } else if kind < 31 {
-                let noted = buffer::execute_other(t, ticket, memory);
-                let said = noted.answer;
-                t = noted.table;
+            if kind < 31 {
+                let word = mixes::bits(second);
+                let address = mixes::address_drawn(word);
+                let ran = if kind < 25 {
+                    buffer::execute_load(t, ticket, address, memory)
+                } else if kind < whole {
+                    buffer::execute_store(t, ticket, address, mixes::word_drawn(word), memory)
+                } else if kind < 30 {
+                    let byte = byte_drawn(word);
+                    let value = mixes::word_drawn(word);
+                    buffer::execute_part(t, ticket, part_drawn(word), byte, value, memory)
+                } else if word < 16384 {
+                    buffer::execute_other(t, ticket, memory)
+                } else {
+                    buffer::execute(t, ticket, action_drawn(drawn, whole, word), memory)
+                };
+                let said = ran.answer;
+                t = ran.table;
                 executed_tally(said)
             } else {
                 let squashed = buffer::squash(t, ticket);
