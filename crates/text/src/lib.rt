@@ -1,6 +1,6 @@
 // Text of lines: decimal numbers, numbers parted by commas, and a reader that hands out one line after another.
-// Of the public functions `put_decimal` and `read_fields` ask for slices that are long enough, and the others for
-// nothing.
+// Of the public functions `put_decimal`, `put_text` and `read_fields` ask for slices that are long enough, and the
+// others for nothing.
 ghost use mathlib.Core.Bool.{_&&_};
 ghost use mathlib.Core.Path.{_≡_};
 ghost use Prim.Native.Nat.{ℕ, _+_, _*_, _^_, _≤_, _<_};

@@ -60,7 +60,8 @@ returns-2 : tie.Need-returns-2
 returns-2 c =
     let a = c .before .before .before .before .before .args in
     subst (λ (r : Reason). Looks (a .s .now) (a .at) (a .part) (Ends r)) (sym (c .at-end .ensures))
-    (looks-end (a .s .now) (a .at) (a .part) (sym (c .before .before .before .take-line .ensures .0) ∙ c .before .enum-told .given .1))
+    (looks-end (a .s .now) (a .at) (a .part)
+    (sym (c .before .before .before .take-line .ensures .0) ∙ c .before .enum-told .given .1))
 
 returns-3 : tie.Need-returns-3
 returns-3 c =

@@ -1,5 +1,5 @@
--- `script_reading::found_on` meets its contract, by the line that the reader hands out. The line feed of a whole line stands inside
--- the text, and the reader stands behind it.
+-- `script_reading::found_on` meets its contract, by the line that the reader hands out. The line feed of a whole line stands
+-- inside the text, and the reader stands behind it.
 -- Assumes nothing.
 use mathlib.Core.Path.{_≡_, sym, ap, _∙_}
 use Prim.Native.Nat.{ℕ}

@@ -1,5 +1,5 @@
--- `script_steps::next_order` meets its contract, by the line that the reader at the cursor hands out. A whole line ends within the
--- text, so it can be read, and the reader stands behind it; where there is none it stays.
+-- `script_steps::next_order` meets its contract, by the line that the reader at the cursor hands out. A whole line ends within
+-- the text, so it can be read, and the reader stands behind it; where there is none it stays.
 -- Assumes nothing.
 use mathlib.Core.Path.{_≡_, refl, sym, ap, ap₂, _∙_}
 use Prim.Native.Nat.{ℕ, _+_}

@@ -214,9 +214,11 @@ module _ {M : Type 1} (𝓤 : URA M) (H : Heap 𝓤) (A : Atoms 𝓤) (W : Given
         move ! (1 ∷ 0 ∷ []) $
         -- [the struct's cell; what it owns; the open borrow; obs; auth; 'a's token; …; _5; …; _4; …; _3; …; _2; …; _1; …;
         -- room for _0; …]
-        assigns ! (of-opd ! (load ! (from ! (hop ! (look ! 15 refl) (fld ! refl (stop !)))) (look-in ! 0 (sub ! 0 refl (whole !)))))
+        assigns ! (of-opd ! (load ! (from ! (hop ! (look ! 15 refl) (fld ! refl (stop !))))
+        (look-in ! 0 (sub ! 0 refl (whole !)))))
         (from ! (stop !)) (init ! 11 refl (tt, wt .1 .0)) $
-        assigns ! (of-opd ! (load ! (from ! (hop ! (look ! 15 refl) (fld ! refl (stop !)))) (look-in ! 0 (sub ! 1 refl (whole !)))))
+        assigns ! (of-opd ! (load ! (from ! (hop ! (look ! 15 refl) (fld ! refl (stop !))))
+        (look-in ! 0 (sub ! 1 refl (whole !)))))
         (from ! (stop !)) (init ! 9 refl (tt, wt .1 .1 .0)) $
         move ! (1 ∷ 5 ∷ []) $
         use2 W (raw (LineAt 𝓤 H A at-mem run .pre to-line) ⊛ ‵ Own) (apart (wt .1 .1 .0 .fits)) $ split ! $
@@ -228,12 +230,14 @@ module _ {M : Type 1} (𝓤 : URA M) (H : Heap 𝓤) (A : Atoms 𝓤) (W : Given
         -- [what the line owns; 'a's token; what the struct owns; the struct's cell; the open borrow; obs; auth; …; _5; …]
         let typed = EL.lawful S.the-type S′.the-laws 𝓤 H A W tt .typed l _ is .0 in
         land ! (from ! (stop !)) (init ! 14 refl typed) $
-        assigns ! (of-opd ! (load ! (from ! (hop ! (look ! 16 refl) (fld ! refl (stop !)))) (look-in ! 3 (sub ! 1 refl (whole !)))))
+        assigns ! (of-opd ! (load ! (from ! (hop ! (look ! 16 refl) (fld ! refl (stop !))))
+        (look-in ! 3 (sub ! 1 refl (whole !)))))
         (from ! (stop !)) (init ! 8 refl (tt, wt .1 .1 .0)) $
         drop ! $ nothing ! $ use1 W (raw (PlaceAfter 𝓤 H A at-mem run .pre (to-place l u)))
         (goes-place l u is (wt .1 .1 .0 .fits) (fits-behind (now (h .src)) (h .at) l (wt .1 .0 .1 .0 .fits) e)) $
         calls-at ! fm (PlaceAfter 𝓤 H A at-mem run) known-place (to-place l u)
-        (and-then ! (load ! (from ! (stop !)) (look ! 14 refl)) (and-then ! (load ! (from ! (stop !)) (look ! 8 refl)) (no-more !)))
+        (and-then ! (load ! (from ! (stop !)) (look ! 14 refl))
+        (and-then ! (load ! (from ! (stop !)) (look ! 8 refl)) (no-more !)))
         (λ w. returned ! tt (‵ ftrue) usize place.ended tt (l, (h .at, tt)) (λ (m : ℕ). m ≡ afterLine l (h .at)) w (id⊢ 𝓤 _)
         (λ m e′ is′.
         -- [the number's facts; …; 'a's token; what the struct owns; the struct's cell; the open borrow; obs; auth; …; _5; …]

@@ -1,8 +1,8 @@
 -- `text::take_line` meets its contract: a walk of its MIR, by hand. The reader that `read_from` returns is stored in a local, and
 -- the local is lent to `next_line` by `&mut`, for a lifetime that is made for the call and lies within the text's; once that has
 -- ended the local is had again, at the reader that `next_line` left, and its number is read. All that the proof knows of the two
--- is that each meets its contract. In a local of a body MIR erases the lifetime of the struct's type, so the value is shown to have
--- the type at `erased`: what the struct owns does not say the lifetime's name.
+-- is that each meets its contract. In a local of a body MIR erases the lifetime of the struct's type, so the value is shown to
+-- have the type at `erased`: what the struct owns does not say the lifetime's name.
 -- Assumes nothing.
 use mathlib.Core.Path.{_≡_, refl, ap, ap₂, _∙_}
 use Prim.Native.Nat.{ℕ, _<_, _^_}
