@@ -48,12 +48,12 @@ abbrev pub linesOf : List ℕ → Lines
 linesOf s = linesFrom [] s
 
 -- a line that a reader hands out, in front of what it hands out after it
-abbrev pub before : List ℕ → Line → Lines → Lines
-before s End ls = record { whole = []; rest = [] }
-before s (Unended from) ls = record { whole = []; rest = drop from s }
-before s (Whole from to) ls = ended (slice from to s) ls
+abbrev pub inFront : List ℕ → Line → Lines → Lines
+inFront s End ls = record { whole = []; rest = [] }
+inFront s (Unended from) ls = record { whole = []; rest = drop from s }
+inFront s (Whole from to) ls = ended (slice from to s) ls
 
 -- what a reader that stands at `at` hands out, one line after another, at most n of them
 unfoldable pub handed : ℕ → List ℕ → ℕ → Lines
 handed zero s at = record { whole = []; rest = [] }
-handed (suc n) s at = before s (lineAt s at) (handed n s (afterLine (lineAt s at) at))
+handed (suc n) s at = inFront s (lineAt s at) (handed n s (afterLine (lineAt s at) at))
