@@ -1,106 +1,45 @@
--- "Checks go from the smallest number up. A call is refused when a condition in its rows holds, and only then." Of every call,
--- opening too, through its contract: the numbers of its conditions rise (numbers-rise); where a condition holds the call is
--- refused with the smallest such number (refused-smallest), and the number of a refusal is that of a condition that holds
--- (refused-holds).
+-- "Checks go from the smallest number up. A call is refused when a condition in its rows holds, and only then": of every call
+-- through its contract, 2 among its conditions (decides), and of an opening (opening-goes). The numbers of each call's conditions
+-- rise, from above 2 on in all but the opening, so that the engine's law of such a call gives it.
 -- Assumes nothing.
-use mathlib.Core.Bool.{Bool, true, false, not}
-use mathlib.Core.List.{List, [], _∷_}
-use mathlib.Core.Path.{_≡_, refl, sym, ap, subst, _∙_}
-use Prim.Native.Nat.{ℕ, _≤_}
-use native.Mathlib.Omega.{arith}
-use lib.Dec.{eqb}
-use borrow.Author.Tests.{eqb-true, eqb-false}
+use mathlib.Core.Bool.{true}
+use mathlib.Core.List.{List, []}
+use mathlib.Core.Path.{_≡_, refl, sym, subst}
+use Prim.Native.Nat.{ℕ}
 use Rattle.table.specs.declared.Table.{Table}
+use Rattle.table.specs.Reference.{State}
 use Rattle.table.specs.View.{view}
+use Rattle.table.specs.Rules.{Rules}
 use Rattle.table.specs.computed.Check.{lawful}
 use Rattle.table.proofs.Lawful.{lawful-rules, lawful-broken}
-use Rattle.engine.specs.Conditions.{Check, when, refusal, holds, rising}
-use Rattle.engine.specs.Contract.{refused, done}
-use Rattle.engine.proofs.Meeting.{no-refusal, judged-refused, judged-accepted}
-use Rattle.engine.proofs.Refusing.{refusal-holds, refusal-least}
+use Rattle.engine.specs.Conditions.{holds, risingFrom}
+use Rattle.engine.proofs.Meeting.{Accepts}
+use Rattle.engine.proofs.Deciding.{GoesBy, list-goes, tested, Decides, meets-decides}
 use Rattle.buffer_model.specs.Answers.{Answer}
 use Rattle.buffer_model.specs.Refusals.{openChecks}
-use Rattle.buffer_model.specs.Calls.{Call, issue, execute, squash, commit, checksOf, Result, acceptedResult, respond}
+use Rattle.buffer_model.specs.Calls.{Call, issue, execute, squash, commit, acceptedResult, checksOf, respond}
 use Rattle.buffer_model.specs.Contract.{Meets, Opens}
 use Rattle.buffer_model.proofs.MeetingContract.{accepts}
 
--- a call as it is asked: an opening with sizes on a memory, or a later call on a table and a memory
-pub data Asked : Type 0 where
-  opens : ℕ → ℕ → ℕ → ℕ → List ℕ → Asked
-  calls : Call → Table → List ℕ → Asked
+-- the numbers of a call's conditions rise, and the first of them is above 2
+call-rises : (c : Call) (P : State) (memory : List ℕ) → risingFrom 2 (checksOf c P memory) ≡ true
+call-rises issue P memory = refl
+call-rises (execute τ act) P memory = refl
+call-rises (squash τ) P memory = refl
+call-rises commit P memory = refl
 
--- its conditions; the test of 2 is false exactly where the table breaks its rules (table's proofs/Lawful.antt)
-abbrev pub conditions : Asked → List Check
-conditions (opens banks rows stages words m) = openChecks banks rows stages words m
-conditions (calls c t m) = when (not (lawful t)) 2 ∷ checksOf c (view t) m
-
--- it said `said`, by its contract
-pub data Answered : Asked → Answer → Type 0 where
-  opened : {banks rows stages words : ℕ} {m : List ℕ} {said : Answer} {u : Table}
-      → Opens banks rows stages words m said u → Answered (opens banks rows stages words m) said
-  called : {c : Call} {t u : Table} {m v : List ℕ} {said : Answer} → Meets t c m said u v → Answered (calls c t m) said
-
-pub numbers-rise : (q : Asked) → rising (conditions q) ≡ true
-numbers-rise (opens banks rows stages words m) = refl
-numbers-rise (calls issue t m) = refl
-numbers-rise (calls (execute τ act) t m) = refl
-numbers-rise (calls (squash τ) t m) = refl
-numbers-rise (calls commit t m) = refl
-
--- the first condition that holds decides
-abbrev pub Decided : ℕ → Answer → Type 0
-Decided k said = (k ≡ 0 → (j : ℕ) → said ≡ refused j → ⊥) × ((k ≡ 0 → ⊥) → said ≡ refused k)
-
-call-decided : (c : Call) (t : Table) (m : List ℕ) {u : Table} {v : List ℕ} {said : Answer} → Meets t c m said u v
-    → Decided (refusal (conditions (calls c t m))) said
+-- It is refused with k exactly if k is the smallest number of a condition that holds, 2 among them (that the table breaks its
+-- rules); otherwise it comes to what its definition says.
+pub decides : (t : Table) (c : Call) (m : List ℕ) {said : Answer} {u : Table} {v : List ℕ} → Meets t c m said u v
+    → Decides Rules view t (checksOf c (view t) m) (acceptedResult c (view t) m) said u v []
 unfolding respond
-call-decided c t m {u} {v} {said} meets = go (lawful t) refl
-  where
-    k : ℕ
-    k = refusal (checksOf c (view t) m)
+decides t c m meets =
+    meets-decides Rules view t m [] (checksOf c (view t) m) (acceptedResult c (view t) m)
+    (tested (lawful t) (lawful-rules t) (lawful-broken t)) (call-rises c (view t) m) (accepts c (view t) m) meets
 
-    r : Result
-    r = acceptedResult c (view t) m
-
-    go : (b : Bool) → lawful t ≡ b → Decided (refusal (when (not b) 2 ∷ checksOf c (view t) m)) said
-    go false e = (λ z j f. omega arith, λ some. meets .broken (lawful-broken t e) .0)
-    go true e =
-        let rules = lawful-rules t e in (
-          λ z j f.
-              no-refusal (r .answer) j (accepts c (view t) m)
-              (ap (λ (x : Result). x .answer) (sym (judged-accepted k (view t) m [] r z)) ∙ sym (meets .answer rules) ∙ f),
-          λ some.
-              meets .refuses rules k (ap (λ (x : Result). x .answer) (judged-refused k (view t) m [] r some)) .0,
-        )
-
-pub decided : {q : Asked} {said : Answer} → Answered q said → Decided (refusal (conditions q)) said
-decided (opened made) =
-    (λ z j f. no-refusal done j tt (sym (made .opens z .0) ∙ f), λ some. made .refuses _ some refl .0)
-decided (called {c = c} {t = t} {m = m} meets) = call-decided c t m meets
-
--- "A call is refused when a condition in its rows holds", with the smallest such number,
-pub refused-smallest : {q : Asked} {said : Answer} → Answered q said → (k : ℕ) → holds k (conditions q) ≡ true
-    → (said ≡ refused (refusal (conditions q))) × (holds (refusal (conditions q)) (conditions q) ≡ true)
-    × (refusal (conditions q) ≤ k)
-refused-smallest {q} answered k h =
-    let least = refusal-least (conditions q) k (numbers-rise q) h in
-    let some : refusal (conditions q) ≡ 0 → ⊥ = λ z. omega (arith, least .0) in
-    (decided answered .1 some, refusal-holds (conditions q) some, least .1)
-
--- the number of a refusal is that of the first condition that holds
-pub refused-first : {q : Asked} (k : ℕ) → Answered q (refused k)
-    → (refusal (conditions q) ≡ k) × (refusal (conditions q) ≡ 0 → ⊥)
-refused-first {q} k answered = go (eqb (refusal (conditions q)) 0) refl
-  where
-    go : (b : Bool) → eqb (refusal (conditions q)) 0 ≡ b → (refusal (conditions q) ≡ k) × (refusal (conditions q) ≡ 0 → ⊥)
-    go true e = absurd (decided answered .0 (eqb-true _ 0 e) k refl)
-    go false e =
-        let some = eqb-false (refusal (conditions q)) 0 e in
-        let same : refused k ≡ refused (refusal (conditions q)) = decided answered .1 some in
-        (cc, some)
-
--- "and only then".
-pub refused-holds : {q : Asked} (k : ℕ) → Answered q (refused k) → holds k (conditions q) ≡ true
-refused-holds {q} k answered =
-    let first = refused-first k answered in
-    subst (λ (j : ℕ). holds j (conditions q) ≡ true) (first .0) (refusal-holds (conditions q) (first .1))
+-- an opening: its conditions are those of the list, whose numbers rise
+pub opening-goes : (banks rows stages words : ℕ) (m : List ℕ) {said : Answer} {u : Table} → Opens banks rows stages words m said u
+    → GoesBy (λ (k : ℕ). holds k (openChecks banks rows stages words m) ≡ true) said
+opening-goes banks rows stages words m {said} opens =
+    list-goes (openChecks banks rows stages words m) refl said (λ some. opens .refuses _ some refl .0)
+    (λ z. subst Accepts (sym (opens .opens z .0)) tt)

@@ -1,17 +1,17 @@
 -- "Checks go from the smallest number up. A call is refused when a condition in its rows holds, and only then": of every call
--- through its contract, 2 among its conditions (decides), and of an opening. The numbers of each call's conditions rise from
--- above 2 on, so that the engine's law of such a call gives it.
+-- through its contract, 2 among its conditions (decides), and of an opening (opening-goes). The numbers of each call's conditions
+-- rise, from above 2 on in all but the opening, so that the engine's law of such a call gives it.
 -- Assumes nothing.
 use mathlib.Core.Bool.{true}
 use mathlib.Core.List.{List}
-use mathlib.Core.Path.{_≡_, refl, sym, subst, _∙_}
-use Prim.Native.Nat.{ℕ, _≤_}
+use mathlib.Core.Path.{_≡_, refl, sym, subst}
+use Prim.Native.Nat.{ℕ}
 use lib.ListN.{length}
-use Rattle.engine.specs.Conditions.{Check, refusal, holds, risingFrom, rising}
+use Rattle.engine.specs.Conditions.{refusal, holds, risingFrom}
 use Rattle.engine.specs.Contract
-use Rattle.engine.specs.Contract.{refused, done, judged}
-use Rattle.engine.proofs.Meeting.{Accepts, no-refusal}
-use Rattle.engine.proofs.Deciding.{Decides, smallest, wherever, meets-decides}
+use Rattle.engine.specs.Contract.{judged}
+use Rattle.engine.proofs.Meeting.{Accepts}
+use Rattle.engine.proofs.Deciding.{GoesBy, list-goes, Decides, meets-decides}
 use Rattle.machine_model.specs.declared.Machine.{Machine}
 use Rattle.machine_model.specs.Calls.{Plain, Call, issue, execute, squash, commit, finish, lentTo, Answer, Result, checksOf}
 use Rattle.machine_model.specs.Calls.{respond, openChecks, issuing, executing, evaluated, known, survivorsOf, squashing}
@@ -20,18 +20,12 @@ use Rattle.machine_model.specs.Contract.{plain, Sound, Meets, Opens}
 use Rattle.machine_model.proofs.Sounding.{sound-or}
 
 -- the numbers of a call's conditions rise, and the first of them is above 2
-pub call-rises : (program : List ℕ) (c : Call) (X : Plain) (memory : List ℕ) → risingFrom 2 (checksOf program c X memory) ≡ true
+call-rises : (program : List ℕ) (c : Call) (X : Plain) (memory : List ℕ) → risingFrom 2 (checksOf program c X memory) ≡ true
 call-rises program issue X memory = refl
 call-rises program (execute p) X memory = refl
 call-rises program (squash p) X memory = refl
 call-rises program commit X memory = refl
 call-rises program (finish k list) X memory = refl
-
-pub opening-rises : (banks rows stages words : ℕ) (program memory : List ℕ)
-    → rising (openChecks banks rows stages words program memory) ≡ true
-opening-rises banks rows stages words program memory = refl
-
--- ---- a call
 
 -- what a call comes to that is not refused
 abbrev pub accepted : List ℕ → Call → Plain → List ℕ → Result
@@ -70,23 +64,10 @@ decides program m c w {said} {u} {v} {kept} meets =
     (call-rises program c (plain m) w) (accepted-accepts program c (plain m) w)
     (subst (λ (r : Result). Contract.Meets Sound plain m r w (lentTo c) said u v kept) (responds program c (plain m) w) meets)
 
--- ---- an opening
-
-module _ (banks rows stages words : ℕ) (program memory : List ℕ) (said : Answer) (u : Machine)
-    (opens : Opens banks rows stages words program memory said u) where
-  abbrev opening : List Check
-  opening = openChecks banks rows stages words program memory
-
-  opening-refuses : (refusal opening ≡ 0 → ⊥) → said ≡ refused (refusal opening)
-  opening-refuses some = opens .refuses (refusal opening) some refl .0
-
-  opening-accepts : refusal opening ≡ 0 → (k : ℕ) → said ≡ refused k → ⊥
-  opening-accepts z k e = no-refusal {N = ℕ} done k tt (sym (opens .opens z .0) ∙ e)
-
-  pub opening-smallest : (k : ℕ) → said ≡ refused k → (holds k opening ≡ true) × ((j : ℕ) → holds j opening ≡ true → k ≤ j)
-  opening-smallest =
-      smallest 0 opening (opening-rises banks rows stages words program memory) said opening-refuses opening-accepts
-
-  pub opening-where : (j : ℕ) → holds j opening ≡ true → (k : ℕ) × (k ≤ j) × (said ≡ refused k)
-  opening-where =
-      wherever 0 opening (opening-rises banks rows stages words program memory) said opening-refuses opening-accepts
+-- an opening: its conditions are those of the list, whose numbers rise
+pub opening-goes : (banks rows stages words : ℕ) (program memory : List ℕ) {said : Answer} {u : Machine}
+    → Opens banks rows stages words program memory said u
+    → GoesBy (λ (k : ℕ). holds k (openChecks banks rows stages words program memory) ≡ true) said
+opening-goes banks rows stages words program memory {said} opens =
+    list-goes (openChecks banks rows stages words program memory) refl said (λ some. opens .refuses _ some refl .0)
+    (λ z. subst Accepts (sym (opens .opens z .0)) tt)

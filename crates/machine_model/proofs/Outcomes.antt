@@ -1,19 +1,19 @@
 -- 01's and 02's sentences of an accepted execution, of its answer and of the machine handed back, through the contract. It names
--- a squashed position exactly where the list requires a squash, and that one (squashes-exactly), and the entries before it
--- stay (squashed-left, none-squashed); an instruction without memory squashes nothing, nor does a load of an address with a row.
--- What a load answers, and how far its word came, is one record (LoadTold). These are the laws of the plain list (lookup's
--- Squashes and Sentences) at the fate that the execution came to (Answered).
+-- a squashed position exactly where the list requires a squash, and that one, and the entries before it stay (squash-comes,
+-- squash-only, squash-none); an instruction without memory squashes nothing, nor does a load of an address with a row. What a
+-- load answers, and how far its word came, is one record (LoadTold). These are the engine's laws (Outcomes) and those of the
+-- plain list (lookup's Sentences) at the fate that the execution came to (Answered).
 -- Assumes nothing.
 use mathlib.Core.Bool.{Bool, true, false, cond}
 use mathlib.Core.List.{List}
 use mathlib.Core.Option.{Option, none, some}
 use mathlib.Core.Path.{_≡_, refl, sym, ap, subst, _∙_}
-use Prim.Native.Nat.{ℕ, zero, suc, _-_, _≤_, _<_}
+use Prim.Native.Nat.{ℕ, zero, suc, min, _-_, _≤_, _<_}
 use native.Mathlib.Nat.{le-of-lt}
 use native.Mathlib.Omega.{arith}
 use lib.Dec.{ltb}
-use lib.ListN.{length, getD, take, set, length-set, List·getD-eq-default}
-use lib.Seq.{length-take-le, getD-take, getD-set-same, take-all}
+use lib.ListN.{length, getD, take, set, length-take, length-set, List·getD-eq-default}
+use lib.Seq.{getD-take, getD-set-same}
 use borrow.Author.Tests.{ltb-true, ltb-false}
 use Rattle.table.specs.Reference
 use Rattle.table.specs.Reference.{State, Side, holds, accessed, ref, at}
@@ -22,9 +22,9 @@ use Rattle.lookup.specs.Forwarding.{forwarded}
 use Rattle.lookup.specs.Rows.{touched}
 use Rattle.lookup.specs.Outcome.{survivors}
 use Rattle.lookup.proofs.Sentences.{CameFrom}
-use Rattle.lookup.proofs.Squashes.{Squashes, required, only-required, row-keeps, names-required, names-only, names-none}
-use Rattle.lookup.proofs.Squashes.{firstSquashed}
+use Rattle.lookup.proofs.Squashes.{Squashes, required, only-required, row-keeps, firstSquashed}
 use Rattle.engine.specs.Contract.{executed}
+use Rattle.engine.proofs.Outcomes
 use Rattle.machine_model.specs.declared.Instruction.{Instruction}
 use Rattle.machine_model.specs.declared.Instruction.the-variants.{Load}
 use Rattle.machine_model.specs.declared.Kind.{Kind}
@@ -40,10 +40,6 @@ use Rattle.machine_model.specs.Contract.{plain, Meets}
 use Rattle.machine_model.proofs.Sounding.{length-entries}
 use Rattle.machine_model.proofs.Sentences.{from-store, from-memory}
 use Rattle.machine_model.proofs.Answered.{Execution, comes-to, execution}
-
--- an option is not both
-some-none : {A : Type 0} {k : ℕ} → _≡_ {A = Option ℕ} (some k) none → A
-some-none e = absurd (let z : _≡_ {A = ℕ} 0 1 = cc in omega arith)
 
 -- what has no side leaves every reference
 computing-all : (P : State) (p : ℕ) (i : Instruction) (μ : ℕ → ℕ) (f : Fate) → kind i ≡ Computing
@@ -107,86 +103,60 @@ module _ (program : List ℕ) (m : Machine) (p : ℕ) (w : List ℕ) {x d : ℕ}
     abbrev new : Entry
     new = entryWith (entryAt (plain m .entries) p) f (loadDistance (plain m) p f)
 
-    in-refs : p < length (buffer .refs)
-    in-refs = omega (arith, did .live, length-entries m, length-refs (m .table))
+    -- the entries are as many as the references
+    as-many : length (plain m .entries) ≡ length (buffer .refs)
+    as-many = length-entries m ∙ sym (length-refs (m .table))
 
     gone-is : gone ≡ firstSquashed buffer p (λ (k : ℕ). k) fate
     gone-is =
         let e = did .answer in
         let is : gone ≡ cond (ltb left (length (plain m .entries))) (some left) none = cc in
-        is ∙ ap (λ (n : ℕ). cond (ltb left n) (some left) none) (length-entries m ∙ sym (length-refs (m .table)))
-
-    -- "a squash nobody called for comes when the list requires it and at no other time", and from the position that it requires
-    pub squashes-exactly : (k : ℕ) → (gone ≡ some k → Squashes buffer p fate k)
-        × (Squashes buffer p fate k → gone ≡ some k)
-    squashes-exactly k = (only, λ s. gone-is ∙ names-required buffer p (λ (j : ℕ). j) fate k s)
-      where
-        only : gone ≡ some k → Squashes buffer p fate k
-        only e =
-            let named =
-            names-only buffer p (λ (j : ℕ). j) fate in-refs (did .stays) k (sym gone-is ∙ e) in
-            subst (Squashes buffer p fate) (sym (named .2)) (named .1)
+        is ∙ ap (λ (n : ℕ). cond (ltb left n) (some left) none) as-many
 
     -- the executing entry stays
     stays : p < left
     stays = go (ltb left (length (buffer .refs))) refl
       where
         go : (b : Bool) → ltb left (length (buffer .refs)) ≡ b → p < left
-        go true e =
-            required buffer p
-            (only-required buffer p fate in-refs (did .stays) (ltb-true _ _ e)) .1
-        go false e = omega (arith, in-refs, ltb-false left (length (buffer .refs)) e)
+        go true e = required buffer p (only-required buffer p fate (did .live) (did .stays) (ltb-true _ _ e)) .1
+        go false e = omega (arith, did .live, ltb-false left (length (buffer .refs)) e)
 
     entries-are : plain u .entries ≡ take left (set (plain m .entries) p new)
     entries-are = ap (λ (Y : Plain). Y .entries) (did .state)
 
-    -- the position named is that of the first entry that does not stay
-    pub squashed-left : (k : ℕ) → gone ≡ some k → length (plain u .entries) ≡ k
-    squashed-left k e =
-        let list = required buffer p (squashes-exactly k .0 e) in
-        let few : left ≤ length (set (plain m .entries) p new) =
-        omega (
-          arith,
-          list .0,
-          list .2,
-          length-entries m,
-          length-refs (m .table),
-          length-set (plain m .entries) p new,
-        ) in
-        ap length entries-are ∙ length-take-le left (set (plain m .entries) p new) few ∙ list .0
+    stay : length (plain u .entries) ≡ min left (length (buffer .refs))
+    stay =
+        ap length entries-are ∙ length-take left (set (plain m .entries) p new)
+        ∙ ap (min left) (length-set (plain m .entries) p new ∙ as-many)
 
-    pub none-squashed : gone ≡ none → length (plain u .entries) ≡ length (plain m .entries)
-    none-squashed e = go (ltb left (length (buffer .refs))) refl (sym e ∙ gone-is)
-      where
-        go : (b : Bool) → ltb left (length (buffer .refs)) ≡ b → none ≡ cond b (some left) none
-            → length (plain u .entries) ≡ length (plain m .entries)
-        go true i z = some-none (sym z)
-        go false i z =
-            let long : length (set (plain m .entries) p new) ≤ left =
-            omega (
-              arith,
-              ltb-false left (length (buffer .refs)) i,
-              length-entries m,
-              length-refs (m .table),
-              length-set (plain m .entries) p new,
-            ) in
-            ap length (entries-are ∙ take-all left (set (plain m .entries) p new) long) ∙ length-set (plain m .entries) p new
+    -- "a squash nobody called for comes when the list requires it and at no other time", from the position that it requires, and
+    -- the entries before it stay
+    pub squash-comes : (k : ℕ) → Squashes buffer p fate k → (gone ≡ some k) × (length (plain u .entries) ≡ k)
+    squash-comes = Outcomes.squash-comes did (λ (k : ℕ). k) gone-is stay
 
-    keeps : ((k : ℕ) → Squashes buffer p fate k → ⊥) → gone ≡ none
-    keeps free = gone-is ∙ names-none buffer p (λ (j : ℕ). j) fate in-refs (did .stays) free
+    pub squash-only : (k : ℕ) → gone ≡ some k → Squashes buffer p fate k
+    squash-only k e =
+        let named = Outcomes.squash-only did (λ (j : ℕ). j) gone-is stay k e in
+        subst (Squashes buffer p fate) (sym (named .2)) (named .1)
+
+    pub squash-none : ((k : ℕ) → Squashes buffer p fate k → ⊥)
+        → (gone ≡ none) × (length (plain u .entries) ≡ length (plain m .entries))
+    squash-none free =
+        let kept = Outcomes.squash-none did (λ (k : ℕ). k) gone-is stay free in
+        (kept .0, kept .1 ∙ sym as-many)
 
     -- an instruction without memory squashes nothing
-    pub computing-keeps : kind own ≡ Computing → gone ≡ none
+    pub computing-keeps : kind own ≡ Computing → (gone ≡ none) × (length (plain u .entries) ≡ length (plain m .entries))
     computing-keeps e =
         let all : survivorsOf (plain m) w p f ≡ length (buffer .refs) =
         computing-all buffer p own (forwarded buffer w p) f e in
-        keeps (λ k s. let r = required buffer p s in omega (arith, all, r .0, r .2))
+        squash-none (λ k s. let r = required buffer p s in omega (arith, all, r .0, r .2))
 
   -- nor does a load of an address with a row
   pub row-load-keeps : (r s imm a : ℕ) → own ≡ Load r s imm → evaluated (plain m) w p ≡ some (Executed x a)
-      → touched a (buffer .refs) ≡ true → gone ≡ none
+      → touched a (buffer .refs) ≡ true → (gone ≡ none) × (length (plain u .entries) ≡ length (plain m .entries))
   row-load-keeps r s imm a load comes row =
-      keeps (Executed x a) comes
+      squash-none (Executed x a) comes
       (λ k s.
       row-keeps buffer p a k (holds (forwarded buffer w p a)) row
       (subst (λ (g : Reference.Fate). Squashes buffer p g k)
@@ -210,7 +180,7 @@ module _ (program : List ℕ) (m : Machine) (p : ℕ) (w : List ℕ) {x d : ℕ}
       distance-is = let e = told .answer in cc
 
       inside : p ≤ length (plain m .buffer .refs)
-      inside = le-of-lt (in-refs (Executed y a) comes)
+      inside = le-of-lt (told .live)
 
       memory-told : d ≡ 0 → (y ≡ getD w a 0) × NoStore m p a
       memory-told e = from-memory (plain m) w p r s imm y a load comes inside (sym distance-is ∙ e)
@@ -233,7 +203,7 @@ module _ (program : List ℕ) (m : Machine) (p : ℕ) (w : List ℕ) {x d : ℕ}
           let now = new (Executed y a) comes in
           ap (λ (es : List Entry). entryAt es p) (entries-are (Executed y a) comes)
           ∙ getD-take (left (Executed y a) comes) (set (plain m .entries) p now) p blankEntry (stays (Executed y a) comes)
-          ∙ getD-set-same (plain m .entries) p now blankEntry (told .live)
+          ∙ getD-set-same (plain m .entries) p now blankEntry (omega (arith, told .live, as-many (Executed y a) comes))
           ∙ ap (entryWith old (Executed y a)) (sym distance-is)
 
       load-at : LoadTold m p w y d u a

@@ -3,28 +3,27 @@
 -- instruction (next-kept).
 -- Assumes nothing.
 use mathlib.Core.Bool.{Bool, true, false, cond}
-use mathlib.Core.List.{List, [], _∷_}
+use mathlib.Core.List.{List, []}
 use mathlib.Core.Logic.{⊎-elim}
 use mathlib.Core.Option.{Option, none, some}
 use mathlib.Core.Path.{_≡_, refl, sym, ap, subst, _∙_}
 use Prim.Native.Nat.{ℕ}
 use native.Mathlib.Omega.{arith}
-use lib.Dec.{leb, ltb}
+use lib.Dec.{ltb}
 use lib.ListN.{length}
 use lib.Seq.{getD-at}
 use borrow.Author.Tests.{leb-false, lt-ltb}
 use Rattle.engine.specs.Contract.{refused, done, named, executed, committed, finished}
-use Rattle.engine.proofs.Refusing.{holds-one, passed-none}
 use Rattle.engine.proofs.Deciding.{Comes}
 use Rattle.machine_model.specs.declared.Entry.{Entry}
 use Rattle.machine_model.specs.declared.Machine.{Machine}
 use Rattle.machine_model.specs.Program.{instructionAt}
 use Rattle.machine_model.specs.Window.{blankEntry, entryAt}
-use Rattle.machine_model.specs.Calls.{Plain, Call, issue, execute, squash, commit, finish, Answer, checksOf, programCheck}
-use Rattle.machine_model.specs.Calls.{newEntry, evaluated, known, survivorsOf, squashChecks}
+use Rattle.machine_model.specs.Calls.{Plain, Call, issue, execute, squash, commit, finish, Answer, checksOf}
+use Rattle.machine_model.specs.Calls.{newEntry, evaluated, known, survivorsOf}
 use Rattle.machine_model.specs.Contract.{plain, Sound, Meets}
 use Rattle.machine_model.proofs.Sounding.{sound-or}
-use Rattle.machine_model.proofs.Ordered.{call-rises, accepted, decides}
+use Rattle.machine_model.proofs.Ordered.{accepted, decides}
 
 -- nothing was squashed
 abbrev Unsquashed : Option ℕ → Type 0
@@ -87,14 +86,10 @@ module _ (program : List ℕ) (m : Machine) (w : List ℕ) where
   squash-next : (k : ℕ) {u : Machine} {v kept : List ℕ} → Meets program m (squash k) w done u v kept
       → u .next ≡ entryAt (plain m .entries) k .index
   squash-next k {u} {v} {kept} meets =
-      let checks = squashChecks program (plain m) k in
       let came = decides program m (squash k) w meets .accepted tt in
-      let live : leb (length (plain m .entries)) k ≡ false =
-      sym (holds-one (programCheck program (plain m) ∷ []) (leb (length (plain m .entries)) k) 7 [] refl refl)
-      ∙ passed-none 2 checks (call-rises program (squash k) (plain m) w) (came .passes) 7 in
       ap (λ (X : Plain). X .next) (came .state)
       ∙ ap (λ (b : Bool). cond b (entryAt (plain m .entries) k .index) (m .next))
-      (lt-ltb k (length (plain m .entries)) (leb-false (length (plain m .entries)) k live))
+      (lt-ltb k (length (plain m .entries)) (leb-false (length (plain m .entries)) k (came .unmet 7)))
 
   -- and of an execution
   execute-next : (p x d k : ℕ) {u : Machine} {v kept : List ℕ} → Meets program m (execute p) w (executed x d (some k)) u v kept

@@ -3,7 +3,7 @@
 -- Assumes nothing.
 use mathlib.Core.Bool.{Bool, true, false, not, _&&_, true≢false, and-eq-true-iff}
 use mathlib.Core.List.{List, [], _∷_}
-use mathlib.Core.Logic.{_⊎_, inl, inr}
+use mathlib.Core.Logic.{_⊎_}
 use mathlib.Core.Path.{_≡_, refl, sym, ap, ap₂, _∙_}
 use Prim.Native.Nat.{ℕ, _*_, _<_}
 use lib.Dec.{eqb}
@@ -18,6 +18,7 @@ use Rattle.table.proofs.Lists.{length-tabulate, at-tabulate}
 use Rattle.table.proofs.Fates.{at-refs}
 use Rattle.table.proofs.Lawful.{lawful-rules, rules-lawful}
 use Rattle.engine.specs.Conditions.{refusal, when}
+use Rattle.engine.proofs.Deciding.{tested}
 use Rattle.machine_model.specs.declared.Machine.{Machine}
 use Rattle.machine_model.specs.Program.{programFits}
 use Rattle.machine_model.specs.Window.{blankEntry, entryAt, reference}
@@ -76,8 +77,4 @@ module _ (m : Machine) where
   broken-tests h s = true≢false (sym (sound-tests s) ∙ h)
 
   pub sound-or : Sound m ⊎ (Sound m → ⊥)
-  sound-or = go (lawful (m .table) && agreeing m (m .table .live)) refl
-    where
-      go : (b : Bool) → (lawful (m .table) && agreeing m (m .table .live)) ≡ b → Sound m ⊎ (Sound m → ⊥)
-      go true e = inl (tests-sound e)
-      go false e = inr (broken-tests e)
+  sound-or = tested (lawful (m .table) && agreeing m (m .table .live)) tests-sound broken-tests
