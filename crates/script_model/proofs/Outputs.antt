@@ -2,7 +2,7 @@
 -- that is accepted, from which any calls are true of the run, and one outcome of as many commits. And what PiecesTruth gives
 -- before the end: the first bytes of what the script prints.
 -- Assumes nothing.
-use mathlib.Core.Path.{_≡_, refl, sym, ap, ap₂, subst, _∙_}
+use mathlib.Core.Path.{_≡_, sym, ap, ap₂, subst, _∙_}
 use mathlib.Core.List.{List, _++_}
 use mathlib.Core.Option.{Option, none}
 use Prim.Native.Nat.{ℕ, _*_, _/_}
