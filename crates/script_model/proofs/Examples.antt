@@ -29,7 +29,7 @@ use Rattle.script_model.specs.Message.{ascii}
 use Rattle.script_model.specs.Truth.{scriptPlayed, scriptRun, distancesOf, woven, scriptRecord, ScriptTruth}
 use Rattle.script_model.proofs.Beginnings.{printed-long, printed-short}
 use Rattle.script_model.proofs.Truth.{script-truth}
-use Rattle.script_model.proofs.Outputs.{record-counted, prints-all, one-outcome}
+use Rattle.script_model.proofs.Outputs.{record-counted, prints-all, scripts-outcome}
 
 -- `N,1,2,4,8`, `A,1,0,5`, `S,1,0,3`, `L,2,0,3`, `i`, `i`, `i`, `e,2`, `e,0`, `e,1`, `c`, `c`, `i`, `e,0`, `c`
 abbrev sample : List ℕ
@@ -123,7 +123,7 @@ pub sample-alike : scriptPlayed sampled .memory ≡ scriptPlayed finished .memor
 sample-alike =
     let p = sample-reads in
     let q = finished-reads in
-    one-outcome sample-true finished-true (p .0 ∙ sym (q .0)) (p .1 ∙ sym (q .1)) (p .2 ∙ sym (q .2)) .2
+    scripts-outcome sample-true finished-true (p .0 ∙ sym (q .0)) (p .1 ∙ sym (q .1)) (p .2 ∙ sym (q .2)) .2
 
 byte-read : parsedLine (ascii "B,1,0,3") ≡ Operation 5 1 0 3
 unfolding ascii bytes codeFrom

@@ -2,7 +2,7 @@
 -- that is accepted, from which any calls are true of the run, and one outcome of as many commits. And what PiecesTruth gives
 -- before the end: the first bytes of what the script prints.
 -- Assumes nothing.
-use mathlib.Core.Path.{_≡_, sym, ap, ap₂, subst, _∙_}
+use mathlib.Core.Path.{_≡_, sym, ap, subst, _∙_}
 use mathlib.Core.List.{List, _++_}
 use mathlib.Core.Option.{Option, none}
 use Prim.Native.Nat.{ℕ, _*_, _/_}
@@ -13,11 +13,11 @@ use Rattle.engine.specs.Contract.{done}
 use Rattle.machine_model.specs.declared.Machine.{Machine}
 use Rattle.machine_model.specs.Calls.{Call, Answer, perCommit}
 use Rattle.machine_model.specs.Contract.{Opens}
-use Rattle.theorem.specs.Sequential.{Run, runAfter}
 use Rattle.theorem.specs.Play.{without}
 use Rattle.theorem.specs.Life.{Life}
-use Rattle.theorem.specs.Truth.{CallsTruth}
+use Rattle.theorem.specs.Truth.{Truth, CallsTruth}
 use Rattle.theorem.proofs.Closing.{calls-theorem}
+use Rattle.theorem.proofs.Outcome.{one-outcome}
 use Rattle.script_model.specs.declared.Player.{Player}
 use Rattle.script_model.specs.Language.{Script}
 use Rattle.script_model.specs.Output.{commitLines, wordLines, ending, endLine, closing, printed}
@@ -66,19 +66,16 @@ module _ {text : List ℕ} {s : Script} (t : ScriptTruth text s) where
 
 -- Two scripts with one program and as many words, whose plays have as many commits, have one outcome, whatever their steps and
 -- their other sizes: the record but for the distances, the registers and the words of memory, whose lines are printed.
-pub one-outcome : {text other : List ℕ} {s z : Script} → ScriptTruth text s → ScriptTruth other z
+pub scripts-outcome : {text other : List ℕ} {s z : Script} → ScriptTruth text s → ScriptTruth other z
     → s .body .program ≡ z .body .program → s .words ≡ z .words → scriptPlayed s .commits ≡ scriptPlayed z .commits
     → (without (scriptPlayed s .record′) ≡ without (scriptPlayed z .record′))
     × (scriptPlayed s .state .registers ≡ scriptPlayed z .state .registers)
     × (scriptPlayed s .memory ≡ scriptPlayed z .memory)
-one-outcome {s = s} {z} t u program words commits =
-    let same : scriptRun s ≡ scriptRun z =
-    ap₂ (λ (l : List ℕ) (w : ℕ). runAfter l (replicate w 0) (scriptPlayed s .commits)) program words
-    ∙ ap (λ (n : ℕ). runAfter (z .body .program) (zeros z) n) commits in (
-      t .truth .record-is ∙ ap (λ (r : Run). r .record′) same ∙ sym (u .truth .record-is),
-      t .truth .registers-are ∙ ap (λ (r : Run). r .registers) same ∙ sym (u .truth .registers-are),
-      t .truth .memory-is ∙ ap (λ (r : Run). r .memory) same ∙ sym (u .truth .memory-is),
-    )
+scripts-outcome {s = s} {z} t u program words commits =
+    one-outcome (t .truth)
+    (subst (λ (l : List ℕ). Truth l (zeros s) (scriptPlayed z)) (sym program)
+    (subst (λ (w : ℕ). Truth (z .body .program) (replicate w 0) (scriptPlayed z)) (sym words) (u .truth)))
+    commits
 
 -- what was written so far are the first bytes of what the script prints
 pub written-first : {text : List ℕ} {pieces : List (List ℕ)} {r : Player} → PiecesTruth text pieces r
