@@ -11,7 +11,6 @@ use native.Mathlib.Omega.{arith}
 use lib.Dec.{eqb}
 use lib.ListN.{length, length-append}
 use lib.Seq.{getD-at}
-use borrow.Author.Tests.{eqb-true, eqb-false}
 use Rattle.marks.specs.Circle.{stage}
 use Rattle.table.specs.declared.Ticket.{Ticket}
 use Rattle.table.specs.declared.Table.{Table}
@@ -20,15 +19,16 @@ use Rattle.table.specs.Moves.{issued, squashTo}
 use Rattle.table.specs.View.{view}
 use Rattle.table.specs.Rules.{Rules}
 use Rattle.table.proofs.Fates.{length-refs}
-use Rattle.engine.specs.Conditions.{refusal}
 use Rattle.engine.specs.Contract.{refused, done, named, judged}
-use Rattle.engine.proofs.Meeting.{no-refusal, turned, judged-accepted}
+use Rattle.engine.proofs.Meeting.{judged-accepted}
+use Rattle.engine.proofs.Deciding.{accepted-passes}
 use Rattle.buffer_model.specs.Answers.{Answer}
-use Rattle.buffer_model.specs.Refusals.{openChecks, place, names}
+use Rattle.buffer_model.specs.Refusals.{openChecks, names}
 use Rattle.buffer_model.specs.Calls.{Call, issue, squash, Result, acceptedResult, refusalOf, respond}
 use Rattle.buffer_model.specs.Contract.{Meets, Opens}
 use Rattle.buffer_model.specs.Life.{Event, TableLife, born, lived, issuesIn, followed, Uses, toExecute, toSquash}
 use Rattle.buffer_model.specs.Tickets.{staleNumber, TicketTruth}
+use Rattle.buffer_model.proofs.Ordered.{decides}
 use Rattle.buffer_model.proofs.Numbers.{Fits, Moves, moves, holds-named, holds-place, Dead, Held, Tracked}
 use Rattle.buffer_model.proofs.Numbers.{tracked-on, dead-unnamed}
 
@@ -55,34 +55,16 @@ record Issued (P : State) (τ : Ticket) (Q : State) : Type 0 where
   pub number : τ .number ≡ P .next
   pub state : Q ≡ issued P
 
--- a call that answers no refusal has its result
-not-refused : (k : ℕ) (P : State) (m : List ℕ) (r : Result) (said : Answer) → said ≡ judged k P m [] r .answer
-    → ((j : ℕ) → said ≡ refused j → ⊥) → judged k P m [] r ≡ r
-not-refused k P m r said e kept = go (eqb k 0) e
-  where
-    go : (t : Bool) → said ≡ cond {A = Result} t r (turned k P m []) .answer → cond t r (turned k P m []) ≡ r
-    go true e = refl
-    go false e = absurd (kept k e)
-
-issue-named : (P : State) (m : List ℕ) (τ : Ticket) → named τ ≡ respond issue P m .answer
-    → Issued P τ (respond issue P m .state)
-unfolding respond
-issue-named P m τ e =
-    let new : Ticket = record { stage = stage (P .oldest) (P .stages) (length (P .refs)); number = P .next } in
-    let r : Result = acceptedResult issue P m in
-    let same = not-refused (refusalOf issue P m) P m r (named τ) e (λ j. no-refusal (named τ) j tt) in
-    let told : named τ ≡ named new = e ∙ ap (λ (q : Result). q .answer) same in
-    let ticket : τ ≡ new = cc in
+was-issued : {t u : Table} {m v : List ℕ} {τ : Ticket} → Meets t issue m (named τ) u v → Issued (view t) τ (view u)
+was-issued {t} {u} {m} {v} {τ} meets =
+    let came = decides t issue m meets .accepted tt in
+    let e = came .answer in
+    let ticket : τ ≡ record { stage = stage (t .oldest) (t .stages) (length (view t .refs)); number = t .next } = cc in
     record {
       stage = ap (λ (ρ : Ticket). ρ .stage) ticket;
       number = ap (λ (ρ : Ticket). ρ .number) ticket;
-      state = ap (λ (q : Result). q .state) same;
+      state = came .state;
     }
-
-was-issued : {t u : Table} {m v : List ℕ} {τ : Ticket} → Rules t → Meets t issue m (named τ) u v
-    → Issued (view t) τ (view u)
-was-issued {t} {u} {m} {v} {τ} rules meets =
-    subst (Issued (view t) τ) (sym (meets .state rules)) (issue-named (view t) m τ (meets .answer rules))
 
 -- a ticket that names nothing is refused with 7, or a wrong memory length before it with 3
 unnamed-judged : (long isNamed : Bool) (others : ℕ) (P : State) (m : List ℕ) (r : Result) → isNamed ≡ false
@@ -108,16 +90,9 @@ life-tracked τ p rules now (lived {es = es} life meets) =
 
 -- an opening that was done made a table that keeps the rules
 pub opened : {banks rows stages words : ℕ} {m : List ℕ} {t : Table} → Opens banks rows stages words m done t → Rules t
-opened {banks} {rows} {stages} {words} {m} {t} opens = go (eqb k 0) refl
-  where
-    k : ℕ
-    k = refusal (openChecks banks rows stages words m)
-
-    go : (b : Bool) → eqb k 0 ≡ b → Rules t
-    go true e = opens .state (eqb-true k 0 e) .0
-    go false e =
-        let said : done ≡ refused k = opens .refuses k (eqb-false k 0 e) refl .0 in
-        absurd (let z : _≡_ {A = ℕ} 0 1 = cc in omega arith)
+opened {banks} {rows} {stages} {words} {m} {t} opens =
+    opens .state
+    (accepted-passes (openChecks banks rows stages words m) done tt (λ some. opens .refuses _ some refl .0)) .0
 
 module _ {banks rows stages words : ℕ} {m₀ m₁ m₂ : List ℕ} {t u v w : Table} {earlier later : List Event} {τ : Ticket}
     -- in the life of an opened table an issue answered τ: its reference is the youngest,
@@ -130,7 +105,7 @@ module _ {banks rows stages words : ℕ} {m₀ m₁ m₂ : List ℕ} {t u v w : 
   tracked : Tracked τ (issuesIn later) (followed later (length (view u .refs))) (view w)
   tracked =
       let rules-u = life-rules (opened opens) life in
-      let new = was-issued rules-u start in
+      let new = was-issued start in
       let refs = view u .refs in
       let youngest = ref (view u .next) waiting in
       life-tracked τ (length refs) (start .lawful rules-u)

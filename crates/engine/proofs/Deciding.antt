@@ -63,6 +63,15 @@ list-goes checks rises said refuses accepts =
     (λ z k. no-refusal said k (accepts z))
     (λ j. refusal-least-from 0 checks j rises)
 
+-- an answer that is no refusal has passed them all
+pub accepted-passes : {N : Type 0} (checks : List Check) (said : Answer N) → Accepts said
+    → ((refusal checks ≡ 0 → ⊥) → said ≡ refused (refusal checks)) → refusal checks ≡ 0
+accepted-passes checks said is-accepted refuses = go (eqb (refusal checks) 0) refl
+  where
+    go : (b : Bool) → eqb (refusal checks) 0 ≡ b → refusal checks ≡ 0
+    go true e = eqb-true (refusal checks) 0 e
+    go false e = absurd (no-refusal said (refusal checks) is-accepted (refuses (eqb-false (refusal checks) 0 e)))
+
 -- ---- a call by its contract
 
 -- a state keeps the rules or breaks them, as a test tells
@@ -127,20 +136,13 @@ module _ {S P N : Type 0} (Lawful : S → Type 0) (view : S → P) (t : S) (m l 
         (λ j. ⊎-elim (λ b. absurd (b .1 lawful)) (λ h.
         let least = refusal-least-from 2 checks j rises h in (omega (arith, least .0), least .1)))
 
-    comes : Accepts said → Comes Lawful view t checks r said u v kept
-    comes is-accepted = go (eqb (refusal checks) 0) refl
-      where
-        go : (b : Bool) → eqb (refusal checks) 0 ≡ b → Comes Lawful view t checks r said u v kept
-        go true e = accepts (eqb-true (refusal checks) 0 e)
-        go false e = absurd (no-refusal said (refusal checks) is-accepted (refuses (eqb-false (refusal checks) 0 e)))
-
   pub meets-decides : Decides Lawful view t checks r said u v kept
   meets-decides =
       record {
         rises = rises;
         goes = ⊎-elim lawful-goes broken-goes tests;
         accepted = λ is-accepted.
-            ⊎-elim (λ lawful. comes lawful is-accepted)
+            ⊎-elim (λ lawful. accepts lawful (accepted-passes checks said is-accepted (refuses lawful)))
             (λ breaks. absurd (no-refusal said 2 is-accepted (meets .broken breaks .0))) tests;
       }
 

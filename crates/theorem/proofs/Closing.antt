@@ -11,12 +11,13 @@
 use mathlib.Core.Path.{_≡_, refl, sym, subst, ap, ap₂, _∙_}
 use mathlib.Core.Bool.{true, false}
 use mathlib.Core.List.{List, [], _∷_, _++_, append-nil, append-assoc}
-use Prim.Native.Nat.{ℕ, zero, suc, _+_, _≤_}
+use Prim.Native.Nat.{ℕ, suc, _+_, _≤_}
 use native.Mathlib.Nat.{add-zero, zero-add, add-assoc}
 use native.Mathlib.Omega.{arith}
 use lib.ListN.{length}
 use Rattle.engine.specs.Contract.{done}
 use Rattle.engine.specs.Conditions.{refusal}
+use Rattle.engine.proofs.Deciding.{accepted-passes}
 use Rattle.machine_model.specs.declared.Machine.{Machine}
 use Rattle.machine_model.specs.Calls.{Plain, Call, Answer, respond, openChecks}
 use Rattle.machine_model.specs.Contract.{plain, Sound, Meets, Opens}
@@ -109,15 +110,8 @@ life-join {cs₁ = cs₁} {answers₁ = answers₁} {record₁ = record₁} {k =
 -- one that says `done` was not refused
 pub done-opens : {B R n W : ℕ} {program w : List ℕ} {m : Machine} → Opens B R n W program w done m
     → refusal (openChecks B R n W program w) ≡ 0
-done-opens {B} {R} {n} {W} {program} {w} h = go (refusal (openChecks B R n W program w)) refl
-  where
-    go : (k : ℕ) → refusal (openChecks B R n W program w) ≡ k → refusal (openChecks B R n W program w) ≡ 0
-    go zero e = e
-    go (suc k) e =
-        absurd
-        (let said = h .refuses (suc k) (λ z. omega arith) e .0 in
-        let z : _≡_ {A = ℕ} 0 1 = cc in
-        omega arith)
+done-opens {B} {R} {n} {W} {program} {w} h =
+    accepted-passes (openChecks B R n W program w) done tt (λ some. h .refuses _ some refl .0)
 
 module _ {B R n W : ℕ} {program w : List ℕ} {m : Machine} (opens : Opens B R n W program w done m) {cs : List Call}
     {answers : List Answer} {u : Machine} {v record′ : List ℕ} {k : ℕ} (life : Life program m w cs answers u v record′ k) where
