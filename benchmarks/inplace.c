@@ -67,21 +67,29 @@ static bool address_alone(const struct table *t, size_t first, size_t r)
     return true;
 }
 
-// The table's own rules. A bank has eight places, and no marks but in the first R. Where `found` is given and they
-// hold, it says where the marks are.
+// Whether a bank of the table has marks past its R rows.
+static bool marked_past(const struct table *t)
+{
+    uint32_t marks = 0;
+    for (size_t b = 0; t->rows < 8 && b < t->banks; b++)
+        for (size_t r = b * 8 + t->rows; r < b * 8 + 8; r++)
+            marks |= marks_of(t, r);
+    return marks;
+}
+
+// The table's own rules. Where `found` is given and they hold, it says where the marks are.
 static inline bool keeps_rules(const struct table *t, struct marked *found)
 {
     if (!sizes_fit((struct sizes){t->banks, t->rows, t->stages, t->words}) || t->live > t->stages ||
-        t->oldest >= t->stages)
+        t->oldest >= t->stages || marked_past(t))
         return false;
     uint32_t free = ~(t->executed & first_stages(t, t->live)), loads = 0, stores = 0;
     for (size_t b = 0; b < t->banks; b++) {
-        for (size_t r = b * 8; r < b * 8 + 8; r++) {
+        for (size_t r = b * 8; r < b * 8 + t->rows; r++) {
             uint32_t marks = marks_of(t, r);
             if (!marks)
                 continue;
-            if (r % 8 >= t->rows || (marks & free) || bank_of(t->banks, t->addresses[r]) != b ||
-                !address_alone(t, b * 8, r))
+            if ((marks & free) || bank_of(t->banks, t->addresses[r]) != b || !address_alone(t, b * 8, r))
                 return false;
             free |= marks;
             loads |= t->loads[r];

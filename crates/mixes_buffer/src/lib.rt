@@ -5,10 +5,11 @@
 // many calls, each of which met its contract (specs/computed/Turns.antt).
 use mixes::Tally;
 use table::STAGES;
+use table::Table;
 use table::Ticket;
 ghost use Rattle.buffer_model.specs.Answers as buffer;
 ghost use Rattle.mixes.specs.computed.Turns.{Tallies, numbersIn};
-ghost use Rattle.mixes_buffer.specs.computed.Turns.{ticketed, BufferTurns};
+ghost use Rattle.mixes_buffer.specs.computed.Turns.{ticketed, Served, BufferTurns};
 
 // The numbers of an answer: a refusal's number, or 100 and what the answer carries.
 fn done_tally(answer: buffer::DoneAnswer) -> Tally
@@ -99,6 +100,23 @@ fn action_drawn(drawn: usize, whole: usize, word: usize) -> buffer::Action {
     buffer::Action::Compute(value)
 }
 
+// An execution of what is no load or store of the mix: without memory, or as often of a drawn action.
+fn execute_drawn(
+    t: Table,
+    ticket: Ticket,
+    drawn: usize,
+    whole: usize,
+    word: usize,
+    memory: &[u32],
+) -> buffer::ExecuteResult
+    ensures { λ r. ⌜ Served t (now (memory .entry)) (buffer.executeSays (r .answer)) (r .table) (now (memory .entry)) ⌝ }
+{
+    if word < 16384 {
+        return buffer::execute_other(t, ticket, memory);
+    }
+    buffer::execute(t, ticket, action_drawn(drawn, whole, word), memory)
+}
+
 // `calls` turns of a buffer with these sizes. Of 32 turns 12 are an issue, 8 a commit, 5 a load, 5 a store, 1
 // an execution of something else, half of them of a drawn action, and 1 a squash. The stores are the kinds 25 to 29,
 // those from `whole` on of a part. Unless `falling` is 0 the turns come in falling order (`turn_drawn` of crates/mixes),
@@ -157,24 +175,30 @@ pub extern "C" fn mixes_buffer(
         } else {
             let numbers = t.numbers;
             let ticket = ticket_drawn(t.oldest, t.stages, t.live, t.executed, numbers, drawn / 32);
-            if kind < 31 {
-                let word = mixes::bits(second);
-                let address = mixes::address_drawn(word);
-                let ran = if kind < 25 {
-                    buffer::execute_load(t, ticket, address, memory)
-                } else if kind < whole {
-                    buffer::execute_store(t, ticket, address, mixes::word_drawn(word), memory)
-                } else if kind < 30 {
-                    let byte = byte_drawn(word);
-                    let value = mixes::word_drawn(word);
-                    buffer::execute_part(t, ticket, part_drawn(word), byte, value, memory)
-                } else if word < 16384 {
-                    buffer::execute_other(t, ticket, memory)
-                } else {
-                    buffer::execute(t, ticket, action_drawn(drawn, whole, word), memory)
-                };
-                let said = ran.answer;
-                t = ran.table;
+            let word = mixes::bits(second);
+            let address = mixes::address_drawn(word);
+            if kind < 25 {
+                let loaded = buffer::execute_load(t, ticket, address, memory);
+                let said = loaded.answer;
+                t = loaded.table;
+                executed_tally(said)
+            } else if kind < whole {
+                let value = mixes::word_drawn(word);
+                let stored = buffer::execute_store(t, ticket, address, value, memory);
+                let said = stored.answer;
+                t = stored.table;
+                executed_tally(said)
+            } else if kind < 30 {
+                let byte = byte_drawn(word);
+                let value = mixes::word_drawn(word);
+                let merged = buffer::execute_part(t, ticket, part_drawn(word), byte, value, memory);
+                let said = merged.answer;
+                t = merged.table;
+                executed_tally(said)
+            } else if kind < 31 {
+                let noted = execute_drawn(t, ticket, drawn, whole, word, memory);
+                let said = noted.answer;
+                t = noted.table;
                 executed_tally(said)
             } else {
                 let squashed = buffer::squash(t, ticket);

@@ -1,17 +1,11 @@
 -- `mixes_buffer::mixes_buffer` returns the checksum of as many turns as are asked for, each a call that met its contract or,
 -- once, another table. The loop's invariant is Mixing of crates/mixes/proofs/Remaining.antt, carried over each way through a
 -- turn by the callee's contract; the measure is the number of turns that are left. Assumes nothing.
-use mathlib.Core.Path.{_≡_, refl}
-use mathlib.Core.List.{List}
+use mathlib.Core.Path.{refl}
 use mathlib.Core.Logic.{⊎-elim}
-use Prim.Native.Nat.{ℕ}
 use native.Mathlib.Omega.{arith}
 use borrow.Author.Needs.{needs}
-use Rattle.table.specs.declared.Table.{Table}
-use Rattle.buffer_model.specs.declared.ExecuteResult.{ExecuteResult}
-use Rattle.buffer_model.specs.Answers.{executeSays}
-use Rattle.buffer_model.specs.Contract.{Meets}
-use Rattle.buffer_model.specs.Calls.{Call, issue, commit, execute, executeLoad, executeStore, executePart, executeOther, squash}
+use Rattle.buffer_model.specs.Calls.{issue, commit, executeLoad, executeStore, executePart, squash}
 use Rattle.mixes_buffer.specs.computed.Turns.{ticketed, Served}
 use Rattle.mixes.proofs.Remaining.{Mixing, mixing-all, mixing-called, mixing-changed, mixed}
 use Rattle.mixes_buffer.proofs.mixes_buffer.Statement.{statement}
@@ -26,12 +20,6 @@ abbrev μ-loop : tie.MeasureT-loop
 
 loop-holds : tie.Need-loop-holds Inv-loop μ-loop
 loop-holds c = mixing-all
-
--- an execution is a call that met its contract, of whichever call it is the result
-served : {t : Table} {memory : List ℕ} {ran result : ExecuteResult} → ran ≡ result → (call : Call)
-    → Meets t call memory (executeSays (result .answer)) (result .table) memory
-    → Served t memory (executeSays (ran .answer)) (ran .table) memory
-served same call meets = record { call = call; meets = rw same meets }
 
 loop-again : tie.Need-loop-again Inv-loop μ-loop
 loop-again c =
@@ -50,16 +38,21 @@ loop-again c =
     (w .8 .ensures))
     (⊎-elim
     (λ w.
-    mixing-called inv some told (w .11) (w .12) (w .13) refl
-    (⊎-elim (λ x. served (x .3) (executeLoad _ _) (x .2 .ensures))
-    (⊎-elim (λ x. served (x .5) (executeStore _ _ _) (x .4 .ensures))
-    (⊎-elim (λ x. served (x .8) (executePart _ _ _ _) (x .7 .ensures))
-    (⊎-elim (λ x. served (x .6) (executeOther _) (x .5 .ensures)) (λ x. served (x .7) (execute _ _) (x .6 .ensures)))))
-    (w .8 .came))
-    (w .10 .ensures))
+    mixing-called inv some told (w .12) (w .13) (w .14) refl (record { call = executeLoad _ _; meets = w .9 .ensures })
+    (w .11 .ensures))
+    (⊎-elim
     (λ w.
-    mixing-called inv some told (w .9) (w .10) (w .11) refl (record { call = squash _; meets = w .6 .ensures _ })
-    (w .8 .ensures)))))
+    mixing-called inv some told (w .14) (w .15) (w .16) refl (record { call = executeStore _ _ _; meets = w .11 .ensures })
+    (w .13 .ensures))
+    (⊎-elim
+    (λ w.
+    mixing-called inv some told (w .17) (w .18) (w .19) refl
+    (record { call = executePart _ _ _ _; meets = w .14 .ensures }) (w .16 .ensures))
+    (⊎-elim
+    (λ w. mixing-called inv some told (w .15) (w .16) (w .17) refl (w .12 .ensures) (w .14 .ensures))
+    (λ w.
+    mixing-called inv some told (w .14) (w .15) (w .16) refl (record { call = squash _; meets = w .11 .ensures _ })
+    (w .13 .ensures))))))))
     (c .before .if1 .came)
 
 same-length : tie.Need-same-length Inv-loop μ-loop
@@ -74,8 +67,8 @@ returns c =
 pub mixes-buffer-spec : {M : Type 1} → statement M
 mixes-buffer-spec =
     tie.close
-    (tie.spec Inv-loop μ-loop (λ c κs. tt) (λ c κs. tt) (λ c κs. tt) loop-holds (λ c. omega arith) (λ c κs. tt)
+    (tie.spec Inv-loop μ-loop (λ c κs. tt) (λ c κs. tt) (λ c κs. tt) loop-holds (λ c. omega arith) (λ c κs. tt) (λ c κs. tt)
     (λ c κs. tt) (λ c κs. tt) (λ c κs. tt) (λ c κs. tt) (λ c κs. tt) (λ c κs. tt) (λ c κs. tt) (λ c κs. tt) (λ c κs. tt)
-    (λ c κs. tt) (λ c κs. tt) (λ c κs. tt) (λ c κs. tt) (λ c κs. tt) (λ c κs. tt) (λ c κs. tt) (λ c κs. tt) (λ c κs. tt)
-    (λ c κs. tt) (λ c κs. tt) (λ c κs. tt) (λ c κs. tt) (λ c κs. tt) (λ c κs. tt) (λ c κs. tt) (λ c. omega arith)
-    loop-again same-length returns)
+    (λ c κs. tt) (λ c κs. tt) (λ c κs. tt) (λ c κs. tt) (λ c κs. tt) (λ c κs. tt) (λ c κs. tt) (λ c κs. tt)
+    (λ c κs. tt) (λ c κs. tt) (λ c κs. tt) (λ c κs. tt) (λ c κs. tt) (λ c κs. tt) (λ c κs. tt) (λ c κs. tt)
+    (λ c. omega arith) loop-again same-length returns)
