@@ -14,7 +14,6 @@ use Rattle.machine_model.specs.Calls.{finishes, respond}
 use Rattle.theorem.specs.Sequential.{runAfter}
 use Rattle.theorem.specs.Play.{without, play, noneRefused, answersOf}
 use Rattle.theorem.specs.Examples.{AllCome, RunExample, ranTo, runTable, RecordExample, leftOf, recordTable}
-use Rattle.theorem.specs.Examples.{PlayExample, playedTo, callTable}
 
 -- all that calls and the run compute with: to unfold this is to unfold them
 unfoldable pub computing : Unit {0}
@@ -23,7 +22,7 @@ unfolding runAfter play noneRefused answersOf respond finishes every programFits
 computing = tt
 
 -- an equation of lists is one of each row
-each : {E O : Type 0} (comes says : E → O) (rows : List E) → map comes rows ≡ map says rows → AllCome comes says rows
+pub each : {E O : Type 0} (comes says : E → O) (rows : List E) → map comes rows ≡ map says rows → AllCome comes says rows
 each comes says [] h = tt
 each comes says (e ∷ rows) h = (cc, each comes says rows cc)
 
@@ -34,7 +33,3 @@ runs-shown = each ranTo (λ (e : RunExample). e .outcome) runTable refl
 pub records-shown : AllCome leftOf (λ (e : RecordExample). e .outcome) recordTable
 unfolding recordTable without
 records-shown = each leftOf (λ (e : RecordExample). e .outcome) recordTable refl
-
-pub calls-shown : AllCome playedTo (λ (e : PlayExample). e .outcome) callTable
-unfolding callTable computing
-calls-shown = each playedTo (λ (e : PlayExample). e .outcome) callTable refl

@@ -1,0 +1,2 @@
+-- Cases: the examples come out.
+pub mod Cases

@@ -1,0 +1,2 @@
+-- Examples of lists of calls.
+pub mod Calls
