@@ -530,7 +530,7 @@ steps-moved still ended (inl over) going room = absurd (true≢false (sym over �
 steps-moved still ended (inr full) going room = absurd (omega (arith, ended, full, room))
 steps-moved (onward piece s _ step) ended stops going room = omega (arith, steps-fall s, step-goes step .falls)
 
--- a call with room for a line on a player that is not over lowers the weight
+-- a call with room for a step on a player that is not over lowers the weight
 pub fills-falls : {text program : List ℕ} {p q : Player} {memory out after into : List ℕ} {end : ℕ}
     → Fills text program p memory out q after into end → isOver (p .phase) ≡ false → longest ≤ length out
     → weight text q after < weight text p memory

@@ -1,4 +1,4 @@
--- `arb::play` ends: each turn plays a player that is not over with room for a line, which lowers its weight.
+-- `arb::play` ends: each turn plays a player that is not over with room for a step, which lowers its weight.
 -- Assumes nothing.
 use mathlib.Core.Path.{_≡_, sym, _∙_}
 use Prim.Native.Nat.{_≤_}
