@@ -1,8 +1,9 @@
 -- What `begin` hands back meets its contract, by the way it goes: lent wrongly it is over (begins-over); a text that is too long
--- or has a bad first line prints one bad line (begins-long, begins-headless); otherwise the machine was opened on the script's sizes, its program
--- and zeros (begins-open). And what it hands back is the beginning of the script: all of its output is left to print, and the
--- player may go on (begins-left). For that the steps of a script begin behind as many lines as its program has instructions
--- (body-behind), and the opening passes its checks (Openings), so the machine is sound and linked. Assumes nothing.
+-- or has a bad first line prints one bad line (begins-long, begins-headless); otherwise the machine was opened on the script's
+-- sizes, its program and zeros (begins-open). And what it hands back is the beginning of the script: all of its output is left
+-- to print, and the player may go on (begins-left). For that the steps of a script begin behind as many lines as its program
+-- has instructions (body-behind), and the opening passes its checks (Openings), so the machine is sound and linked. Assumes
+-- nothing.
 use mathlib.Core.Path.{_≡_, refl, sym, subst, ap, ap₂, _∙_}
 use mathlib.Core.Bool.{Bool, true, false, cond, not, _&&_, _||_, false≢true}
 use mathlib.Core.List.{List, [], _∷_, _++_, append-nil, append-assoc}
