@@ -15,7 +15,7 @@ ghost use Rattle.machine_model.specs.Program.{decoded, instructionAt, wellForme
 ghost use Rattle.machine_model.specs.Program.{kind, destination};
 ghost use Rattle.machine_model.specs.Contract.{kindOf, placeOf};
 ghost use Rattle.machine_model.specs.Window.{addressBy, misaligned, reference};
-ghost use Rattle.machine_model.specs.Calls.{waits, valueBy, answerBy, target, perCommit};
+ghost use Rattle.machine_model.specs.Calls.{pending, valueBy, answerBy, target, perCommit};
 ghost use Rattle.machine_model.specs.computed.Parts.{registerNumber, kindBy, placeBy, likeBy, actionOf, second};
 
 // The four numbers of an instruction.
@@ -294,7 +294,7 @@ pub fn action_of(i: Instruction, x: u32, y: u32) -> Action
 
 // Whether an entry waits.
 pub fn is_waiting(e: Entry) -> bool
-    ensures { λ r. ⌜ r ≡ waits (e .fate) ⌝ }
+    ensures { λ r. ⌜ r ≡ pending (e .fate) ⌝ }
 {
     let fate = e.fate;
     match fate {

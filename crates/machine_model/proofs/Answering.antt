@@ -21,6 +21,7 @@ use Rattle.engine.proofs.Meeting.{turned, Accepts}
 use Rattle.machine_model.specs.declared.Machine.{Machine}
 use Rattle.machine_model.specs.Program.{programFits}
 use Rattle.machine_model.specs.Window.{entryAt}
+use Rattle.machine_model.specs.Over
 use Rattle.machine_model.specs.Calls.{Call, issue, execute, squash, commit, finish, lentTo, Answer, Result}
 use Rattle.machine_model.specs.Calls.{matchesProgram, fitsProgram, programCheck, respond}
 use Rattle.machine_model.specs.Contract.{entryOf, plain, Sound, Meets}
@@ -117,7 +118,7 @@ lengthFor m (finish k list) w = length w
 -- the memory lent has another length
 length-turned : (m : Machine) (program : List ℕ) (c : Call) (w : List ℕ) → eqb (lengthFor m c w) (m .table .words) ≡ false
     → respond program c (plain m) w ≡ turned 3 (plain m) w (lentTo c)
-unfolding respond
+unfolding Over.respond
 length-turned m program issue w e = absurd (eqb-false (m .table .words) (m .table .words) e refl)
 length-turned m program (execute p) w e = rw e
 length-turned m program (squash p) w e = absurd (eqb-false (m .table .words) (m .table .words) e refl)
@@ -127,7 +128,7 @@ length-turned m program (finish k list) w e = rw e
 -- it has the right length, and the check of the program fails
 program-turned : (m : Machine) (program : List ℕ) (c : Call) (w : List ℕ) → eqb (lengthFor m c w) (m .table .words) ≡ true
     → fitsProgram program (plain m) ≡ false → respond program c (plain m) w ≡ turned 4 (plain m) w (lentTo c)
-unfolding respond
+unfolding Over.respond
 program-turned m program issue w e f = rw f
 program-turned m program (execute p) w e f = rw (e, f)
 program-turned m program (squash p) w e f = rw f

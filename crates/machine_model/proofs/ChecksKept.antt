@@ -20,6 +20,7 @@ use Rattle.machine_model.specs.declared.Instruction.{Instruction}
 use Rattle.machine_model.specs.declared.Entry.{Entry}
 use Rattle.machine_model.specs.declared.Machine.{Machine}
 use Rattle.machine_model.specs.Window.{blankEntry, entryAt, entryWith}
+use Rattle.machine_model.specs.Over
 use Rattle.machine_model.specs.Calls.{
   Plain,
   Call,
@@ -205,13 +206,13 @@ module _ (m u : Machine) (program : List ℕ) (lent : ℕ) (passes : validateOf 
       (subst (Fitting program lent) (sym (meets .state (passed .sound))) (moves (passed-fits m program lent passed)))
 
   pub issue-passes : Meets program m issue w said u v [] → validateOf u program lent ≡ 0
-  unfolding respond
+  unfolding Over.respond
   issue-passes meets = keeps issue [] meets (issue-fits program lent (plain m) w)
 
   pub execute-passes : (p : ℕ) → Meets program m (execute p) w said u v [] → validateOf u program lent ≡ 0
-  unfolding respond
+  unfolding Over.respond
   execute-passes p meets = keeps (execute p) [] meets (λ fit. execute-fits program lent (plain m) w fit p)
 
   pub commit-passes : Meets program m commit w said u v [] → validateOf u program lent ≡ 0
-  unfolding respond
+  unfolding Over.respond
   commit-passes meets = keeps commit [] meets (commit-fits program lent (plain m) w)

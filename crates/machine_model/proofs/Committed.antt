@@ -30,7 +30,8 @@ use Rattle.machine_model.specs.declared.Entry.{Entry}
 use Rattle.machine_model.specs.declared.Machine.{Machine}
 use Rattle.machine_model.specs.Program.{codeOf, kind}
 use Rattle.machine_model.specs.Window.{blankEntry, entryAt, addressBy, misaligned, reference}
-use Rattle.machine_model.specs.Calls.{commit, waits, valueBy, answerBy, registersAfter, target, committedSays, committing}
+use Rattle.machine_model.specs.Over
+use Rattle.machine_model.specs.Calls.{commit, pending, valueBy, answerBy, registersAfter, target, committedSays, committing}
 use Rattle.machine_model.specs.Calls.{respond}
 use Rattle.machine_model.specs.Contract.{plain, agree, Meets}
 use Rattle.machine_model.specs.computed.Parts.{entriesOf, markWith}
@@ -63,15 +64,15 @@ module _ (program : List ℕ) (m : Machine) (w : List ℕ) (passed : Passed m pr
   abbrev number : ℕ
   number =
       let e = entryAt (plain m .entries) 0 in
-      four (length (plain m .entries)) (waits (e .fate)) (faults (m .table .words) (reference e)) (misaligned e)
+      four (length (plain m .entries)) (pending (e .fate)) (faults (m .table .words) (reference e)) (misaligned e)
 
   commit-responds : respond program commit (plain m) w ≡ judged number (plain m) w [] (committing (plain m) w)
-  unfolding respond
+  unfolding Over.respond
   commit-responds =
       let e = entryAt (plain m .entries) 0 in
       ap (λ (k : ℕ). judged k (plain m) w [] (committing (plain m) w))
       (passed-lent m program w passed
-      (when (eqb (length (plain m .entries)) 0) 11 ∷ when (waits (e .fate)) 12
+      (when (eqb (length (plain m .entries)) 0) 11 ∷ when (pending (e .fate)) 12
       ∷ when (faults (m .table .words) (reference e)) 13
       ∷ when (misaligned e) 14
       ∷ []))
@@ -94,17 +95,17 @@ module _ (program : List ℕ) (m : Machine) (w : List ℕ) (passed : Passed m pr
     oldest-entry = entry-at m 0 some ∙ ap (λ (s : ℕ). getD (m .window) s blankEntry) zeroth
 
     number-is : number
-        ≡ cond (waits (own .fate)) 12 (cond (faults (m .table .words) (reference own)) 13 (cond (misaligned own) 14 0))
+        ≡ cond (pending (own .fate)) 12 (cond (faults (m .table .words) (reference own)) 13 (cond (misaligned own) 14 0))
     number-is =
         ap₂
         (λ (b : Bool) (e : Entry).
         cond b 11
-        (cond (waits (e .fate)) 12 (cond (faults (m .table .words) (reference e)) 13 (cond (misaligned e) 14 0))))
+        (cond (pending (e .fate)) 12 (cond (faults (m .table .words) (reference e)) 13 (cond (misaligned e) 14 0))))
         (ap (λ (k : ℕ). eqb k 0) (length-entries m) ∙ ne-eqb (m .table .live) 0 (λ e. omega arith))
         oldest-entry
 
     -- refusal 12: the oldest waits
-    pub waiting-refused : waits (own .fate) ≡ true → Meets program m commit w (refused 12) m w []
+    pub waiting-refused : pending (own .fate) ≡ true → Meets program m commit w (refused 12) m w []
     waiting-refused e = turned-down 12 (number-is ∙ rw e) (λ z. omega arith)
 
     agreed : agree (reference own) (fateOf (at (view (m .table) .refs) 0)) ≡ true
@@ -113,14 +114,14 @@ module _ (program : List ℕ) (m : Machine) (w : List ℕ) (passed : Passed m pr
         ∙ passed .sound .agrees 0 some
 
     -- an oldest entry that does not wait has executed in the table too
-    executed-too : waits (own .fate) ≡ false → hasExecuted (fateOf (at (view (m .table) .refs) 0)) ≡ true
+    executed-too : pending (own .fate) ≡ false → hasExecuted (fateOf (at (view (m .table) .refs) 0)) ≡ true
     executed-too done =
         executed-by (fateOf (at (view (m .table) .refs) 0))
         ∙ ap (λ (k : ℕ). not (eqb k 4)) (sym (agree-both (reference own) (fateOf (at (view (m .table) .refs) 0)) agreed .0))
         ∙ sym (executed-by (reference own))
         ∙ not-false (hasExecuted (reference own)) (sym (waits-executed (own .instruction) (own .fate)) ∙ done)
 
-    module _ (done : waits (own .fate) ≡ false) where
+    module _ (done : pending (own .fate) ≡ false) where
       -- what its entry and the table's word tell of its mark is what its reference's fate says
       mark-told : markWith (reference own) (value (m .table) (m .table .oldest)) ≡ markBy (fateOf (at (view (m .table) .refs) 0))
       mark-told =

@@ -22,7 +22,7 @@ use Rattle.machine_model.specs.declared.Fate.{Fate}
 use Rattle.machine_model.specs.declared.Fate.the-variants.{Waiting, Executed}
 use Rattle.machine_model.specs.Program.{codeOf, kind}
 use Rattle.machine_model.specs.Window.{accessBy, referenceBy, untold}
-use Rattle.machine_model.specs.Calls.{waits}
+use Rattle.machine_model.specs.Calls.{pending}
 use Rattle.machine_model.specs.Contract.{markKind, kindOf, placeOf, agree}
 use Rattle.machine_model.specs.computed.Parts.{kindBy, placeBy, markWith}
 
@@ -77,7 +77,7 @@ access-executed Storing v a = refl
 access-executed Merging v a = refl
 
 -- an entry waits where what it is to the buffer has not executed
-pub waits-executed : (i : Instruction) (f : Fate) → waits f ≡ not (hasExecuted (referenceBy untold i f))
+pub waits-executed : (i : Instruction) (f : Fate) → pending f ≡ not (hasExecuted (referenceBy untold i f))
 waits-executed i Waiting = refl
 waits-executed i (Executed v a) = ap not (sym (access-executed (kind i) v a))
 

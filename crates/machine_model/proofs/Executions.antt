@@ -57,11 +57,12 @@ use Rattle.machine_model.specs.Window.{
   with₂,
   evaluate,
 }
+use Rattle.machine_model.specs.Over
 use Rattle.machine_model.specs.Calls.{
   Plain,
   execute,
   Result,
-  waits,
+  pending,
   evaluated,
   known,
   unknown,
@@ -80,7 +81,7 @@ use Rattle.machine_model.proofs.Answering.{Passed, passed-lent, refused
 
 -- ---- fates
 
-pub waits-waiting : (i : Instruction) (f : Fate) → waits f ≡ true → referenceBy untold i f ≡ waiting
+pub waits-waiting : (i : Instruction) (f : Fate) → pending f ≡ true → referenceBy untold i f ≡ waiting
 waits-waiting i Waiting e = refl
 waits-waiting i (Executed v a) e = absurd (let z : _≡_ {A = ℕ} 0 1 = cc in omega arith)
 
@@ -132,7 +133,7 @@ module _ (m : Machine) (program w : List ℕ) (p : ℕ) (passed : Passed m progr
   absent = leb (length (now .entries)) p
 
   abbrev done : Bool
-  done = not (waits (entryAt (now .entries) p .fate))
+  done = not (pending (entryAt (now .entries) p .fate))
 
   abbrev stuck : Option Fate → Bool
   stuck o = eqb (survivorsOf now w p (known o)) 0
@@ -142,7 +143,7 @@ module _ (m : Machine) (program w : List ℕ) (p : ℕ) (passed : Passed m progr
       judged (number absent done (unknown o) (stuck o)) now w [] (executing now w p (known o) (survivorsOf now w p (known o)))
 
   past-validate : respond program (execute p) now w ≡ result (evaluated now w p)
-  unfolding respond
+  unfolding Over.respond
   past-validate =
       let o = evaluated now w p in
       ap (λ (k : ℕ). judged k now w [] (executing now w p (known o) (survivorsOf now w p (known o))))
@@ -170,15 +171,15 @@ module _ (m : Machine) (program w : List ℕ) (p : ℕ) (passed : Passed m progr
     is-live = lt-leb (length (now .entries)) p (omega (arith, length-entries m))
 
     -- refusal 8: the entry has executed
-    pub executed-refused : waits (own .fate) ≡ false → Meets program m (execute p) w (refused 8) m w []
+    pub executed-refused : pending (own .fate) ≡ false → Meets program m (execute p) w (refused 8) m w []
     executed-refused e =
         turned-down 8 (λ f. omega arith)
         (number-done absent done (unknown (evaluated now w p)) (stuck (evaluated now w p)) is-live
-        (ap (λ (x : Entry). not (waits (x .fate))) here ∙ ap not e))
+        (ap (λ (x : Entry). not (pending (x .fate))) here ∙ ap not e))
 
-    module _ (idle : waits (own .fate) ≡ true) where
+    module _ (idle : pending (own .fate) ≡ true) where
       still : done ≡ false
-      still = ap (λ (x : Entry). not (waits (x .fate))) here ∙ ap not idle
+      still = ap (λ (x : Entry). not (pending (x .fate))) here ∙ ap not idle
 
       coming-is : evaluated now w p ≡ evaluate (own .instruction) registersSeen memorySeen
       coming-is =

@@ -40,7 +40,7 @@ use Rattle.machine_model.specs.declared.Machine.{Machine}
 use Rattle.engine.specs.declared.Effect.{Effect}
 use Rattle.machine_model.specs.declared.Squashed.the-variants as squashed
 use Rattle.machine_model.specs.Window.{blankEntry, addressBy, misaligned, registerSeen, reference}
-use Rattle.machine_model.specs.Calls.{Plain, issue, execute, commit, matchesProgram, waits, valueBy, writing}
+use Rattle.machine_model.specs.Calls.{Plain, issue, execute, commit, matchesProgram, pending, valueBy, writing}
 use Rattle.machine_model.specs.Calls.{answerBy, registersAfter, target, begun, ready}
 use Rattle.machine_model.specs.Contract.{squashSays, entryOf, plain, agree, Meets}
 use Rattle.machine_model.specs.computed.Parts.{actionOf, second, markWith}
@@ -186,7 +186,7 @@ module _ {program : List ℕ} {m : Machine} {w : List ℕ} {Y : Plain} {b : Mach
 -- prepared for its commit: the oldest has executed
 pub record Prepared (program : List ℕ) (m : Machine) (w : List ℕ) (u : Machine) : Type 0 where
   pub along : Along program m w (ready program (plain m) w) u
-  pub executed : waits (getD (u .window) (u .table .oldest) blankEntry .fate) ≡ false
+  pub executed : pending (getD (u .window) (u .table .oldest) blankEntry .fate) ≡ false
 
 -- the machine after the oldest, at stage o, took its course
 abbrev took : Machine → ℕ → Effect → ℕ → List ℕ → List ℕ → List ℕ → List ℕ → List ℕ → ℕ → Machine
@@ -240,10 +240,10 @@ module _ {program : List ℕ} {m : Machine} {w : List ℕ} {b : Machine}
   at-oldest : getD (b .window) (t .oldest) blankEntry ≡ own
   at-oldest = ap (λ (s : ℕ). getD (b .window) s blankEntry) (along .oldest)
 
-  pub ready-kept : waits (own .fate) ≡ false → (u : Machine) → u ≡ b → Prepared program m w u
+  pub ready-kept : pending (own .fate) ≡ false → (u : Machine) → u ≡ b → Prepared program m w u
   ready-kept done u e =
-      let is : waits (getD (b .window) (t .oldest) blankEntry .fate) ≡ false =
-      ap (λ (x : Entry). waits (x .fate)) at-oldest ∙ done in
+      let is : pending (getD (b .window) (t .oldest) blankEntry .fate) ≡ false =
+      ap (λ (x : Entry). pending (x .fate)) at-oldest ∙ done in
       subst (Prepared program m w) (sym e)
       (record {
         along = record {
@@ -263,13 +263,13 @@ module _ {program : List ℕ} {m : Machine} {w : List ℕ} {b : Machine}
       (ap (λ (s : ℕ). matchesProgram program (b .count) (getD (b .window) s blankEntry)) (sym here)
       ∙ passed-here .alike 0 (along .some))
 
-  module _ (idle : waits (own .fate) ≡ true) {x y : ℕ} (hx : x ≡ getD (b .registers) (sOf (own .instruction)) 0)
+  module _ (idle : pending (own .fate) ≡ true) {x y : ℕ} (hx : x ≡ getD (b .registers) (sOf (own .instruction)) 0)
       (hy : y ≡ getD (b .registers) (second (own .instruction)) 0) {act : Action}
       (ha : act ≡ actionOf (own .instruction) x y) {q : Effect}
       (hq : q
       ≡ effectOf (t .banks) (t .rows) n o (t .live) (t .addresses) (t .loads) (t .stores) (t .values) (t .taken) 0 w act) where
-    idle-here : waits (entryOf b 0 .fate) ≡ true
-    idle-here = ap (λ (s : ℕ). waits (getD (b .window) s blankEntry .fate)) here ∙ idle
+    idle-here : pending (entryOf b 0 .fate) ≡ true
+    idle-here = ap (λ (s : ℕ). pending (getD (b .window) s blankEntry .fate)) here ∙ idle
 
     -- at position 0 the operands are the committed registers
     asks : asked b program w 0 passed-here ≡ some act
@@ -374,7 +374,7 @@ module _ {program : List ℕ} {m : Machine} {w : List ℕ} {b : Machine}
               passes = execute-passes b taken program (length w) (along .passes) w w _ 0 taken-meets;
               is =
                   ready-waiting program m b w (passed-here .sound) (along .some) (along .is) taken _
-                  (ap (λ (x : Entry). waits (x .fate)) at-oldest ∙ idle)
+                  (ap (λ (x : Entry). pending (x .fate)) at-oldest ∙ idle)
                   taken-meets;
               some = taken-bounds .0;
               oldest = along .oldest;
@@ -382,8 +382,8 @@ module _ {program : List ℕ} {m : Machine} {w : List ℕ} {b : Machine}
               sized = taken-sized;
             };
             executed =
-                ap (λ (s : ℕ). waits (getD (taken .window) s blankEntry .fate)) (along .oldest)
-                ∙ ap (λ (x : Entry). waits (x .fate)) (getD-set-same (b .window) o _ blankEntry window-holds);
+                ap (λ (s : ℕ). pending (getD (taken .window) s blankEntry .fate)) (along .oldest)
+                ∙ ap (λ (x : Entry). pending (x .fate)) (getD-set-same (b .window) o _ blankEntry window-holds);
           })
 
 -- ---- committed

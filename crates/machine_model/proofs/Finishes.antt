@@ -16,6 +16,7 @@ use borrow.Author.Tests.{lt-ltb, le-ltb}
 use Rattle.engine.specs.Contract.{refused, committed, finished}
 use Rattle.engine.specs.Conditions.{refusal}
 use Rattle.machine_model.specs.declared.Machine.{Machine}
+use Rattle.machine_model.specs.Over
 use Rattle.machine_model.specs.Calls.{Plain, commit, finish, Answer, Result, finishChecks, commits, ready, programDone}
 use Rattle.machine_model.specs.Calls.{Drain, perCommit, afterCommit, continueOn, drainStopped, finishes, drained, respond}
 use Rattle.machine_model.specs.Contract.{plain, Sound, Meets}
@@ -36,14 +37,14 @@ turning program j places w Y =
 
 stops : (program : List ℕ) (j places : ℕ) (X : Plain) (w : List ℕ) → (ltb places perCommit || programDone X) ≡ true
     → finishes program j places X w ≡ drainStopped X w
-unfolding finishes
+unfolding Over.finishes
 stops program zero places X w e = refl
 stops program (suc j) places X w e =
     ap (λ (b : Bool). cond b (drainStopped X w) (turning program j places w (ready program X w))) e
 
 module _ (program : List ℕ) (j places : ℕ) (X : Plain) (w : List ℕ) where
   pub finishes-limit : j ≡ 0 → finishes program j places X w ≡ drainStopped X w
-  unfolding finishes
+  unfolding Over.finishes
   finishes-limit e = ap (λ (k : ℕ). finishes program k places X w) e
 
   pub finishes-short : places < perCommit → finishes program j places X w ≡ drainStopped X w
@@ -59,7 +60,7 @@ module _ (program : List ℕ) (j places : ℕ) (X : Plain) (w : List ℕ) where
 turns : (program : List ℕ) (k n places : ℕ) (X : Plain) (w : List ℕ) (Y : Plain) → n < k → perCommit ≤ places
     → programDone X ≡ false
     → Y ≡ ready program X w → finishes program (k - n) places X w ≡ turning program (k - (n + 1)) places w Y
-unfolding finishes
+unfolding Over.finishes
 turns program k n places X w Y h room more e =
     ap (λ (j : ℕ). finishes program j places X w) (let j : k - n ≡ suc (k - (n + 1)) = omega arith in j)
     ∙ ap (λ (b : Bool). cond b (drainStopped X w) (turning program (k - (n + 1)) places w (ready program X w)))
@@ -78,7 +79,7 @@ module _ (program : List ℕ) (m p u : Machine) (w v : List ℕ) (k n places : �
   -- its commit is refused: all stays as the preparation left it
   pub turn-stops : (said : Answer) (r : ℕ) → said ≡ refused r → Meets program p commit w said u v []
       → finishes program (k - n) places (plain m) w ≡ drainStopped (plain u) v
-  unfolding respond
+  unfolding Over.respond
   turn-stops said r is meets =
       let answer : commits program (plain p) w .answer ≡ refused r = sym (meets .answer sound) ∙ is in
       let kept = meets .refuses sound r answer in
@@ -90,7 +91,7 @@ module _ (program : List ℕ) (m p u : Machine) (w v : List ℕ) (k n places : �
   pub turn-goes : (said : Answer) (i c r x d : ℕ) → said ≡ committed i c r x d → Meets program p commit w said u v []
       → finishes program (k - n) places (plain m) w
       ≡ afterCommit i c r x d (finishes program (k - (n + 1)) (places - perCommit) (plain u) v)
-  unfolding respond
+  unfolding Over.respond
   turn-goes said i c r x d is meets =
       turns program k n places (plain m) w (plain p) h room more prepared
       ∙ ap answering (sym (meets .answer sound) ∙ is)
@@ -191,7 +192,7 @@ pub remains-meets : (program : List ℕ) (k : ℕ) (m s u : Machine) (w list v z
     → Passed m program (length w) → Remains program k (plain m) w list (plain s) v into n
     → finishes program (k - n) (length list - n * perCommit) (plain s) v ≡ drainStopped (plain u) z → Sound u
     → Meets program m (finish k list) w (finished n) u z into
-unfolding respond
+unfolding Over.respond
 remains-meets program k m s u w list v z into n passed remains e sound =
     accepted-meets program m (finish k list) w u z into (finished n)
     (record { answer = finished n; state = plain u; memory = z; list = into })

@@ -28,6 +28,7 @@ use Rattle.engine.specs.Conditions.{when, refusal}
 use Rattle.machine_model.specs.declared.Entry.{Entry}
 use Rattle.machine_model.specs.declared.Machine.{Machine}
 use Rattle.machine_model.specs.Window.{entryAt}
+use Rattle.machine_model.specs.Over
 use Rattle.machine_model.specs.Calls.{issue, squash, newEntry, issueChecks, issuing, squashing, refetchIndex, respond}
 use Rattle.machine_model.specs.Contract.{entryOf, plain, Meets}
 use Rattle.machine_model.specs.computed.Parts.{entriesOf}
@@ -59,7 +60,7 @@ module _ (program : List ℕ) (m : Machine) (passed : Passed m program (m .table
   -- what the definition says, by that number
   issue-responds : (k : ℕ) → refusal (issueChecks program (plain m)) ≡ k
       → respond program issue (plain m) w ≡ judged k (plain m) w [] (issuing program (plain m) w)
-  unfolding respond
+  unfolding Over.respond
   issue-responds k e = ap (λ (j : ℕ). judged j (plain m) w [] (issuing program (plain m) w)) e
 
   pub issue-full : m .table .live ≡ m .table .stages → Meets program m issue w (refused 5) m w []
@@ -123,7 +124,7 @@ squashedOver m p =
 module _ (program : List ℕ) (m : Machine) (passed : Passed m program (m .table .words)) (w : List ℕ) (p : ℕ) where
   squash-responds : (b : Bool) → leb (m .table .live) p ≡ b
       → respond program (squash p) (plain m) w ≡ judged (cond b 7 0) (plain m) w [] (squashing (plain m) w p)
-  unfolding respond
+  unfolding Over.respond
   squash-responds b e =
       ap (λ (k : ℕ). judged k (plain m) w [] (squashing (plain m) w p))
       (passed .checks (when (leb (length (plain m .entries)) p) 7 ∷ [])

@@ -18,7 +18,8 @@ use Rattle.lookup.proofs.Firsts.{never-stalls}
 use Rattle.machine_model.specs.declared.Entry.{Entry}
 use Rattle.machine_model.specs.declared.Machine.{Machine}
 use Rattle.machine_model.specs.Window.{blankEntry, entryAt}
-use Rattle.machine_model.specs.Calls.{Plain, issue, execute, Answer, waits, issueResult, executions, begun, ready, respond}
+use Rattle.machine_model.specs.Over
+use Rattle.machine_model.specs.Calls.{Plain, issue, execute, Answer, pending, issueResult, executions, begun, ready, respond}
 use Rattle.machine_model.specs.Contract.{plain, Sound, Meets}
 use Rattle.machine_model.proofs.Sounding.{length-entries, entry-at}
 
@@ -33,7 +34,7 @@ module _ (program : List ℕ) (m : Machine) (w : List ℕ) where
 
   pub begun-empty : (u : Machine) (said : Answer) → m .table .live ≡ 0 → Sound m → Meets program m issue w said u w []
       → plain u ≡ begun program (plain m) w
-  unfolding respond
+  unfolding Over.respond
   begun-empty u said h sound meets =
       meets .state sound
       ∙ sym
@@ -69,23 +70,23 @@ oldest-leaves P rows live w (accessed a l s) z = go (touched a (P .refs)) s z
 
 -- what ready comes to from the state begun
 abbrev readied : List ℕ → List ℕ → Plain → Plain
-readied program w Y = cond (waits (entryAt (Y .entries) 0 .fate)) (executions program Y w 0 .state) Y
+readied program w Y = cond (pending (entryAt (Y .entries) 0 .fate)) (executions program Y w 0 .state) Y
 
 module _ (program : List ℕ) (m b : Machine) (w : List ℕ) (sound : Sound b) (some : 0 < b .table .live)
     (begins : plain b ≡ begun program (plain m) w) where
-  by-oldest : (t : Bool) → waits (getD (b .window) (b .table .oldest) blankEntry .fate) ≡ t
+  by-oldest : (t : Bool) → pending (getD (b .window) (b .table .oldest) blankEntry .fate) ≡ t
       → cond t (executions program (plain b) w 0 .state) (plain b) ≡ ready program (plain m) w
   by-oldest t h =
       sym
       (ap (λ (x : Bool). cond x (executions program (plain b) w 0 .state) (plain b))
-      (ap (λ (x : Entry). waits (x .fate)) (oldest-entry b sound some) ∙ h))
+      (ap (λ (x : Entry). pending (x .fate)) (oldest-entry b sound some) ∙ h))
       ∙ ap (readied program w) begins
 
-  pub ready-waiting : (u : Machine) (said : Answer) → waits (getD (b .window) (b .table .oldest) blankEntry .fate) ≡ true
+  pub ready-waiting : (u : Machine) (said : Answer) → pending (getD (b .window) (b .table .oldest) blankEntry .fate) ≡ true
       → Meets program b (execute 0) w said u w [] → plain u ≡ ready program (plain m) w
-  unfolding respond
+  unfolding Over.respond
   ready-waiting u said h meets = meets .state sound ∙ by-oldest true h
 
-  pub ready-executed : waits (getD (b .window) (b .table .oldest) blankEntry .fate) ≡ false
+  pub ready-executed : pending (getD (b .window) (b .table .oldest) blankEntry .fate) ≡ false
       → plain b ≡ ready program (plain m) w
   ready-executed h = by-oldest false h

@@ -19,7 +19,7 @@ use Rattle.machine_model.specs.declared.Entry.{Entry}
 use Rattle.machine_model.specs.declared.Machine.{Machine}
 use Rattle.machine_model.specs.Program.{instructionAt}
 use Rattle.machine_model.specs.Window.{blankEntry, entryAt}
-use Rattle.machine_model.specs.Calls.{Plain, Call, issue, execute, squash, commit, finish, Answer, checksOf}
+use Rattle.machine_model.specs.Calls.{buffered, Plain, Call, issue, execute, squash, commit, finish, Answer, checksOf}
 use Rattle.machine_model.specs.Calls.{newEntry, evaluated, known, survivorsOf}
 use Rattle.machine_model.specs.Contract.{plain, Sound, Meets}
 use Rattle.machine_model.proofs.Sounding.{sound-or}
@@ -53,7 +53,7 @@ pub data SquashesFrom (k : ℕ) : Call → Answer → Type 0 where
 module _ (program : List ℕ) (m : Machine) (w : List ℕ) where
   -- an accepted call of these leaves the next instruction
   accepted-quiet : (c : Call) {said : Answer} {u : Machine} {v kept : List ℕ}
-      → Comes Sound plain m (checksOf program c (plain m) w) (accepted program c (plain m) w) said u v kept → Quietly said
+      → Comes Sound plain m (checksOf program c (plain m) w) (accepted buffered program c (plain m) w) said u v kept → Quietly said
       → u .next ≡ m .next
   accepted-quiet issue came quiet = absurd (subst Quietly (came .answer) quiet)
   accepted-quiet (execute p) {said} {u} came quiet =

@@ -22,7 +22,7 @@ use Rattle.machine_model.specs.declared.Fate.the-variants.{Waiting, Exec
 use Rattle.machine_model.specs.declared.Entry.{Entry}
 use Rattle.machine_model.specs.Window.{blankEntry, entryAt, writesTo, valueOf, registerSeen, with₂, evaluate}
 use Rattle.machine_model.specs.Program.{codeOf, kind, sum}
-use Rattle.machine_model.specs.Calls.{Plain, waits, evaluated, unknown, answerBy, loadDistance}
+use Rattle.machine_model.specs.Calls.{Plain, pending, evaluated, unknown, answerBy, loadDistance}
 use Rattle.machine_model.proofs.Operands.{register-snoc}
 
 -- one more older entry
@@ -84,13 +84,13 @@ pub record WriterWaits (es : List Entry) (p k : ℕ) : Type 0 where
   pub older : writer < p
   pub writes : writesTo (entryAt es writer .instruction) k ≡ true
   pub nearest : (j : ℕ) → writer < j → j < p → writesTo (entryAt es j .instruction) k ≡ false
-  pub idle : waits (entryAt es writer .fate) ≡ true
+  pub idle : pending (entryAt es writer .fate) ≡ true
 
-valueless : (f : Fate) → valueOf f ≡ none → waits f ≡ true
+valueless : (f : Fate) → valueOf f ≡ none → pending f ≡ true
 valueless Waiting e = refl
 valueless (Executed v a) e = absurd (let z : _≡_ {A = ℕ} 0 1 = cc in omega arith)
 
-waits-valueless : (f : Fate) → waits f ≡ true → valueOf f ≡ none
+waits-valueless : (f : Fate) → pending f ≡ true → valueOf f ≡ none
 waits-valueless Waiting e = refl
 waits-valueless (Executed v a) e = absurd (let z : _≡_ {A = ℕ} 0 1 = cc in omega arith)
 

@@ -11,6 +11,7 @@ use Rattle.lookup.specs.Violation.{keptYounger}
 use Rattle.lookup.specs.Rows.{touched}
 use Rattle.machine_model.specs.Program.{programFits}
 use Rattle.machine_model.specs.Window.{registerSeen}
+use Rattle.machine_model.specs.Over
 use Rattle.machine_model.specs.Calls.{finishes, respond}
 use Rattle.machine_model.specs.Examples.{Example, toldBy, seenOf, AllShown, told, played, examples}
 use Rattle.machine_model.specs.Examples.{openings, refusals, unlikes, runs, parts, distances, sameWords, numberings}
@@ -22,6 +23,6 @@ each [] h = tt
 each (e ∷ rows) h = (cc, each rows cc)
 
 pub shown : AllShown examples
-unfolding openings refusals unlikes runs parts distances sameWords numberings damaged told played respond finishes seen distance
+unfolding openings refusals unlikes runs parts distances sameWords numberings damaged told played Over.respond Over.finishes seen distance
     keptYounger touched every count last home bank sizesFit programFits registerSeen
 shown = each examples refl

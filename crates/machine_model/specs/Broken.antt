@@ -15,7 +15,7 @@ use Rattle.machine_model.specs.declared.Fate.the-variants.{Waiting, Exec
 use Rattle.machine_model.specs.declared.Entry.{Entry}
 use Rattle.machine_model.specs.declared.Machine.{Machine}
 use Rattle.machine_model.specs.Window.{blankEntry}
-use Rattle.machine_model.specs.Calls.{Call, lentTo, Answer}
+use Rattle.machine_model.specs.Calls.{Call, lentTo, Answer, banked}
 use Rattle.machine_model.specs.Contract.{Sound, Meets, freshMachine}
 
 -- whatever call is made on it is refused with 2, and everything comes back as it was passed
@@ -118,7 +118,7 @@ unfoldable pub cases : List Case
 cases =
     sound (windowed entries)
     -- what a refused opening hands back; sizes outside their limits
-    ∷ broken (freshMachine 0 0 0 0 0)
+    ∷ broken (freshMachine (banked 0 0 0 0) 0)
     ∷ sound (bare 1 1 1 1 0) ∷ sound (bare 8 8 16 4096 15)
     ∷ broken (bare 0 1 1 1 0) ∷ broken (bare 3 1 1 1 0) ∷ broken (bare 1 0 1 1 0) ∷ broken (bare 1 9 1 1 0)
     ∷ broken (bare 1 1 17 1 0) ∷ broken (bare 1 1 1 0 0) ∷ broken (bare 1 1 1 4097 0)

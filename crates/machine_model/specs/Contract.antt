@@ -8,14 +8,14 @@ use Prim.Native.Nat.{ℕ, _/_, _<_}
 use lib.Dec.{eqb}
 use lib.ListN.{length, getD, replicate}
 use Rattle.table.specs.declared.Table.{Table}
+use Rattle.table.specs.Limits.{stagesMost}
 use Rattle.table.specs.Reference
 use Rattle.table.specs.Reference.{Side, lacks, holds, waiting, other, accessed, fateOf, at}
 use Rattle.table.specs.View.{stageOf, tabulate, view}
 use Rattle.table.specs.Rules.{Rules}
 use Rattle.engine.specs.Conditions.{refusal}
-use Rattle.engine.specs.Contract
 use Rattle.engine.specs.Contract.{refused, done, named, executed, committed, finished}
-use Rattle.engine.specs.Opening
+use Rattle.engine.specs.Opening.{fresh}
 use Rattle.machine_model.specs.declared.Entry.{Entry}
 use Rattle.machine_model.specs.declared.Machine.{Machine}
 use Rattle.machine_model.specs.declared.Squashed.{Squashed}
@@ -31,7 +31,10 @@ use Rattle.machine_model.specs.declared.CommitAnswer.the-variants as com
 use Rattle.machine_model.specs.declared.FinishAnswer.{FinishAnswer}
 use Rattle.machine_model.specs.declared.FinishAnswer.the-variants as finish-answer
 use Rattle.machine_model.specs.Window.{blankEntry, reference}
-use Rattle.machine_model.specs.Calls.{Plain, Call, lentTo, Answer, respond, openChecks, opened}
+use Rattle.machine_model.specs.Program.{perInstruction, registersMost}
+use Rattle.machine_model.specs.Over
+use Rattle.machine_model.specs.Over.{Realization}
+use Rattle.machine_model.specs.Calls.{Opening, banked, buffered, Plain, Call, Answer, openChecks, opened}
 
 -- 01's numbers and values for each case of the code's answers
 
@@ -101,26 +104,34 @@ pub record Sound (m : Machine) : Type 0 where
   pub rules : Rules (m .table)
   pub agrees : (p : ℕ) → p < m .table .live → agree (reference (entryOf m p)) (fateOf (at (view (m .table) .refs) p)) ≡ true
 
+-- the machine over the buffer's table
+abbrev pub tabled : Realization buffered
+tabled = record { Machine = Machine; Sound = Sound; plain = plain }
+
 -- The call c with this program on machine m and memory w said `said` and handed back machine u, memory v and the list as
 -- `kept`. As in the buffer, of an accepted call u may be any machine with this plain state that is sound: free is what
 -- specs/Same.antt leaves out, a row's place in its bank, words without their mark, and what stands where nothing is live.
 abbrev pub Meets : List ℕ → Machine → Call → List ℕ → Answer → Machine → List ℕ → List ℕ → Type 0
-Meets program m c w said u v kept = Contract.Meets Sound plain m (respond program c (plain m) w) w (lentTo c) said u v kept
+Meets = Over.Meets tabled
 
 -- a machine of this number of instructions over this table, with nothing in its window
 abbrev pub emptyMachine : Table → ℕ → Machine
 emptyMachine table count =
-    record { table = table; window = replicate 16 blankEntry; registers = replicate 8 0; count = count; next = 0 }
+    record {
+      table = table;
+      window = replicate stagesMost blankEntry;
+      registers = replicate registersMost 0;
+      count = count;
+      next = 0;
+    }
 
-abbrev pub freshMachine : ℕ → ℕ → ℕ → ℕ → ℕ → Machine
-freshMachine banks rows stages words count = emptyMachine (Opening.fresh banks rows stages words) count
+abbrev pub freshMachine : Opening → ℕ → Machine
+freshMachine (banked banks rows stages words) count = emptyMachine (fresh banks rows stages words) count
 
 -- An opening said `said` and handed back machine u. A refused opening hands back a machine without stages, on which every call
 -- is refused with 2.
-pub record Opens (banks rows stages words : ℕ) (program w : List ℕ) (said : Answer) (u : Machine) : Type 0 where
-  pub refuses : (k : ℕ) → (k ≡ 0 → ⊥) → refusal (openChecks banks rows stages words program w) ≡ k
-      → (said ≡ refused k) × (u ≡ freshMachine 0 0 0 0 0)
-  pub opens : refusal (openChecks banks rows stages words program w) ≡ 0
-      → (said ≡ done) × (u ≡ freshMachine banks rows stages words (length program / 4))
-  pub state : refusal (openChecks banks rows stages words program w) ≡ 0
-      → Sound u × (plain u ≡ opened banks rows stages words program)
+pub record Opens (o : Opening) (program w : List ℕ) (said : Answer) (u : Machine) : Type 0 where
+  pub refuses : (k : ℕ) → (k ≡ 0 → ⊥) → refusal (openChecks o program w) ≡ k
+      → (said ≡ refused k) × (u ≡ freshMachine (banked 0 0 0 0) 0)
+  pub opens : refusal (openChecks o program w) ≡ 0 → (said ≡ done) × (u ≡ freshMachine o (length program / perInstruction))
+  pub state : refusal (openChecks o program w) ≡ 0 → Sound u × (plain u ≡ opened o program)

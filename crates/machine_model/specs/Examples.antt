@@ -24,7 +24,7 @@ use Rattle.machine_model.specs.declared.Entry.{Entry}
 use Rattle.machine_model.specs.Program.{instructionAt, sOf}
 use Rattle.machine_model.specs.Window.{blankEntry, reference}
 use Rattle.machine_model.specs.Calls.{Plain, Call, issue, execute, squash, commit, finish, lentTo, Answer, respond}
-use Rattle.machine_model.specs.Calls.{openChecks, opened}
+use Rattle.machine_model.specs.Calls.{Opening, banked, openChecks, opened}
 
 -- A call and its answer, a list lent to it coming back as it was; a finish with its limit and list, its answer, and the list
 -- as it left it; the committed registers and the memory; the next issue number and those of the live references, oldest first.
@@ -39,10 +39,7 @@ pub data Step : Type 0 where
   damage : (Plain → Plain) → Step
 
 pub record Example : Type 0 where
-  pub banks : ℕ
-  pub rows : ℕ
-  pub stages : ℕ
-  pub words : ℕ
+  pub opening : Opening
   pub program : List ℕ
   pub memory : List ℕ
   pub answer : Answer
@@ -85,9 +82,8 @@ toldBy e = says (e .answer) [] ∷ told (e .steps)
 
 abbrev pub seenOf : Example → List Sight
 seenOf e =
-    let k = refusal (openChecks (e .banks) (e .rows) (e .stages) (e .words) (e .program) (e .memory)) in
-    cond (eqb k 0)
-    (says done [] ∷ played (e .program) (opened (e .banks) (e .rows) (e .stages) (e .words) (e .program)) (e .memory) (e .steps))
+    let k = refusal (openChecks (e .opening) (e .program) (e .memory)) in
+    cond (eqb k 0) (says done [] ∷ played (e .program) (opened (e .opening) (e .program)) (e .memory) (e .steps))
     (says (refused k) [] ∷ [])
 
 -- each row of a table comes out
@@ -118,16 +114,7 @@ H d s imm = 6 ∷ d ∷ s ∷ imm ∷ []
 
 abbrev pub row : ℕ → ℕ → ℕ → ℕ → List ℕ → List ℕ → Answer → List Step → Example
 row banks R n W program memory answer steps =
-    record {
-      banks = banks;
-      rows = R;
-      stages = n;
-      words = W;
-      program = program;
-      memory = memory;
-      answer = answer;
-      steps = steps;
-    }
+    record { opening = banked banks R n W; program = program; memory = memory; answer = answer; steps = steps }
 
 -- an opening alone; one with these sizes and no program; one of the smallest sizes with this program
 abbrev pub opens : ℕ → ℕ → ℕ → ℕ → List ℕ → List ℕ → Answer → Example

@@ -2,6 +2,7 @@
 -- examples and broken machines.
 pub mod Program
 pub mod Window
+pub mod Over
 pub mod Calls
 pub mod Contract
 pub mod Same

@@ -1,6 +1,6 @@
 -- The window of the machine over plain lists: operands, what an instruction comes to, and what a commit of it changes.
 -- Assumes nothing.
-use mathlib.Core.Bool.{Bool, false, cond, _&&_}
+use mathlib.Core.Bool.{Bool, true, false, cond, _&&_}
 use mathlib.Core.List.{List, [], _∷_}
 use mathlib.Core.Option.{Option, none, some}
 use Prim.Native.Nat.{ℕ, suc, _%_}
@@ -43,6 +43,11 @@ isRegister (some d) k = eqb d k
 -- the instruction writes register k
 abbrev pub writesTo : Instruction → ℕ → Bool
 writesTo i k = isRegister (destination i) k
+
+-- an entry with this fate has not executed yet
+abbrev pub pending : Fate → Bool
+pending Waiting = true
+pending (Executed v a) = false
 
 -- the value of an executed entry; not yet known of a waiting one
 abbrev pub valueOf : Fate → Option ℕ

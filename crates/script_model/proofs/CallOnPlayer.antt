@@ -14,6 +14,7 @@ use borrow.Author.Tests.{lt-ltb}
 use Rattle.engine.specs.Conditions.{refusal}
 use Rattle.engine.specs.Contract.{refused, named, executed, done, committed, finished}
 use Rattle.machine_model.specs.declared.Machine.{Machine}
+use Rattle.machine_model.specs.Over
 use Rattle.machine_model.specs.Calls.{Plain, Call, issue, execute, squash, commit, finish, Answer, Result, perCommit, respond}
 use Rattle.machine_model.specs.Calls.{issueChecks, executeChecks, squashChecks, commitChecks}
 use Rattle.machine_model.specs.Contract.{plain, Sound, Meets}
@@ -72,7 +73,7 @@ by-refusal k r accepted denied = go (eqb k 0) refl
     go false e = denied e
 
 answers-once : (program : List ℕ) (c : Call) (X : Plain) (memory : List ℕ) → Single c → Brief (respond program c X memory)
-unfolding respond
+unfolding Over.respond
 answers-once program issue X memory h =
     by-refusal (refusal (issueChecks program X)) (respond program issue X memory) (λ e. rw e (tt, refl)) (λ e. rw e (tt, refl))
 answers-once program (execute p) X memory h =

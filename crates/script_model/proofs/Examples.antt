@@ -19,6 +19,7 @@ use Rattle.lookup.specs.Violation.{keptYounger}
 use Rattle.lookup.specs.Rows.{touched}
 use Rattle.machine_model.specs.Program.{programFits}
 use Rattle.machine_model.specs.Window.{registerSeen}
+use Rattle.machine_model.specs.Over
 use Rattle.machine_model.specs.Calls.{perCommit, respond, finishes}
 use Rattle.theorem.specs.Play.{play}
 use Rattle.theorem.proofs.Cases.{computing}
@@ -64,7 +65,7 @@ expected =
 
 pub sample-printed : printed sample ≡ expected
 unfolding printed linesFrom codeFrom body steps bytes digits commitLines wordLines sizesFit
-    play respond every programFits seen distance keptYounger touched count last home bank registerSeen
+    play Over.respond every programFits seen distance keptYounger touched count last home bank registerSeen
 sample-printed = refl
 
 -- The same from the sequential run. The statement is of this script, and by it what is printed is the run's record with the
@@ -157,7 +158,7 @@ parts-printed :
     × ("N,1,1,2,2\nH,1,0,5\ni\nc\n" prints "end,open,0\n")
     × ("N,1,1,2,1\nB,0,0,3\nB,0,0,4\nx,2\n" prints "0,B,3,0\nend,fault,1\n")
 unfolding ascii printed linesFrom codeFrom body steps bytes digits commitLines wordLines sizesFit
-    play respond every programFits seen distance keptYounger touched count last home bank registerSeen finishes
+    play Over.respond every programFits seen distance keptYounger touched count last home bank registerSeen Over.finishes
 parts-printed = (refl, refl, refl, refl, refl)
 
 -- Only an L has a distance line, just before its own, of a commit and of a finish alike: one store nearer than another to the
@@ -168,7 +169,7 @@ distances-printed :
     × ("N,1,2,4,8\nA,1,0,5\nB,1,0,12\nL,2,0,3\ni\ni\ni\ne,0\ne,1\ne,2\nc\nc\nc\n"
     prints "0,A,1,5\n1,B,12,5\nf,2,1\n2,L,2,5\nm,3,5\nend,done,3\n")
 unfolding ascii printed linesFrom codeFrom body steps bytes digits commitLines wordLines sizesFit
-    play respond every programFits seen distance keptYounger touched count last home bank registerSeen finishes
+    play Over.respond every programFits seen distance keptYounger touched count last home bank registerSeen Over.finishes
 distances-printed = (refl, refl)
 
 distance-printed : committedLines 255 3 7 771 15 ≡ ascii "f,255,15\n255,L,7,771\n"
@@ -181,7 +182,7 @@ bad-printed :
     ("N,1,2,4,8\nA,1,0,5\nS,1,0,3\nA,2,0,1\nx,2\nz\nx,1\n" prints "0,A,1,5\n1,S,3,5\nbad,6\n")
     × ("N,1,2,4,8\nA,1,0,5\nS,1,0,3\nx,2\ni" prints "0,A,1,5\n1,S,3,5\nbad,5\n")
 unfolding ascii printed linesFrom codeFrom body steps bytes digits commitLines wordLines sizesFit
-    play respond every programFits seen distance keptYounger touched count last home bank registerSeen finishes
+    play Over.respond every programFits seen distance keptYounger touched count last home bank registerSeen Over.finishes
 bad-printed = (refl, refl)
 
 -- Input of 65,536 bytes is read: its first line, an empty one, is bad. Of input that is one byte longer nothing is.

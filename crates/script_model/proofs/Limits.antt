@@ -19,6 +19,7 @@ use Rattle.engine.specs.Contract.{refused, named, executed, done, committed, fi
 use Rattle.engine.specs.Conditions.{refusal}
 use Rattle.engine.proofs.Meeting.{judged-accepted}
 use Rattle.machine_model.specs.declared.Machine.{Machine}
+use Rattle.machine_model.specs.Over
 use Rattle.machine_model.specs.Calls.{
   Plain,
   Call,
@@ -73,7 +74,7 @@ module _ (program : List ℕ) (j : ℕ) (X : Plain) (w : List ℕ) where
 
   unfolds : (places : ℕ) → perCommit ≤ places
       → finishes program (suc j) places X w ≡ turning (programDone X) answer places
-  unfolding finishes
+  unfolding Over.finishes
   unfolds places room =
       ap (λ (b : Bool). turning (b || programDone X) answer places) (le-ltb places perCommit room)
 
@@ -124,7 +125,7 @@ all-counted program (suc j) places X w =
 -- a linked state is not refused
 response : (program : List ℕ) (X : Plain) (w : List ℕ) → Linked program X w → (k : ℕ) (list : List ℕ)
     → respond program (finish k list) X w ≡ drained list (finishes program k (length list) X w)
-unfolding respond
+unfolding Over.respond
 response program X w linked k list =
     judged-accepted (refusal (finishChecks program X w)) X w list (drained list (finishes program k (length list) X w))
     (lent-passes program X w linked [])

@@ -29,7 +29,8 @@ use Rattle.machine_model.specs.declared.Entry.{Entry}
 use Rattle.machine_model.specs.declared.Machine.{Machine}
 use Rattle.machine_model.specs.Program.{codeOf, kind}
 use Rattle.machine_model.specs.Window.{blankEntry, entryAt, entryWith, with₂, evaluate}
-use Rattle.machine_model.specs.Calls.{Plain, Call, issue, execute, squash, commit, finish, Answer, Result, waits, fitsProgram}
+use Rattle.machine_model.specs.Over
+use Rattle.machine_model.specs.Calls.{Plain, Call, issue, execute, squash, commit, finish, Answer, Result, pending, fitsProgram}
 use Rattle.machine_model.specs.Calls.{valueBy, answerBy, loadDistance, evaluated, known, unknown, survivorsOf}
 use Rattle.machine_model.specs.Calls.{executing, executions, committing, commits, respond}
 use Rattle.machine_model.specs.Calls.{issueChecks, executeChecks, squashChecks, commitChecks}
@@ -71,7 +72,7 @@ keptBy i (Executed v a) d = told (answerBy (kind i) v) (answerBy (kind i) d)
 abbrev kept : Entry → Told
 kept e = keptBy (e .instruction) (e .fate) (e .distance)
 
-executed-kept : (i : Instruction) (f : Fate) (d : ℕ) → waits f ≡ false
+executed-kept : (i : Instruction) (f : Fate) (d : ℕ) → pending f ≡ false
     → keptBy i f d ≡ told (answerBy (kind i) (valueBy f)) (answerBy (kind i) d)
 executed-kept i Waiting d e = absurd (let z : _≡_ {A = ℕ} 0 1 = cc in omega arith)
 executed-kept i (Executed v a) d e = refl
@@ -93,14 +94,14 @@ answer-code (Byte d s imm) v = refl
 answer-code (Half d s imm) v = refl
 
 -- what an instruction comes to is never that it waits
-both-known : (x y : Option ℕ) (f : ℕ → ℕ → Fate) → ((a b : ℕ) → waits (f a b) ≡ false) → unknown (with₂ x y f) ≡ false
-    → waits (known (with₂ x y f)) ≡ false
+both-known : (x y : Option ℕ) (f : ℕ → ℕ → Fate) → ((a b : ℕ) → pending (f a b) ≡ false) → unknown (with₂ x y f) ≡ false
+    → pending (known (with₂ x y f)) ≡ false
 both-known none y f w e = absurd (let z : _≡_ {A = ℕ} 0 1 = cc in omega arith)
 both-known (some a) none f w e = absurd (let z : _≡_ {A = ℕ} 0 1 = cc in omega arith)
 both-known (some a) (some b) f w e = w a b
 
 comes-known : (i : Instruction) (ρ : ℕ → Option ℕ) (μ : ℕ → ℕ) → unknown (evaluate i ρ μ) ≡ false
-    → waits (known (evaluate i ρ μ)) ≡ false
+    → pending (known (evaluate i ρ μ)) ≡ false
 comes-known (Add d s imm) ρ μ e = both-known (ρ s) (some imm) _ (λ a b. refl) e
 comes-known (Sum d s k) ρ μ e = both-known (ρ s) (ρ k) _ (λ a b. refl) e
 comes-known (Load d s imm) ρ μ e = both-known (ρ s) (some imm) _ (λ a b. refl) e
@@ -122,7 +123,7 @@ squashed-gone left n ts same = go (ltb left n) refl
 abbrev Tells : Plain → Call → Result → Type 0
 Tells X c r = tells (map kept (X .entries)) c (r .answer) ≡ map kept (r .state .entries)
 
-executing-tells : (X : Plain) (memory : List ℕ) (p left : ℕ) (f : Fate) → waits f ≡ false
+executing-tells : (X : Plain) (memory : List ℕ) (p left : ℕ) (f : Fate) → pending f ≡ false
     → Tells X (execute p) (executing X memory p f left)
 executing-tells X memory p left f w =
     let es = X .entries in
@@ -147,12 +148,12 @@ execution-tells program X memory p = go (eqb (refusal (executeChecks program X m
     ran : Result
     ran = executing X memory p f (survivorsOf X memory p f)
 
-    fate-known : refusal (executeChecks program X memory p) ≡ 0 → waits f ≡ false
+    fate-known : refusal (executeChecks program X memory p) ≡ 0 → pending f ≡ false
     fate-known z =
         let three = passes (not (eqb (length memory) (X .buffer .words))) 2 _ z in
         let four = passes (not (fitsProgram program X)) 3 _ (three .1) in
         let seven = passes (leb (length (X .entries)) p) 6 _ (four .1) in
-        let eight = passes (not (waits (entryAt (X .entries) p .fate))) 7 _ (seven .1) in
+        let eight = passes (not (pending (entryAt (X .entries) p .fate))) 7 _ (seven .1) in
         comes-known (entryAt (X .entries) p .instruction) _ _ (passes (unknown (evaluated X memory p)) 8 _ (eight .1) .0)
 
     go : (t : Bool) → eqb (refusal (executeChecks program X memory p)) 0 ≡ t
@@ -164,7 +165,7 @@ execution-tells program X memory p = go (eqb (refusal (executeChecks program X m
 
 call-tells : (program : List ℕ) (c : Call) → Single c → (X : Plain) (memory : List ℕ)
     → Tells X c (respond program c X memory)
-unfolding respond
+unfolding Over.respond
 call-tells program issue s X memory =
     either (Tells X issue) (eqb (refusal (issueChecks program X)) 0) (sym (map-snoc kept (X .entries) _)) refl
 call-tells program (execute p) s X memory = execution-tells program X memory p
@@ -193,12 +194,12 @@ commit-kept program X memory i c r v d = go (eqb (refusal (commitChecks program 
     e : Entry
     e = entryAt (X .entries) 0
 
-    executed-there : refusal (commitChecks program X memory) ≡ 0 → waits (e .fate) ≡ false
+    executed-there : refusal (commitChecks program X memory) ≡ 0 → pending (e .fate) ≡ false
     executed-there z =
         let three = passes (not (eqb (length memory) (X .buffer .words))) 2 _ z in
         let four = passes (not (fitsProgram program X)) 3 _ (three .1) in
         let eleven = passes (eqb (length (X .entries)) 0) 10 _ (four .1) in
-        passes (waits (e .fate)) 11 _ (eleven .1) .0
+        passes (pending (e .fate)) 11 _ (eleven .1) .0
 
     go : (t : Bool) → eqb (refusal (commitChecks program X memory)) 0 ≡ t
         → cond t (committing X memory) (turnedDown (refusal (commitChecks program X memory)) X memory []) .answer
@@ -219,7 +220,7 @@ pub passed-up : (program : List ℕ) (x : Played) → x .state .entries ≡ [] �
     → (i c r v d : ℕ)
     → respond program commit (play program x cs .state) (play program x cs .memory) .answer ≡ committed i c r v d
     → PassesUp (oldest (toldAfter [] cs (answersOf program x cs))) c v d
-unfolding respond
+unfolding Over.respond
 passed-up program x empty cs s i c r v d says =
     let y = play program x cs in
     let all =

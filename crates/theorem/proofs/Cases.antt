@@ -10,6 +10,7 @@ use Rattle.lookup.specs.Violation.{keptYounger}
 use Rattle.lookup.specs.Rows.{touched}
 use Rattle.machine_model.specs.Program.{programFits}
 use Rattle.machine_model.specs.Window.{registerSeen}
+use Rattle.machine_model.specs.Over
 use Rattle.machine_model.specs.Calls.{finishes, respond}
 use Rattle.theorem.specs.Sequential.{runAfter}
 use Rattle.theorem.specs.Play.{without, play, noneRefused, answersOf}
@@ -17,7 +18,7 @@ use Rattle.theorem.specs.Examples.{AllCome, RunExample, ranTo, runTable,
 
 -- all that calls and the run compute with: to unfold this is to unfold them
 unfoldable pub computing : Unit {0}
-unfolding runAfter play noneRefused answersOf respond finishes every programFits seen distance keptYounger touched count last home
+unfolding runAfter play noneRefused answersOf Over.respond Over.finishes every programFits seen distance keptYounger touched count last home
     bank registerSeen
 computing = tt
 

@@ -33,7 +33,7 @@ use Rattle.machine_model.specs.Window.{
   reference,
   evaluate,
 }
-use Rattle.machine_model.specs.Calls.{waits, newEntry, valueBy, refetch, registersAfter, committedSays, perCommit}
+use Rattle.machine_model.specs.Calls.{pending, newEntry, valueBy, refetch, registersAfter, committedSays, perCommit}
 use Rattle.theorem.specs.Sequential.{runAfter}
 use Rattle.theorem.specs.Play.{recorded, without}
 
@@ -108,7 +108,7 @@ pub data Step (program : List ℕ) (c : Core) : Core → Type 0 where
       (map reference (take (left - suc p) (drop (suc p) (c .entries))))
       → Step program c (cutTo c left (take left (set (c .entries) p (entryWith (entryAt (c .entries) p) f d))))
   squashing : (k : ℕ) → Step program c (cutTo c k (take k (c .entries)))
-  committing : (e : Entry) (es : List Entry) → c .entries ≡ e ∷ es → waits (e .fate) ≡ false
+  committing : (e : Entry) (es : List Entry) → c .entries ≡ e ∷ es → pending (e .fate) ≡ false
       → barred (length (c .memory)) e ≡ false
       → Step program c (afterCommit c e es)
 

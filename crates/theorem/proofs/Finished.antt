@@ -17,7 +17,8 @@ use Rattle.engine.proofs.Meeting.{judged-accepted}
 use Rattle.machine_model.specs.declared.Entry.{Entry}
 use Rattle.machine_model.specs.declared.Machine.{Machine}
 use Rattle.machine_model.specs.Window.{entryAt}
-use Rattle.machine_model.specs.Calls.{Plain, Call, issue, execute, commit, finish, Answer, Result, waits, issueResult}
+use Rattle.machine_model.specs.Over
+use Rattle.machine_model.specs.Calls.{Plain, Call, issue, execute, commit, finish, Answer, Result, pending, issueResult}
 use Rattle.machine_model.specs.Calls.{executions, commits, begun, ready, programDone, Drain, perCommit, continueOn, drainStopped}
 use Rattle.machine_model.specs.Calls.{finishes, finishing, respond, openChecks, issueChecks, commitChecks, finishChecks}
 use Rattle.machine_model.specs.Contract.{Meets, Opens}
@@ -44,14 +45,14 @@ module _ (program : List ℕ) where
 
   -- where nothing is live, what an issue leaves waits, also where it was refused
   issued-waits : (X : Plain) (memory : List ℕ) → X .entries ≡ []
-      → waits (entryAt (issueResult program X memory .state .entries) 0 .fate) ≡ true
+      → pending (entryAt (issueResult program X memory .state .entries) 0 .fate) ≡ true
   issued-waits X memory q =
-      either (λ (r : Result). waits (entryAt (r .state .entries) 0 .fate) ≡ true) (eqb (refusal (issueChecks program X)) 0)
+      either (λ (r : Result). pending (entryAt (r .state .entries) 0 .fate) ≡ true) (eqb (refusal (issueChecks program X)) 0)
       (rw q) (rw q)
 
   -- the calls that are needed next commit the oldest as a finish makes it ready
   pub play-next : (x : Played) → play program x (next x) ≡ plays program (moved x (ready program (x .state) (x .memory))) commit
-  unfolding play respond
+  unfolding play Over.respond
   play-next x = go (x .state .entries) refl
     where
       X : Plain
@@ -61,7 +62,7 @@ module _ (program : List ℕ) where
       w = x .memory
 
       executed-first : Plain → Plain
-      executed-first Y = cond (waits (entryAt (Y .entries) 0 .fate)) (executions program Y w 0 .state) Y
+      executed-first Y = cond (pending (entryAt (Y .entries) 0 .fate)) (executions program Y w 0 .state) Y
 
       committing : Plain → Played
       committing Y = plays program (moved x Y) commit
@@ -76,7 +77,7 @@ module _ (program : List ℕ) where
           ∙ ap (λ z. plays program z commit) (quiet-plays (moved x Y) (execute 0) (execute-quiet program Y w 0))
           ∙ ap (λ t. committing (cond t (executions program Y w 0 .state) Y)) (sym (issued-waits X w q))
           ∙ ap (λ Z. committing (executed-first Z)) (sym begins)
-      go (e ∷ es) q = oldest (waits (entryAt (X .entries) 0 .fate)) refl
+      go (e ∷ es) q = oldest (pending (entryAt (X .entries) 0 .fate)) refl
         where
           live : eqb (length (X .entries)) 0 ≡ false
           live = ap (λ l. eqb (length l) 0) q ∙ ne-eqb (suc (length es)) 0 (λ z. omega arith)
@@ -84,7 +85,7 @@ module _ (program : List ℕ) where
           same : executed-first X ≡ ready program X w
           same = ap (λ t. executed-first (cond t (issueResult program X w .state) X)) (sym live)
 
-          oldest : (t : Bool) → waits (entryAt (X .entries) 0 .fate) ≡ t
+          oldest : (t : Bool) → pending (entryAt (X .entries) 0 .fate) ≡ t
               → play program x (next x) ≡ committing (ready program X w)
           oldest t v =
               ap₂
@@ -184,7 +185,7 @@ module _ (program memory : List ℕ) where
       ≡ stepsLeft program (run program memory z) (min k ((places - perCommit) / perCommit)))
       → finishes program (suc k) places (x .state) (x .memory) .commits
       ≡ stepsLeft program (run program memory x) (min (suc k) (places / perCommit))
-  unfolding finishes respond runAfter stepsLeft
+  unfolding Over.finishes Over.respond runAfter stepsLeft
   turn-counts k places x h later = go (ltb places perCommit) (programDone X) refl refl
     where
       X : Plain
@@ -241,7 +242,7 @@ module _ (program memory : List ℕ) where
   finish-counts : (k places : ℕ) (x : Played) → Held program memory x
       → finishes program k places (x .state) (x .memory) .commits
       ≡ stepsLeft program (run program memory x) (min k (places / perCommit))
-  unfolding finishes stepsLeft
+  unfolding Over.finishes stepsLeft
   finish-counts zero places x h =
       let none : 0 ≡ min 0 (places / perCommit) = omega arith in
       ap (stepsLeft program (run program memory x)) none
@@ -249,7 +250,7 @@ module _ (program memory : List ℕ) where
 
   finish-truth : (x : Played) → Held program memory x → (k : ℕ) (list : List ℕ)
       → FinishTruth program memory (x .commits) k list (respond program (finish k list) (x .state) (x .memory) .answer)
-  unfolding respond
+  unfolding Over.respond
   finish-truth x h k list =
       let X = x .state in
       let left = stepsLeft program (run program memory x) (min k (length list / perCommit)) in

@@ -15,7 +15,8 @@ use lib.Seq.{take-at}
 use Rattle.engine.specs.Contract.{refused, named, executed, done, committed, finished}
 use Rattle.engine.specs.Conditions.{refusal}
 use Rattle.machine_model.specs.Window.{entryAt}
-use Rattle.machine_model.specs.Calls.{Plain, Call, issue, execute, squash, commit, finish, Answer, Result, waits, issueResult}
+use Rattle.machine_model.specs.Over
+use Rattle.machine_model.specs.Calls.{Plain, Call, issue, execute, squash, commit, finish, Answer, Result, pending, issueResult}
 use Rattle.machine_model.specs.Calls.{
   executions,
   commits,
@@ -103,7 +104,7 @@ ready-reaches : (program : List ℕ) (X : Plain) (memory : List ℕ) → Linked 
 ready-reaches program X memory l =
     let Y = begun program X memory in
     let b = begun-reaches program X memory l in
-    either (λ Z. Reaches program X Z memory) (waits (entryAt (Y .entries) 0 .fate))
+    either (λ Z. Reaches program X Z memory) (pending (entryAt (Y .entries) 0 .fate))
     (reaches-join b
     (quiet-reaches program Y memory (executions program Y memory 0) (execute-quiet program Y memory 0)
     (execute-links program Y memory (b .linked) 0)))
@@ -141,7 +142,7 @@ answer-goes program Y memory l (finished n) Z words list h rest g = goes-stopped
 
 finishes-goes : (program : List ℕ) (k places : ℕ) (X : Plain) (memory : List ℕ) → Linked program X memory
     → Goes program X memory (finishes program k places X memory)
-unfolding finishes
+unfolding Over.finishes
 finishes-goes program zero places X memory l = goes-stopped program X memory l
 finishes-goes program (suc k) places X memory l =
     let Y = ready program X memory in
@@ -167,7 +168,7 @@ answer-grows (finished n) here rest h g = h
 
 pub finishes-grow : (program : List ℕ) (k places : ℕ) (X : Plain) (memory : List ℕ)
     → Grows (finishes program k places X memory)
-unfolding finishes
+unfolding Over.finishes
 finishes-grow program zero places X memory = refl
 finishes-grow program (suc k) places X memory =
     let Y = ready program X memory in
@@ -196,7 +197,7 @@ finish-links program X memory l k list =
 
 pub respond-links : (program : List ℕ) (c : Call) (X : Plain) (memory : List ℕ) → Linked program X memory
     → Links program X memory (respond program c X memory)
-unfolding respond
+unfolding Over.respond
 respond-links program issue X memory l = issue-links program X memory l
 respond-links program (execute p) X memory l = execute-links program X memory l p
 respond-links program (squash p) X memory l = squash-links program X memory l p

@@ -30,7 +30,7 @@ use Rattle.machine_model.specs.declared.Entry.{Entry}
 use Rattle.machine_model.specs.Program.{decoded, instructionAt, codeOf, wellFormed, wellFormedAt, programFits, dOf}
 use Rattle.machine_model.specs.Window.{entryAt, entryWith, writesTo, valueOf, addressBy, registerSeen, referenceBy, untold}
 use Rattle.machine_model.specs.Window.{reference, evaluate}
-use Rattle.machine_model.specs.Calls.{waits, newEntry, valueBy, registersAfter, target, committedSays}
+use Rattle.machine_model.specs.Calls.{pending, newEntry, valueBy, registersAfter, target, committedSays}
 use Rattle.theorem.specs.Sequential.{Run, does, faultsAt, ends, step, runAfter}
 use Rattle.theorem.specs.Play.{recorded, without}
 use Rattle.theorem.proofs.Core.{Core, Step, issuing, executing, squashing, committing, seenBy, registersAt, memoryAt}
@@ -169,7 +169,7 @@ does-so r (Store d s imm) f h = subst (Does r (Store d s imm)) (Option·some-inj
 does-so r (Byte d s imm) f h = subst (Does r (Byte d s imm)) (Option·some-injective _ f h) (refl, sym (or-false _))
 does-so r (Half d s imm) f h = subst (Does r (Half d s imm)) (Option·some-injective _ f h) (refl, refl)
 
-right-known : (i : Instruction) (ρ : ℕ → Option ℕ) (μ : ℕ → ℕ) (f : Fate) → waits f ≡ false → Right i ρ μ f
+right-known : (i : Instruction) (ρ : ℕ → Option ℕ) (μ : ℕ → ℕ) (f : Fate) → pending f ≡ false → Right i ρ μ f
     → evaluate i ρ μ ≡ some f
 right-known i ρ μ Waiting w h = absurd (true≢false w)
 right-known i ρ μ (Executed v a) w h = h
@@ -200,7 +200,7 @@ module _ (program memory : List ℕ) (c : Core) (e : Entry) (es : List Entry) (k
       at
       (kept .good)
 
-  module _ (w : waits (e .fate) ≡ false) where
+  module _ (w : pending (e .fate) ≡ false) where
     comes : coming (runOf c e) (e .instruction) ≡ some (e .fate)
     comes = right-known (e .instruction) _ _ (e .fate) w (good-oldest .0)
 
@@ -222,7 +222,7 @@ module _ (program memory : List ℕ) (c : Core) (e : Entry) (es : List Entry) (k
         ∙ does-so (runOf c e) (e .instruction) (e .fate) comes .0
 
 -- what is seen past an executed oldest entry is what its commit leaves
-seen-register : (l : List ℕ) (i : Instruction) (f : Fate) (k : ℕ) → waits f ≡ false → dOf i < length l
+seen-register : (l : List ℕ) (i : Instruction) (f : Fate) (k : ℕ) → pending f ≡ false → dOf i < length l
     → cond (writesTo i k) (valueOf f) (some (getD l k 0)) ≡ some (getD (registersAfter l i (valueBy f)) k 0)
 seen-register l i Waiting k w h = absurd (true≢false w)
 seen-register l (Add d s imm) (Executed v a) k w h = set-test some l d k v h
@@ -320,7 +320,7 @@ module _ (program memory : List ℕ) where
 
   kept-commit : (c : Core) (e : Entry) (es : List Entry) → programFits program ≡ true → Kept program memory c
       → c .entries ≡ e ∷ es
-      → waits (e .fate) ≡ false
+      → pending (e .fate) ≡ false
       → barred (length (c .memory)) e ≡ false
       → Kept program memory (afterCommit c e es)
   unfolding without
@@ -403,6 +403,6 @@ pub commit-clean : (program memory : List ℕ) → programFits program ≡ true 
     → Kept program memory c
     → ends program (runAfter program memory (c .commits)) ≡ false
     → c .entries ≡ e ∷ es
-    → waits (e .fate) ≡ false
+    → pending (e .fate) ≡ false
     → barred (length (c .memory)) e ≡ false
 commit-clean program memory fits c e es kept goes at w = sym (ends-so program memory c e es kept at w) ∙ goes

@@ -37,7 +37,7 @@ use Rattle.machine_model.specs.Window.{entryAt, entryWith, misaligned, register
 use Rattle.machine_model.specs.Calls
 use Rattle.machine_model.specs.Calls.{
   Plain,
-  waits,
+  pending,
   newEntry,
   matchesProgram,
   programCheck,
@@ -169,7 +169,7 @@ module _ (program : List ℕ) (X : Plain) (memory : List ℕ) (linked : Linked p
 
 -- ---- execute
 
-is-waiting : (f : Fate) → waits f ≡ true → f ≡ Waiting
+is-waiting : (f : Fate) → pending f ≡ true → f ≡ Waiting
 is-waiting Waiting h = refl
 is-waiting (Executed v a) h = absurd (true≢false (sym h))
 
@@ -179,7 +179,7 @@ is-known (some f) h = refl
 
 module _ (program : List ℕ) (X : Plain) (memory : List ℕ) (linked : Linked program X memory) (p : ℕ) where
   -- the entry at position p executes to fate f
-  executing-links : (f : Fate) → p < length (X .entries) → waits (entryAt (X .entries) p .fate) ≡ true
+  executing-links : (f : Fate) → p < length (X .entries) → pending (entryAt (X .entries) p .fate) ≡ true
       → evaluated X memory p ≡ some f → (survivorsOf X memory p f ≡ 0 → ⊥)
       → Links program X memory (Calls.executing X memory p f (survivorsOf X memory p f))
   executing-links f live w comes runs =
@@ -224,17 +224,17 @@ module _ (program : List ℕ) (X : Plain) (memory : List ℕ) (linked : Linked p
 
   -- what the checks of an accepted execution say
   pub execute-passed : refusal (executeChecks program X memory p) ≡ 0
-      → (p < length (X .entries)) × (waits (entryAt (X .entries) p .fate) ≡ true)
+      → (p < length (X .entries)) × (pending (entryAt (X .entries) p .fate) ≡ true)
       × (evaluated X memory p ≡ some (known (evaluated X memory p)))
       × (survivorsOf X memory p (known (evaluated X memory p)) ≡ 0 → ⊥)
   execute-passed z =
       let passed = sym (lent-passes program X memory linked (drop 2 (executeChecks program X memory p))) ∙ z in
       let seven = passes (leb (length (X .entries)) p) 6 _ passed in
-      let eight = passes (not (waits (entryAt (X .entries) p .fate))) 7 _ (seven .1) in
+      let eight = passes (not (pending (entryAt (X .entries) p .fate))) 7 _ (seven .1) in
       let nine = passes (unknown (evaluated X memory p)) 8 _ (eight .1) in
       let ten = passes (eqb (survivorsOf X memory p (known (evaluated X memory p))) 0) 9 0 (nine .1) in (
         leb-false (length (X .entries)) p (seven .0),
-        not-false (waits (entryAt (X .entries) p .fate)) (eight .0),
+        not-false (pending (entryAt (X .entries) p .fate)) (eight .0),
         is-known (evaluated X memory p) (nine .0),
         eqb-false (survivorsOf X memory p (known (evaluated X memory p))) 0 (ten .0),
       )
@@ -281,7 +281,7 @@ module _ (program : List ℕ) (X : Plain) (memory : List ℕ) (linked : Linked p
       (λ z.
       let passed = sym (lent-passes program X memory linked (drop 2 (commitChecks program X memory))) ∙ z in
       let eleven = passes (eqb (length (X .entries)) 0) 10 _ passed in
-      let twelve = passes (waits (entryAt (X .entries) 0 .fate)) 11 _ (eleven .1) in
+      let twelve = passes (pending (entryAt (X .entries) 0 .fate)) 11 _ (eleven .1) in
       let e = entryAt (X .entries) 0 in
       let thirteen = passes (faults (X .buffer .words) (reference e)) 12 _ (twelve .1) in
       let fourteen = passes (misaligned e) 13 0 (thirteen .1) in
@@ -341,14 +341,14 @@ module _ (program : List ℕ) (X : Plain) (memory : List ℕ) (linked : Linked p
       (skips _ 6 0 (lt-leb (X .count) (X .next) left) refl)
 
   module _ (e : Entry) (es : List Entry) (is : X .entries ≡ e ∷ es) where
-    pub execute-accepted : waits (e .fate) ≡ true → refusal (executeChecks program X memory 0) ≡ 0
+    pub execute-accepted : pending (e .fate) ≡ true → refusal (executeChecks program X memory 0) ≡ 0
     execute-accepted w =
         let live : 0 < length (X .entries) = omega (arith, ap length is) in
         let oldest = ap (λ (ys : List Entry). entryAt ys 0 .fate) is in
         let i = entryAt (X .entries) 0 .instruction in
         lent-passes program X memory linked (drop 2 (executeChecks program X memory 0))
         ∙ skips _ 7 _ (lt-leb (length (X .entries)) 0 live)
-        (skips _ 8 _ (ap (λ (f : Fate). not (waits f)) oldest ∙ ap not w)
+        (skips _ 8 _ (ap (λ (f : Fate). not (pending f)) oldest ∙ ap not w)
         (skips _ 9 _ (oldest-comes X memory)
         (skips _ 10 0
         (ne-eqb (survivorsOf X memory 0 (known (evaluated X memory 0))) 0
@@ -358,14 +358,14 @@ module _ (program : List ℕ) (X : Plain) (memory : List ℕ) (linked : Linked p
         (referenceAt X memory 0 (known (evaluated X memory 0)))))
         refl)))
 
-    module _ (executed : waits (e .fate) ≡ false) (clean : barred (length memory) e ≡ false) where
+    module _ (executed : pending (e .fate) ≡ false) (clean : barred (length memory) e ≡ false) where
       pub commit-accepted : refusal (commitChecks program X memory) ≡ 0
       commit-accepted =
           let oldest = ap (λ (ys : List Entry). entryAt ys 0) is in
           let fine = neither (faults (length memory) (reference e)) (misaligned e) clean in
           lent-passes program X memory linked (drop 2 (commitChecks program X memory))
           ∙ skips _ 11 _ (ne-eqb (length (X .entries)) 0 (λ empty. omega (arith, ap length is)))
-          (skips _ 12 _ (ap (λ (y : Entry). waits (y .fate)) oldest ∙ executed)
+          (skips _ 12 _ (ap (λ (y : Entry). pending (y .fate)) oldest ∙ executed)
           (skips _ 13 _
           (ap₂ (λ (k : ℕ) (y : Entry). faults k (reference y)) (sym (linked .lent)) oldest ∙ fine .0)
           (skips _ 14 0 (ap misaligned oldest ∙ fine .1) refl)))

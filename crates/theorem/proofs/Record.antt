@@ -23,7 +23,8 @@ use Rattle.machine_model.specs.declared.Fate.{Fate}
 use Rattle.machine_model.specs.declared.Entry.{Entry}
 use Rattle.machine_model.specs.Program.{programFits}
 use Rattle.machine_model.specs.Window.{entryAt, entryWith, registerSeen}
-use Rattle.machine_model.specs.Calls.{Plain, Call, issue, execute, commit, Result, waits, newEntry, evaluated, known, survivorsOf}
+use Rattle.machine_model.specs.Over
+use Rattle.machine_model.specs.Calls.{Plain, Call, issue, execute, commit, Result, pending, newEntry, evaluated, known, survivorsOf}
 use Rattle.machine_model.specs.Calls.{loadDistance, executing, respond, openChecks, opened}
 use Rattle.machine_model.specs.Calls.{issueChecks, executeChecks, commitChecks}
 use Rattle.theorem.specs.Sequential.{runAfter, ends}
@@ -56,7 +57,7 @@ played x r =
 
 -- what it comes to is known
 oldest-fate : (X : Plain) (memory : List ℕ) (e : Entry) (es : List Entry) → X .entries ≡ e ∷ es
-    → waits (known (evaluated X memory 0)) ≡ false
+    → pending (known (evaluated X memory 0)) ≡ false
 unfolding registerSeen seen seenBy
 oldest-fate X memory e es q = rw (q, oldest-known (coreOf X memory [] 0) e es q .2)
 
@@ -127,9 +128,9 @@ module _ (program memory : List ℕ) where
   commit-next : (x : Played) → Held program memory x → ends program (run program memory x) ≡ false → (e : Entry)
       (es : List Entry)
       → x .state .entries ≡ e ∷ es
-      → waits (e .fate) ≡ false
+      → pending (e .fate) ≡ false
       → Next x (commit ∷ [])
-  unfolding noneRefused answersOf play respond
+  unfolding noneRefused answersOf play Over.respond
   commit-next x h n e es q w =
       let clean = commit-clean program memory (h .linked .fits) _ e es (h .kept) n q w in
       accepted-then x [] (refusal (commitChecks program (x .state) (x .memory))) _
@@ -139,7 +140,7 @@ module _ (program memory : List ℕ) where
   executed-then : (x : Played) → ends program (run program memory x) ≡ false → (e : Entry) (es : List Entry)
       → x .state .entries ≡ e ∷ es
       → (f : Fate) (left : ℕ)
-      → waits f ≡ false
+      → pending f ≡ false
       → 0 < left
       → Then x (commit ∷ []) (executing (x .state) (x .memory) 0 f left)
   executed-then x n e es q f left w l h =
@@ -152,9 +153,9 @@ module _ (program memory : List ℕ) where
   execute-next : (x : Played) → Held program memory x → ends program (run program memory x) ≡ false → (e : Entry)
       (es : List Entry)
       → x .state .entries ≡ e ∷ es
-      → waits (e .fate) ≡ true
+      → pending (e .fate) ≡ true
       → Next x (execute 0 ∷ commit ∷ [])
-  unfolding noneRefused answersOf play respond
+  unfolding noneRefused answersOf play Over.respond
   execute-next x h n e es q w =
       let X = x .state in
       let f = known (evaluated X (x .memory) 0) in
@@ -167,7 +168,7 @@ module _ (program memory : List ℕ) where
 
   issue-next : (x : Played) → Held program memory x → ends program (run program memory x) ≡ false → x .state .entries ≡ []
       → Next x (issue ∷ execute 0 ∷ commit ∷ [])
-  unfolding noneRefused answersOf play respond
+  unfolding noneRefused answersOf play Over.respond
   issue-next x h n q =
       let X = x .state in
       let left = issue-left program memory _ (h .kept) n q in
@@ -183,7 +184,7 @@ module _ (program memory : List ℕ) where
   pub needed-next : (x : Played) → Held program memory x → ends program (run program memory x) ≡ false → Next x (next x)
   needed-next x h n = go (x .state .entries) refl
     where
-      oldest : (e : Entry) (es : List Entry) → x .state .entries ≡ e ∷ es → (t : Bool) → waits (e .fate) ≡ t
+      oldest : (e : Entry) (es : List Entry) → x .state .entries ≡ e ∷ es → (t : Bool) → pending (e .fate) ≡ t
           → Next x (cond t (execute 0 ∷ commit ∷ []) (commit ∷ []))
       oldest e es q true w = execute-next x h n e es q w
       oldest e es q false w = commit-next x h n e es q w
@@ -194,8 +195,8 @@ module _ (program memory : List ℕ) where
           subst (Next x) (sym s) (issue-next x h n q)
       go (e ∷ es) q =
           let live = ne-eqb (suc (length es)) 0 (λ z. omega arith) in
-          let s : next x ≡ cond (waits (e .fate)) (execute 0 ∷ commit ∷ []) (commit ∷ []) = rw (q, live) in
-          subst (Next x) (sym s) (oldest e es q (waits (e .fate)) refl)
+          let s : next x ≡ cond (pending (e .fate)) (execute 0 ∷ commit ∷ []) (commit ∷ []) = rw (q, live) in
+          subst (Next x) (sym s) (oldest e es q (pending (e .fate)) refl)
 
 -- where these calls lead from an opening
 abbrev pub after : ℕ → ℕ → ℕ → ℕ → List ℕ → List ℕ → List Call → Played

@@ -20,6 +20,7 @@ use Rattle.engine.specs.Conditions.{refusal}
 use Rattle.machine_model.specs.declared.Instruction.{Instruction}
 use Rattle.machine_model.specs.declared.Instruction.the-variants.{Byte, Half}
 use Rattle.machine_model.specs.Program.{instructionAt}
+use Rattle.machine_model.specs.Over
 use Rattle.machine_model.specs.Calls.{Plain, Call, issue, execute, squash, commit, finish, Answer, Result, respond}
 use Rattle.machine_model.specs.Calls.{issueChecks, executeChecks, squashChecks, commitChecks, finishChecks}
 use Rattle.theorem.specs.Sequential.{Run, putsPart, register, addressOf, does, faultsAt, ends}
@@ -72,7 +73,7 @@ Counts commit a = commitsIn a ≡ cond (isRefused a) 0 1
 Counts (finish k list) a = isRefused a ≡ false → a ≡ finished (commitsIn a)
 
 pub counts : (program : List ℕ) (c : Call) (X : Plain) (memory : List ℕ) → Counts c (respond program c X memory .answer)
-unfolding respond
+unfolding Over.respond
 counts program issue X memory =
     either (λ (r : Result). Counts issue (r .answer)) (eqb (refusal (issueChecks program X)) 0) refl refl
 counts program (execute p) X memory =

@@ -15,7 +15,8 @@ use borrow.Author.Tests.{eq-eqb, ne-eqb}
 use Rattle.engine.specs.Contract.{refused}
 use Rattle.engine.specs.Conditions.{refusal}
 use Rattle.machine_model.specs.Window.{entryAt}
-use Rattle.machine_model.specs.Calls.{Plain, Call, issue, execute, squash, commit, finish, Result, waits}
+use Rattle.machine_model.specs.Over
+use Rattle.machine_model.specs.Calls.{Plain, Call, issue, execute, squash, commit, finish, Result, pending}
 use Rattle.machine_model.specs.Calls.{committing, commits, respond, perCommit, ready, programDone, commitChecks, finishChecks}
 use Rattle.machine_model.specs.Calls.{Drain, drainStopped, continueOn, finishes, drained}
 use Rattle.theorem.specs.Play.{recorded, Played, plays, play, needed}
@@ -41,7 +42,7 @@ singles-first (c ∷ cs) ds s = (s .0, singles-first cs ds (s .1))
 needed-single : (X : Plain) → Singles (needed X)
 needed-single X =
     either Singles (eqb (length (X .entries)) 0) (tt, (tt, (tt, tt)))
-    (either Singles (waits (entryAt (X .entries) 0 .fate)) (tt, (tt, tt)) (tt, tt))
+    (either Singles (pending (entryAt (X .entries) 0 .fate)) (tt, (tt, tt)) (tt, tt))
 
 -- ---- a finish
 
@@ -70,7 +71,7 @@ module _ (program : List ℕ) where
 
   -- a turn, and those after it
   turn-repeats : (k places : ℕ) → Repeats k (places - perCommit) → Repeats (suc k) places
-  unfolding finishes play respond
+  unfolding Over.finishes play Over.respond
   turn-repeats k places rest x =
       ap (play program x) (repeated-turn k places x) ∙ go (ltb places perCommit || programDone X)
     where
@@ -118,12 +119,12 @@ module _ (program : List ℕ) where
           ∙ turn (eqb (refusal (commitChecks program Y (x .memory))) 0)
 
   repeats : (k places : ℕ) → Repeats k places
-  unfolding repeated finishes play
+  unfolding repeated Over.finishes play
   repeats zero places x = went-nowhere x
   repeats (suc k) places x = turn-repeats k places (repeats k (places - perCommit)) x
 
   stands-for : (x : Played) (c : Call) → play program x (standsFor program x c) ≡ plays program x c
-  unfolding play respond
+  unfolding play Over.respond
   stands-for x issue = refl
   stands-for x (execute p) = refl
   stands-for x (squash p) = refl

@@ -8,7 +8,7 @@ use lib.Dec.{eqb}
 use lib.ListN.{length, take}
 use Rattle.engine.specs.Contract.{refused, named, executed, done, committed, finished}
 use Rattle.machine_model.specs.Window.{entryAt}
-use Rattle.machine_model.specs.Calls.{Plain, Call, issue, execute, commit, Answer, waits, perCommit, respond}
+use Rattle.machine_model.specs.Calls.{Plain, Call, issue, execute, commit, Answer, pending, perCommit, respond}
 
 -- what an answer adds to the record, with the list as the call left it
 abbrev pub recorded : Answer → List ℕ → List ℕ
@@ -69,7 +69,7 @@ start X memory = record { state = X; memory = memory; record′ = []; commits = 
 abbrev pub needed : Plain → List Call
 needed X =
     cond (eqb (length (X .entries)) 0) (issue ∷ execute 0 ∷ commit ∷ [])
-    (cond (waits (entryAt (X .entries) 0 .fate)) (execute 0 ∷ commit ∷ []) (commit ∷ []))
+    (cond (pending (entryAt (X .entries) 0 .fate)) (execute 0 ∷ commit ∷ []) (commit ∷ []))
 
 abbrev pub isRefused : Answer → Bool
 isRefused (refused k) = true

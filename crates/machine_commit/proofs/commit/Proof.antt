@@ -15,7 +15,7 @@ use Rattle.engine.proofs.Lengths.{fits, circle-asks, oldest-small, next-asks}
 use Rattle.machine_model.specs.declared.Entry.{Entry}
 use Rattle.machine_model.specs.declared.Machine.{Machine}
 use Rattle.machine_model.specs.Window.{blankEntry, reference}
-use Rattle.machine_model.specs.Calls.{commit, waits}
+use Rattle.machine_model.specs.Calls.{commit, pending}
 use Rattle.machine_model.specs.computed.Parts.{markWith}
 use Rattle.machine_model.proofs.Sized.{Sized, sized-of}
 use Rattle.machine_model.proofs.Answering.{Passed, check-passes, check-turns}
@@ -72,7 +72,7 @@ sized-at c = sized-of (machine c) (c .good .0)
 live-at : (c : tie.Else2) → 0 < table (some c) .live
 live-at c = search needs
 
-executed-at : (c : tie.Else3) → waits (oldest (some (executed c)) .fate) ≡ false
+executed-at : (c : tie.Else3) → pending (oldest (some (executed c)) .fate) ≡ false
 executed-at c = sym (c .before .is-waiting .ensures) ∙ c .if3 .left
 
 -- the mark told of the oldest

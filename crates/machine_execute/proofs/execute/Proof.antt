@@ -19,7 +19,7 @@ use Rattle.machine_model.specs.Program.{sOf}
 use Rattle.engine.specs.declared.Action.{Action}
 use Rattle.engine.proofs.Executed.{found-bounds, effect-made}
 use Rattle.machine_model.specs.Window.{blankEntry}
-use Rattle.machine_model.specs.Calls.{execute, waits}
+use Rattle.machine_model.specs.Calls.{execute, pending}
 use Rattle.machine_model.specs.Contract.{entryOf}
 use Rattle.machine_model.specs.computed.Parts.{second, wantedBy}
 use Rattle.machine_model.proofs.Sized.{Sized, sized-of}
@@ -93,14 +93,14 @@ registers-at c =
 -- whether the entry waits
 waits-at : (c : tie.After-is-waiting)
     → let args = begun (c .before .before) .args in
-    c .is-waiting .result ≡ waits (entryOf (args .t1) (args .p) .fate)
+    c .is-waiting .result ≡ pending (entryOf (args .t1) (args .p) .fate)
 waits-at c =
     let args = begun (c .before .before) .args in
     c .is-waiting .ensures
-    ∙ ap (λ (s : ℕ). waits (getD (args .t1 .window) s blankEntry .fate)) (c .before .before .stage-at .ensures)
+    ∙ ap (λ (s : ℕ). pending (getD (args .t1 .window) s blankEntry .fate)) (c .before .before .stage-at .ensures)
 
 idle-at : (c : tie.Else3)
-    → let args = begun (c .before .before .before) .args in waits (entryOf (args .t1) (args .p) .fate) ≡ true
+    → let args = begun (c .before .before .before) .args in pending (entryOf (args .t1) (args .p) .fate) ≡ true
 idle-at c = sym (waits-at (c .before)) ∙ not-false (c .before .is-waiting .result) (c .if3 .left)
 
 -- what its instruction asks

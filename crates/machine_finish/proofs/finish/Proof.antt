@@ -24,7 +24,7 @@ use Rattle.engine.specs.Conditions.{faults}
 use Rattle.engine.specs.Contract.{refused, finished}
 use Rattle.machine_model.specs.declared.Entry.{Entry}
 use Rattle.machine_model.specs.Window.{blankEntry, misaligned, reference}
-use Rattle.machine_model.specs.Calls.{commit, finish, waits, programDone, perCommit, begun}
+use Rattle.machine_model.specs.Calls.{commit, finish, pending, programDone, perCommit, begun}
 use Rattle.machine_model.specs.Contract.{plain, Meets}
 use Rattle.machine_model.specs.computed.Parts.{second, markWith}
 use Rattle.machine_model.proofs.Sounding.{validateOf}
@@ -211,10 +211,10 @@ issued c = c .before .before
 abbrev oldest : tie.Joined4 Inv-loop μ-loop → Entry
 oldest c = getD (c .if4 .m .window) (head (c .before) .loop .m .table .oldest) blankEntry
 
-waits-at : (c : tie.After-is-waiting Inv-loop μ-loop) → c .is-waiting .result ≡ waits (oldest (issued c) .fate)
+waits-at : (c : tie.After-is-waiting Inv-loop μ-loop) → c .is-waiting .result ≡ pending (oldest (issued c) .fate)
 waits-at c = c .is-waiting .ensures
 
-idle-at : (c : tie.Then5 Inv-loop μ-loop) → waits (oldest (issued (c .before)) .fate) ≡ true
+idle-at : (c : tie.Then5 Inv-loop μ-loop) → pending (oldest (issued (c .before)) .fate) ≡ true
 idle-at c = sym (waits-at (c .before)) ∙ c .if5 .taken
 
 -- the registers of its instruction
