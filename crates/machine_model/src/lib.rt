@@ -5,10 +5,17 @@ use engine::Action;
 use table::STAGES;
 use table::Table;
 
-// The number of registers, and the most numbers that a program has: four for each of 256 instructions.
+// The number of registers, and the last of them.
 pub const REGISTERS: usize = 8;
 
-pub const PROGRAM: usize = 1024;
+pub const LAST_REGISTER: u32 = REGISTERS as u32 - 1;
+
+// The numbers of an instruction, the most instructions that a program has, and its numbers then.
+pub const PER_INSTRUCTION: usize = 4;
+
+pub const INSTRUCTIONS: usize = 256;
+
+pub const PROGRAM: usize = INSTRUCTIONS * PER_INSTRUCTION;
 
 // The places of a finish's list that a commit takes.
 pub const PER_COMMIT: usize = 5;
