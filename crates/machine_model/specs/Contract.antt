@@ -4,16 +4,15 @@ use mathlib.Core.Path.{_≡_}
 use mathlib.Core.Bool.{Bool, true, _&&_}
 use mathlib.Core.List.{List}
 use mathlib.Core.Option.{Option, none, some}
-use Prim.Native.Nat.{ℕ, _/_, _<_}
+use Prim.Native.Nat.{ℕ, _<_}
 use lib.Dec.{eqb}
-use lib.ListN.{length, getD, replicate}
+use lib.ListN.{getD, replicate}
 use Rattle.table.specs.declared.Table.{Table}
 use Rattle.table.specs.Limits.{stagesMost}
 use Rattle.table.specs.Reference
 use Rattle.table.specs.Reference.{Side, lacks, holds, waiting, other, accessed, fateOf, at}
 use Rattle.table.specs.View.{stageOf, tabulate, view}
 use Rattle.table.specs.Rules.{Rules}
-use Rattle.engine.specs.Conditions.{refusal}
 use Rattle.engine.specs.Contract.{refused, done, named, executed, committed, finished}
 use Rattle.engine.specs.Opening.{fresh}
 use Rattle.machine_model.specs.declared.Entry.{Entry}
@@ -31,10 +30,10 @@ use Rattle.machine_model.specs.declared.CommitAnswer.the-variants as com
 use Rattle.machine_model.specs.declared.FinishAnswer.{FinishAnswer}
 use Rattle.machine_model.specs.declared.FinishAnswer.the-variants as finish-answer
 use Rattle.machine_model.specs.Window.{blankEntry, reference}
-use Rattle.machine_model.specs.Program.{perInstruction, registersMost}
+use Rattle.machine_model.specs.Program.{registersMost}
 use Rattle.machine_model.specs.Over
 use Rattle.machine_model.specs.Over.{Realization}
-use Rattle.machine_model.specs.Calls.{Opening, banked, buffered, Plain, Call, Answer, openChecks, opened}
+use Rattle.machine_model.specs.Calls.{Opening, banked, buffered, Plain, Call, Answer}
 
 -- 01's numbers and values for each case of the code's answers
 
@@ -104,16 +103,6 @@ pub record Sound (m : Machine) : Type 0 where
   pub rules : Rules (m .table)
   pub agrees : (p : ℕ) → p < m .table .live → agree (reference (entryOf m p)) (fateOf (at (view (m .table) .refs) p)) ≡ true
 
--- the machine over the buffer's table
-abbrev pub tabled : Realization buffered
-tabled = record { Machine = Machine; Sound = Sound; plain = plain }
-
--- The call c with this program on machine m and memory w said `said` and handed back machine u, memory v and the list as
--- `kept`. As in the buffer, of an accepted call u may be any machine with this plain state that is sound: free is what
--- specs/Same.antt leaves out, a row's place in its bank, words without their mark, and what stands where nothing is live.
-abbrev pub Meets : List ℕ → Machine → Call → List ℕ → Answer → Machine → List ℕ → List ℕ → Type 0
-Meets = Over.Meets tabled
-
 -- a machine of this number of instructions over this table, with nothing in its window
 abbrev pub emptyMachine : Table → ℕ → Machine
 emptyMachine table count =
@@ -128,10 +117,24 @@ emptyMachine table count =
 abbrev pub freshMachine : Opening → ℕ → Machine
 freshMachine (banked banks rows stages words) count = emptyMachine (fresh banks rows stages words) count
 
--- An opening said `said` and handed back machine u. A refused opening hands back a machine without stages, on which every call
--- is refused with 2.
-pub record Opens (o : Opening) (program w : List ℕ) (said : Answer) (u : Machine) : Type 0 where
-  pub refuses : (k : ℕ) → (k ≡ 0 → ⊥) → refusal (openChecks o program w) ≡ k
-      → (said ≡ refused k) × (u ≡ freshMachine (banked 0 0 0 0) 0)
-  pub opens : refusal (openChecks o program w) ≡ 0 → (said ≡ done) × (u ≡ freshMachine o (length program / perInstruction))
-  pub state : refusal (openChecks o program w) ≡ 0 → Sound u × (plain u ≡ opened o program)
+-- The machine over the buffer's table. A refused opening hands back a machine without stages, on which every call is refused
+-- with 2.
+abbrev pub tabled : Realization buffered
+tabled =
+    record {
+      Machine = Machine;
+      Sound = Sound;
+      plain = plain;
+      fresh = freshMachine;
+      unopened = freshMachine (banked 0 0 0 0) 0;
+    }
+
+-- The call c with this program on machine m and memory w said `said` and handed back machine u, memory v and the list as
+-- `kept`. As in the buffer, of an accepted call u may be any machine with this plain state that is sound: free is what
+-- specs/Same.antt leaves out, a row's place in its bank, words without their mark, and what stands where nothing is live.
+abbrev pub Meets : List ℕ → Machine → Call → List ℕ → Answer → Machine → List ℕ → List ℕ → Type 0
+Meets = Over.Meets tabled
+
+-- an opening said `said` and handed back machine u
+abbrev pub Opens : Opening → List ℕ → List ℕ → Answer → Machine → Type 0
+Opens = Over.Opens tabled

@@ -2,6 +2,7 @@
 -- what goes by the window alone, then, over an engine, the conditions under which a call is turned down and what it comes to
 -- where none holds. Calls.antt has the machine over the buffer.
 -- Assumes nothing.
+use mathlib.Core.Path.{_≡_}
 use mathlib.Core.Bool.{Bool, true, false, cond, not, _&&_, _||_}
 use mathlib.Core.List.{List, [], _∷_, _++_}
 use mathlib.Core.Option.{Option, none, some}
@@ -404,14 +405,24 @@ module _ {O S : Type 0} (E : Engine O S) where
 -- ---- a machine in code
 
 -- A machine in code over an engine: its type, which of its states are sound (they keep the engine's rules, and the window
--- agrees with them), and the plain state of one.
+-- agrees with them), the plain state of one, the machine that an opening makes for so many instructions, and the one that a
+-- refused opening hands back.
 pub record Realization {O S : Type 0} (E : Engine O S) : Type 1 where
   pub Machine : Type 0
   pub Sound : Machine → Type 0
   pub plain : Machine → Plain S
+  pub fresh : O → ℕ → Machine
+  pub unopened : Machine
 
 -- what every call of it promises, by the one contract of every engine
 abbrev pub Meets : {O S : Type 0} {E : Engine O S} (R : Realization E) → List ℕ → R .Machine → Call → List ℕ → Answer
     → R .Machine → List ℕ → List ℕ → Type 0
 Meets {E = E} R program m c w said u v kept =
     Contract.Meets (R .Sound) (R .plain) m (respond E program c (R .plain m) w) w (lentTo c) said u v kept
+
+-- and an opening that said `said` and handed back machine u
+pub record Opens {O S : Type 0} {E : Engine O S} (R : Realization E) (o : O) (program w : List ℕ) (said : Answer)
+    (u : R .Machine) : Type 0 where
+  pub refuses : (k : ℕ) → (k ≡ 0 → ⊥) → refusal (openChecks E o program w) ≡ k → (said ≡ refused k) × (u ≡ R .unopened)
+  pub opens : refusal (openChecks E o program w) ≡ 0 → (said ≡ done) × (u ≡ R .fresh o (length program / perInstruction))
+  pub state : refusal (openChecks E o program w) ≡ 0 → R .Sound u × (R .plain u ≡ opened E o program)

@@ -14,7 +14,7 @@ use mathlib.Core.Option.{Option, none, some}
 use Prim.Native.Nat.{ℕ, zero, suc}
 use native.Mathlib.Omega.{arith}
 use lib.Dec.{eqb, leb, ltb}
-use lib.ListN.{length, take, drop, set, length-map, length-set, List·getD-map}
+use lib.ListN.{length, getD, take, drop, set, length-map, length-set, List·getD-map}
 use lib.Seq.{take-all}
 use borrow.Author.Tests.{eqb-true, ltb-false}
 use Rattle.engine.specs.Contract.{done, committed}
@@ -26,20 +26,17 @@ use Rattle.machine_model.specs.declared.Kind.the-variants.{Computing, Loading, 
 use Rattle.machine_model.specs.declared.Fate.{Fate}
 use Rattle.machine_model.specs.declared.Fate.the-variants.{Waiting, Executed}
 use Rattle.machine_model.specs.declared.Entry.{Entry}
-use Rattle.machine_model.specs.declared.Machine.{Machine}
 use Rattle.machine_model.specs.Program.{codeOf, kind}
-use Rattle.machine_model.specs.Window.{blankEntry, entryAt, entryWith, with₂, evaluate}
+use Rattle.machine_model.specs.Window.{blankEntry, entryAt, entryWith, pending, registerSeen}
 use Rattle.machine_model.specs.Over
-use Rattle.machine_model.specs.Calls.{Plain, Call, issue, execute, squash, commit, finish, Answer, Result, pending, fitsProgram}
-use Rattle.machine_model.specs.Calls.{valueBy, answerBy, loadDistance, evaluated, known, unknown, survivorsOf}
-use Rattle.machine_model.specs.Calls.{executing, executions, committing, commits, respond}
-use Rattle.machine_model.specs.Calls.{issueChecks, executeChecks, squashChecks, commitChecks}
-use Rattle.machine_model.specs.Contract.{plain, Meets, Opens}
+use Rattle.machine_model.specs.Over.{Engine, Realization, Plain, Result, Call, issue, execute, squash, commit, finish, Answer}
+use Rattle.machine_model.specs.Over.{fitsProgram, valueBy, answerBy, known, unknown, Meets, Opens}
 use Rattle.theorem.specs.Play.{Played, plays, play, start, answersOf}
 use Rattle.theorem.specs.Life.{Life}
 use Rattle.theorem.specs.Unrolled.{Single, Singles, unrolled}
 use Rattle.theorem.specs.Answered.{Told, silent, told, unsquashed, tells, toldAfter, oldest, PassesUp}
 use Rattle.theorem.proofs.Links.{passes}
+use Rattle.theorem.proofs.Linking.{comes-known}
 use Rattle.theorem.proofs.Finishing.{either}
 use Rattle.theorem.proofs.Closing.{from-opening, done-opens}
 use Rattle.theorem.proofs.Unrolled.{turnedDown, singles-first, unrolled-single}
@@ -93,22 +90,6 @@ answer-code (Store d s imm) v = refl
 answer-code (Byte d s imm) v = refl
 answer-code (Half d s imm) v = refl
 
--- what an instruction comes to is never that it waits
-both-known : (x y : Option ℕ) (f : ℕ → ℕ → Fate) → ((a b : ℕ) → pending (f a b) ≡ false) → unknown (with₂ x y f) ≡ false
-    → pending (known (with₂ x y f)) ≡ false
-both-known none y f w e = absurd (let z : _≡_ {A = ℕ} 0 1 = cc in omega arith)
-both-known (some a) none f w e = absurd (let z : _≡_ {A = ℕ} 0 1 = cc in omega arith)
-both-known (some a) (some b) f w e = w a b
-
-comes-known : (i : Instruction) (ρ : ℕ → Option ℕ) (μ : ℕ → ℕ) → unknown (evaluate i ρ μ) ≡ false
-    → pending (known (evaluate i ρ μ)) ≡ false
-comes-known (Add d s imm) ρ μ e = both-known (ρ s) (some imm) _ (λ a b. refl) e
-comes-known (Sum d s k) ρ μ e = both-known (ρ s) (ρ k) _ (λ a b. refl) e
-comes-known (Load d s imm) ρ μ e = both-known (ρ s) (some imm) _ (λ a b. refl) e
-comes-known (Store d s imm) ρ μ e = both-known (ρ s) (ρ d) _ (λ a b. refl) e
-comes-known (Byte d s imm) ρ μ e = both-known (ρ s) (ρ d) _ (λ a b. refl) e
-comes-known (Half d s imm) ρ μ e = both-known (ρ s) (ρ d) _ (λ a b. refl) e
-
 -- the first `left` stay, whether the answer names that position or, where all stay, none
 squashed-gone : (left n : ℕ) (ts : List Told) → length ts ≡ n → unsquashed (cond (ltb left n) (some left) none) ts ≡ take left ts
 squashed-gone left n ts same = go (ltb left n) refl
@@ -120,133 +101,138 @@ squashed-gone left n ts same = go (ltb left n) refl
 -- ---- one call
 
 -- what is told after a call with this result is again what the entries have
-abbrev Tells : Plain → Call → Result → Type 0
+abbrev Tells : {S : Type 0} → Plain S → Call → Result S → Type 0
 Tells X c r = tells (map kept (X .entries)) c (r .answer) ≡ map kept (r .state .entries)
 
-executing-tells : (X : Plain) (memory : List ℕ) (p left : ℕ) (f : Fate) → pending f ≡ false
-    → Tells X (execute p) (executing X memory p f left)
-executing-tells X memory p left f w =
-    let es = X .entries in
-    let i = entryAt es p .instruction in
-    let d = loadDistance X p f in
-    let e = entryWith (entryAt es p) f d in
-    let v = answerBy (kind i) (valueBy f) in
-    let same : told v d ≡ kept e = sym (executed-kept i f d w ∙ ap (told v) (answer-twice (kind i) _)) in
-    squashed-gone left (length es) _ (length-set (map kept es) p _ ∙ length-map es kept)
-    ∙ ap (λ (t : Told). take left (set (map kept es) p t)) same
-    ∙ ap (take left) (sym (map-set kept es p e))
-    ∙ sym (map-take kept left (set es p e))
+module _ {O S : Type 0} (E : Engine O S) (program : List ℕ) where
+  executing-tells : (X : Plain S) (memory : List ℕ) (p left : ℕ) (f : Fate) → pending f ≡ false
+      → Tells X (execute p) (Over.executing E X memory p f left)
+  executing-tells X memory p left f w =
+      let es = X .entries in
+      let i = entryAt es p .instruction in
+      let d = Over.loadDistance E X p f in
+      let e = entryWith (entryAt es p) f d in
+      let v = answerBy (kind i) (valueBy f) in
+      let same : told v d ≡ kept e = sym (executed-kept i f d w ∙ ap (told v) (answer-twice (kind i) _)) in
+      squashed-gone left (length es) _ (length-set (map kept es) p _ ∙ length-map es kept)
+      ∙ ap (λ (t : Told). take left (set (map kept es) p t)) same
+      ∙ ap (take left) (sym (map-set kept es p e))
+      ∙ sym (map-take kept left (set es p e))
 
--- the result of an execution that passed its checks has a fate that does not wait
-execution-tells : (program : List ℕ) (X : Plain) (memory : List ℕ) (p : ℕ)
-    → Tells X (execute p) (executions program X memory p)
-execution-tells program X memory p = go (eqb (refusal (executeChecks program X memory p)) 0) refl
-  where
-    f : Fate
-    f = known (evaluated X memory p)
+  -- the result of an execution that passed its checks has a fate that does not wait
+  execution-tells : (X : Plain S) (memory : List ℕ) (p : ℕ)
+      → Tells X (execute p) (Over.executions E program X memory p)
+  execution-tells X memory p = go (eqb (refusal (Over.executeChecks E program X memory p)) 0) refl
+    where
+      f : Fate
+      f = known (Over.evaluated E X memory p)
 
-    ran : Result
-    ran = executing X memory p f (survivorsOf X memory p f)
+      ran : Result S
+      ran = Over.executing E X memory p f (Over.survivorsOf E X memory p f)
 
-    fate-known : refusal (executeChecks program X memory p) ≡ 0 → pending f ≡ false
-    fate-known z =
-        let three = passes (not (eqb (length memory) (X .buffer .words))) 2 _ z in
-        let four = passes (not (fitsProgram program X)) 3 _ (three .1) in
-        let seven = passes (leb (length (X .entries)) p) 6 _ (four .1) in
-        let eight = passes (not (pending (entryAt (X .entries) p .fate))) 7 _ (seven .1) in
-        comes-known (entryAt (X .entries) p .instruction) _ _ (passes (unknown (evaluated X memory p)) 8 _ (eight .1) .0)
+      fate-known : refusal (Over.executeChecks E program X memory p) ≡ 0 → pending f ≡ false
+      fate-known z =
+          let three = passes (not (eqb (length memory) (E .words (X .buffer)))) 2 _ z in
+          let four = passes (not (fitsProgram program X)) 3 _ (three .1) in
+          let seven = passes (leb (length (X .entries)) p) 6 _ (four .1) in
+          let eight = passes (not (pending (entryAt (X .entries) p .fate))) 7 _ (seven .1) in
+          comes-known (entryAt (X .entries) p .instruction)
+          (λ (k : ℕ). registerSeen (take p (X .entries)) k (some (getD (X .registers) k 0)))
+          (E .sees (X .buffer) (X .entries) memory p) (passes (unknown (Over.evaluated E X memory p)) 8 _ (eight .1) .0)
 
-    go : (t : Bool) → eqb (refusal (executeChecks program X memory p)) 0 ≡ t
-        → Tells X (execute p) (cond t ran (turnedDown (refusal (executeChecks program X memory p)) X memory []))
-    go true e =
-        executing-tells X memory p (survivorsOf X memory p f) f
-        (fate-known (eqb-true (refusal (executeChecks program X memory p)) 0 e))
-    go false e = refl
+      go : (t : Bool) → eqb (refusal (Over.executeChecks E program X memory p)) 0 ≡ t
+          → Tells X (execute p) (cond t ran (turnedDown (refusal (Over.executeChecks E program X memory p)) X memory []))
+      go true e =
+          executing-tells X memory p (Over.survivorsOf E X memory p f) f
+          (fate-known (eqb-true (refusal (Over.executeChecks E program X memory p)) 0 e))
+      go false e = refl
 
-call-tells : (program : List ℕ) (c : Call) → Single c → (X : Plain) (memory : List ℕ)
-    → Tells X c (respond program c X memory)
-unfolding Over.respond
-call-tells program issue s X memory =
-    either (Tells X issue) (eqb (refusal (issueChecks program X)) 0) (sym (map-snoc kept (X .entries) _)) refl
-call-tells program (execute p) s X memory = execution-tells program X memory p
-call-tells program (squash p) s X memory =
-    either (Tells X (squash p)) (eqb (refusal (squashChecks program X p)) 0) (sym (map-take kept p (X .entries))) refl
-call-tells program commit s X memory =
-    either (Tells X commit) (eqb (refusal (commitChecks program X memory)) 0) (sym (map-rest kept (X .entries))) refl
-call-tells program (finish k list) s X memory = absurd s
+  call-tells : (c : Call) → Single c → (X : Plain S) (memory : List ℕ)
+      → Tells X c (Over.respond E program c X memory)
+  unfolding Over.respond
+  call-tells issue s X memory =
+      either (Tells X issue) (eqb (refusal (Over.issueChecks E program X)) 0) (sym (map-snoc kept (X .entries) _)) refl
+  call-tells (execute p) s X memory = execution-tells X memory p
+  call-tells (squash p) s X memory =
+      either (Tells X (squash p)) (eqb (refusal (Over.squashChecks E program X p)) 0) (sym (map-take kept p (X .entries))) refl
+  call-tells commit s X memory =
+      either (Tells X commit) (eqb (refusal (Over.commitChecks E program X memory)) 0) (sym (map-rest kept (X .entries))) refl
+  call-tells (finish k list) s X memory = absurd s
 
--- ---- single calls, one after the other
-told-kept : (program : List ℕ) (x : Played) (cs : List Call) → Singles cs
-    → toldAfter (map kept (x .state .entries)) cs (answersOf program x cs) ≡ map kept (play program x cs .state .entries)
-unfolding toldAfter answersOf play
-told-kept program x [] s = refl
-told-kept program x (c ∷ cs) s =
-    ap (λ (ts : List Told). toldAfter ts cs (answersOf program (plays program x c) cs))
-    (call-tells program c (s .0) (x .state) (x .memory))
-    ∙ told-kept program (plays program x c) cs (s .1)
+  -- ---- single calls, one after the other
+  told-kept : (x : Played S) (cs : List Call) → Singles cs
+      → toldAfter (map kept (x .state .entries)) cs (answersOf E program x cs) ≡ map kept (play E program x cs .state .entries)
+  unfolding toldAfter answersOf play
+  told-kept x [] s = refl
+  told-kept x (c ∷ cs) s =
+      ap (λ (ts : List Told). toldAfter ts cs (answersOf E program (plays E program x c) cs))
+      (call-tells c (s .0) (x .state) (x .memory))
+      ∙ told-kept (plays E program x c) cs (s .1)
 
--- what the oldest has where its commit is accepted
-commit-kept : (program : List ℕ) (X : Plain) (memory : List ℕ) (i c r v d : ℕ)
-    → commits program X memory .answer ≡ committed i c r v d
-    → oldest (map kept (X .entries)) ≡ told (cond (eqb c 3) v 0) d
-commit-kept program X memory i c r v d = go (eqb (refusal (commitChecks program X memory)) 0) refl
-  where
-    e : Entry
-    e = entryAt (X .entries) 0
+  -- what the oldest has where its commit is accepted
+  commit-kept : (X : Plain S) (memory : List ℕ) (i c r v d : ℕ)
+      → Over.commits E program X memory .answer ≡ committed i c r v d
+      → oldest (map kept (X .entries)) ≡ told (cond (eqb c 3) v 0) d
+  commit-kept X memory i c r v d = go (eqb (refusal (Over.commitChecks E program X memory)) 0) refl
+    where
+      e : Entry
+      e = entryAt (X .entries) 0
 
-    executed-there : refusal (commitChecks program X memory) ≡ 0 → pending (e .fate) ≡ false
-    executed-there z =
-        let three = passes (not (eqb (length memory) (X .buffer .words))) 2 _ z in
-        let four = passes (not (fitsProgram program X)) 3 _ (three .1) in
-        let eleven = passes (eqb (length (X .entries)) 0) 10 _ (four .1) in
-        passes (pending (e .fate)) 11 _ (eleven .1) .0
+      executed-there : refusal (Over.commitChecks E program X memory) ≡ 0 → pending (e .fate) ≡ false
+      executed-there z =
+          let three = passes (not (eqb (length memory) (E .words (X .buffer)))) 2 _ z in
+          let four = passes (not (fitsProgram program X)) 3 _ (three .1) in
+          let eleven = passes (eqb (length (X .entries)) 0) 10 _ (four .1) in
+          passes (pending (e .fate)) 11 _ (eleven .1) .0
 
-    go : (t : Bool) → eqb (refusal (commitChecks program X memory)) 0 ≡ t
-        → cond t (committing X memory) (turnedDown (refusal (commitChecks program X memory)) X memory []) .answer
-        ≡ committed i c r v d
-        → oldest (map kept (X .entries)) ≡ told (cond (eqb c 3) v 0) d
-    go true z says =
-        let code : codeOf (e .instruction) ≡ c = cc in
-        let value : valueBy (e .fate) ≡ v = cc in
-        let far : answerBy (kind (e .instruction)) (e .distance) ≡ d = cc in
-        List·getD-map kept (X .entries) 0 blankEntry
-        ∙ executed-kept (e .instruction) (e .fate) (e .distance)
-        (executed-there (eqb-true (refusal (commitChecks program X memory)) 0 z))
-        ∙ ap₂ told (answer-code (e .instruction) (valueBy (e .fate)) ∙ ap₂ (λ (k w : ℕ). cond (eqb k 3) w 0) code value) far
-    go false z says = absurd (let y : _≡_ {A = ℕ} 0 1 = cc in omega arith)
+      go : (t : Bool) → eqb (refusal (Over.commitChecks E program X memory)) 0 ≡ t
+          → cond t (Over.committing E X memory) (turnedDown (refusal (Over.commitChecks E program X memory)) X memory []) .answer
+          ≡ committed i c r v d
+          → oldest (map kept (X .entries)) ≡ told (cond (eqb c 3) v 0) d
+      go true z says =
+          let code : codeOf (e .instruction) ≡ c = cc in
+          let value : valueBy (e .fate) ≡ v = cc in
+          let far : answerBy (kind (e .instruction)) (e .distance) ≡ d = cc in
+          List·getD-map kept (X .entries) 0 blankEntry
+          ∙ executed-kept (e .instruction) (e .fate) (e .distance)
+          (executed-there (eqb-true (refusal (Over.commitChecks E program X memory)) 0 z))
+          ∙ ap₂ told (answer-code (e .instruction) (valueBy (e .fate)) ∙ ap₂ (λ (k w : ℕ). cond (eqb k 3) w 0) code value) far
+      go false z says = absurd (let y : _≡_ {A = ℕ} 0 1 = cc in omega arith)
 
--- after single calls from an empty window
-pub passed-up : (program : List ℕ) (x : Played) → x .state .entries ≡ [] → (cs : List Call) → Singles cs
-    → (i c r v d : ℕ)
-    → respond program commit (play program x cs .state) (play program x cs .memory) .answer ≡ committed i c r v d
-    → PassesUp (oldest (toldAfter [] cs (answersOf program x cs))) c v d
-unfolding Over.respond
-passed-up program x empty cs s i c r v d says =
-    let y = play program x cs in
-    let all =
-    ap (λ (es : List Entry). toldAfter (map kept es) cs (answersOf program x cs)) (sym empty) ∙ told-kept program x cs s in
-    ap oldest all ∙ commit-kept program (y .state) (y .memory) i c r v d says
+  -- after single calls from an empty window
+  pub passed-up : (x : Played S) → x .state .entries ≡ [] → (cs : List Call) → Singles cs
+      → (i c r v d : ℕ)
+      → Over.respond E program commit (play E program x cs .state) (play E program x cs .memory) .answer ≡ committed i c r v d
+      → PassesUp (oldest (toldAfter [] cs (answersOf E program x cs))) c v d
+  unfolding Over.respond
+  passed-up x empty cs s i c r v d says =
+      let y = play E program x cs in
+      let all =
+      ap (λ (es : List Entry). toldAfter (map kept es) cs (answersOf E program x cs)) (sym empty) ∙ told-kept x cs s in
+      ap oldest all ∙ commit-kept (y .state) (y .memory) i c r v d says
 
--- every commit among the single calls of any calls, called or repeated by a finish
-pub commit-passes : (program : List ℕ) (x : Played) → x .state .entries ≡ [] → (cs pre post : List Call)
-    → unrolled program x cs ≡ pre ++ (commit ∷ post)
-    → (i c r v d : ℕ)
-    → respond program commit (play program x pre .state) (play program x pre .memory) .answer ≡ committed i c r v d
-    → PassesUp (oldest (toldAfter [] pre (answersOf program x pre))) c v d
-commit-passes program x empty cs pre post is =
-    passed-up program x empty pre (singles-first pre (commit ∷ post) (subst Singles is (unrolled-single program x cs)))
+  -- every commit among the single calls of any calls, called or repeated by a finish
+  pub commit-passes : (x : Played S) → x .state .entries ≡ [] → (cs pre post : List Call)
+      → unrolled E program x cs ≡ pre ++ (commit ∷ post)
+      → (i c r v d : ℕ)
+      → Over.respond E program commit (play E program x pre .state) (play E program x pre .memory) .answer ≡ committed i c r v d
+      → PassesUp (oldest (toldAfter [] pre (answersOf E program x pre))) c v d
+  commit-passes x empty cs pre post is =
+      passed-up x empty pre (singles-first pre (commit ∷ post) (subst Singles is (unrolled-single E program x cs)))
 
 -- of the calls of an opened machine, each as its contract says: what is told is read off their own answers
-pub calls-passed-up : {B R n W : ℕ} {program w : List ℕ} {m : Machine} (opens : Opens B R n W program w done m) {cs : List Call}
-    {answers : List Answer} {u : Machine} {v record′ : List ℕ} {k : ℕ} (life : Life program m w cs answers u v record′ k)
+pub calls-passed-up : {O S : Type 0} {E : Engine O S} {R : Realization E} {o : O} {program w : List ℕ} {m : R .Machine}
+    (opens : Opens R o program w done m) {cs : List Call} {answers : List Answer} {u : R .Machine} {v record′ : List ℕ} {k : ℕ}
+    (life : Life R program m w cs answers u v record′ k)
     → Singles cs
-    → (i c r value d : ℕ) {x : Machine} {y list : List ℕ}
-    → Meets program u commit v (committed i c r value d) x y list
+    → (i c r value d : ℕ) {x : R .Machine} {y list : List ℕ}
+    → Meets R program u commit v (committed i c r value d) x y list
     → PassesUp (oldest (toldAfter [] cs answers)) c value d
-calls-passed-up {program = program} {w = w} {m = m} opens {cs = cs} life s i c r value d meets =
+calls-passed-up {S = S} {E = E} {R = R} {program = program} {w = w} {m = m} opens {cs = cs} life s i c r value d meets =
     let f = from-opening opens life in
-    let empty = ap (λ (X : Plain). X .entries) (opens .state (done-opens opens) .1) in
-    let says = meets .answer (f .sound) ∙ ap (λ (z : Played). respond program commit (z .state) (z .memory) .answer) (f .played)
+    let empty = ap (λ (X : Plain S). X .entries) (opens .state (done-opens opens) .1) in
+    let says = meets .answer (f .sound)
+    ∙ ap (λ (z : Played S). Over.respond E program commit (z .state) (z .memory) .answer) (f .played)
     in
     subst (λ (l : List Answer). PassesUp (oldest (toldAfter [] cs l)) c value d) (sym (f .said))
-    (passed-up program (start (plain m) w) empty cs s i c r value d (sym says))
+    (passed-up E program (start (R .plain m) w) empty cs s i c r value d (sym says))

@@ -11,15 +11,14 @@ use Rattle.lookup.specs.Rows.{touched}
 use Rattle.machine_model.specs.Program.{programFits}
 use Rattle.machine_model.specs.Window.{registerSeen}
 use Rattle.machine_model.specs.Over
-use Rattle.machine_model.specs.Calls.{finishes, respond}
 use Rattle.theorem.specs.Sequential.{runAfter}
 use Rattle.theorem.specs.Play.{without, play, noneRefused, answersOf}
 use Rattle.theorem.specs.Examples.{AllCome, RunExample, ranTo, runTable, RecordExample, leftOf, recordTable}
 
 -- all that calls and the run compute with: to unfold this is to unfold them
 unfoldable pub computing : Unit {0}
-unfolding runAfter play noneRefused answersOf Over.respond Over.finishes every programFits seen distance keptYounger touched count last home
-    bank registerSeen
+unfolding runAfter play noneRefused answersOf Over.respond Over.finishes every programFits seen distance keptYounger touched
+    count last home bank registerSeen
 computing = tt
 
 -- an equation of lists is one of each row

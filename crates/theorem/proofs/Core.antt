@@ -5,7 +5,7 @@
 -- take a prefix, so they keep the invariant for nothing; issue appends; a commit moves the oldest into registers and memory.
 -- Assumes nothing.
 use mathlib.Core.Path.{_≡_}
-use mathlib.Core.Bool.{Bool, false, cond, _||_}
+use mathlib.Core.Bool.{Bool, true, false, cond, _||_}
 use mathlib.Core.List.{List, [], _∷_, _++_, map}
 use mathlib.Core.Option.{Option, some}
 use Prim.Native.Nat.{ℕ, suc, _-_, _*_, _/_, _≤_, _<_}
@@ -19,11 +19,12 @@ use Rattle.machine_model.specs.declared.Instruction.{Instruction}
 use Rattle.machine_model.specs.declared.Fate.{Fate}
 use Rattle.machine_model.specs.declared.Fate.the-variants.{Waiting, Executed}
 use Rattle.machine_model.specs.declared.Entry.{Entry}
-use Rattle.machine_model.specs.Program.{instructionAt}
+use Rattle.machine_model.specs.Program.{perInstruction, registersMost, instructionAt}
 use Rattle.machine_model.specs.Window.{
   entryAt,
   entryWith,
   successor,
+  pending,
   writesTo,
   valueOf,
   misaligned,
@@ -33,7 +34,7 @@ use Rattle.machine_model.specs.Window.{
   reference,
   evaluate,
 }
-use Rattle.machine_model.specs.Calls.{pending, newEntry, valueBy, refetch, registersAfter, committedSays, perCommit}
+use Rattle.machine_model.specs.Over.{newEntry, valueBy, refetch, registersAfter, committedSays, perCommit}
 use Rattle.theorem.specs.Sequential.{runAfter}
 use Rattle.theorem.specs.Play.{recorded, without}
 
@@ -92,7 +93,7 @@ afterCommit c e es =
     }
 
 pub data Step (program : List ℕ) (c : Core) : Core → Type 0 where
-  issuing : c .next < length program / 4
+  issuing : c .next < length program / perInstruction
       → Step program c
       (record {
         entries = c .entries ++ (newEntry program (c .next) ∷ []);
@@ -102,7 +103,8 @@ pub data Step (program : List ℕ) (c : Core) : Core → Type 0 where
         record′ = c .record′;
         commits = c .commits;
       })
-  executing : (p left : ℕ) (f : Fate) (d : ℕ) → p < left → left ≤ length (c .entries) → entryAt (c .entries) p .fate ≡ Waiting
+  executing : (p left : ℕ) (f : Fate) (d : ℕ) → p < left → left ≤ length (c .entries)
+      → pending (entryAt (c .entries) p .fate) ≡ true
       → evaluate (entryAt (c .entries) p .instruction) (registersAt c p) (memoryAt c p) ≡ some f
       → Spares (memoryAt c p) (referenceBy untold (entryAt (c .entries) p .instruction) f)
       (map reference (take (left - suc p) (drop (suc p) (c .entries))))
@@ -121,7 +123,7 @@ Right i ρ μ (Executed v a) = evaluate i ρ μ ≡ some (Executed v a)
 abbrev pub Good : List ℕ → ℕ → (ℕ → Option ℕ) → (ℕ → ℕ) → List Entry → Type 0
 Good program next ρ μ [] = Unit {0}
 Good program next ρ μ (e ∷ es) =
-    Right (e .instruction) ρ μ (e .fate) × (e .instruction ≡ instructionAt program (e .index)) × (e .index < length program / 4)
+    Right (e .instruction) ρ μ (e .fate) × (e .instruction ≡ instructionAt program (e .index)) × (e .index < length program / perInstruction)
     × (successor e ≡ headIndex es next)
     × Good program next (λ (k : ℕ). cond (writesTo (e .instruction) k) (valueOf (e .fate)) (ρ k)) (past (reference e) μ) es
 
@@ -138,4 +140,4 @@ pub record Kept (program memory : List ℕ) (c : Core) : Type 0 where
 
 -- the window of a program just opened
 abbrev pub fresh : List ℕ → Core
-fresh memory = record { entries = []; registers = replicate 8 0; memory = memory; next = 0; record′ = []; commits = 0 }
+fresh memory = record { entries = []; registers = replicate registersMost 0; memory = memory; next = 0; record′ = []; commits = 0 }

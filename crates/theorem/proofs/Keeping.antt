@@ -27,10 +27,11 @@ use Rattle.machine_model.specs.declared.Instruction.the-variants.{Add, Sum, Loa
 use Rattle.machine_model.specs.declared.Fate.{Fate}
 use Rattle.machine_model.specs.declared.Fate.the-variants.{Waiting, Executed}
 use Rattle.machine_model.specs.declared.Entry.{Entry}
-use Rattle.machine_model.specs.Program.{decoded, instructionAt, codeOf, wellFormed, wellFormedAt, programFits, dOf}
-use Rattle.machine_model.specs.Window.{entryAt, entryWith, writesTo, valueOf, addressBy, registerSeen, referenceBy, untold}
+use Rattle.machine_model.specs.Program.{perInstruction, decoded, instructionAt, codeOf, wellFormed, wellFormedAt, programFits}
+use Rattle.machine_model.specs.Program.{dOf}
+use Rattle.machine_model.specs.Window.{pending, entryAt, entryWith, writesTo, valueOf, addressBy, registerSeen, referenceBy, untold}
 use Rattle.machine_model.specs.Window.{reference, evaluate}
-use Rattle.machine_model.specs.Calls.{pending, newEntry, valueBy, registersAfter, target, committedSays}
+use Rattle.machine_model.specs.Over.{newEntry, valueBy, registersAfter, target, committedSays}
 use Rattle.theorem.specs.Sequential.{Run, does, faultsAt, ends, step, runAfter}
 use Rattle.theorem.specs.Play.{recorded, without}
 use Rattle.theorem.proofs.Core.{Core, Step, issuing, executing, squashing, committing, seenBy, registersAt, memoryAt}
@@ -68,7 +69,7 @@ head-append program next [] = refl
 head-append program next (e ∷ es) = refl
 
 module _ (program : List ℕ) (next : ℕ) where
-  good-append : (es : List Entry) (ρ : ℕ → Option ℕ) (μ : ℕ → ℕ) → next < length program / 4 → Good program next ρ μ es
+  good-append : (es : List Entry) (ρ : ℕ → Option ℕ) (μ : ℕ → ℕ) → next < length program / perInstruction → Good program next ρ μ es
       → Good program (suc next) ρ μ (es ++ (newEntry program next ∷ []))
   good-append [] ρ μ h g = (tt, refl, h, refl, tt)
   good-append (e ∷ es) ρ μ h g = (g .0, g .1, g .2, g .3 ∙ sym (head-append program next es), good-append es _ _ h (g .4))
@@ -85,14 +86,20 @@ right-of : (i : Instruction) (ρ : ℕ → Option ℕ) (μ : ℕ → ℕ) (f : F
 right-of i ρ μ Waiting h = tt
 right-of i ρ μ (Executed v a) h = h
 
--- a waiting entry told nothing of the register that it writes
-told : (t : Bool) (f g : Fate) (w : Option ℕ) → f ≡ Waiting → Tells (cond t (valueOf f) w) (cond t (valueOf g) w)
-told true f g w e = subst (λ (x : Fate). Tells (valueOf x) (valueOf g)) (sym e) (unknown-tells (valueOf g))
+-- an entry that has not executed told nothing of the register that it writes,
+told : (t : Bool) (f g : Fate) (w : Option ℕ) → pending f ≡ true → Tells (cond t (valueOf f) w) (cond t (valueOf g) w)
+told true Waiting g w e = unknown-tells (valueOf g)
+told true (Executed v a) g w e = absurd (true≢false (sym e))
 told false f g w e = λ v h. h
+
+-- and stored nothing
+unstored : (i : Instruction) (f : Fate) (a w : ℕ) → pending f ≡ true → Forwarding.wordAfter (referenceBy untold i f) a w ≡ w
+unstored i Waiting a w e = refl
+unstored i (Executed v b) a w e = absurd (true≢false (sym e))
 
 module _ (program : List ℕ) (next : ℕ) (f : Fate) (d : ℕ) where
   good-set : (p left : ℕ) (es : List Entry) (ρ : ℕ → Option ℕ) (μ : ℕ → ℕ) → p < left → left ≤ length es
-      → entryAt es p .fate ≡ Waiting
+      → pending (entryAt es p .fate) ≡ true
       → evaluate (entryAt es p .instruction) (λ (k : ℕ). registerSeen (take p es) k (ρ k)) (λ (a : ℕ). seenBy (take p es) a (μ a))
       ≡ some f
       → Spares (λ (a : ℕ). seenBy (take p es) a (μ a)) (referenceBy untold (entryAt es p .instruction) f)
@@ -112,7 +119,7 @@ module _ (program : List ℕ) (next : ℕ) (f : Fate) (d : ℕ) where
         g .3 ∙ sym (head-take left es next),
         good-more program (headIndex (drop left es) next) (take left es) _ _ _ _
             (λ k. told (writesTo (e .instruction) k) (e .fate) f (ρ k) w)
-            (λ b h. ap (λ (x : Fate). Forwarding.wordAfter (referenceBy untold (e .instruction) x) b (μ b)) w
+            (λ b h. unstored (e .instruction) (e .fate) b (μ b) w
             ∙ changed μ r (map reference (take left es)) spared b h)
             (good-take program next left es _ _ (g .4)),
       )
@@ -208,7 +215,7 @@ module _ (program memory : List ℕ) (c : Core) (e : Entry) (es : List Entry) (k
     ends-so : ends program (runAfter program memory (c .commits)) ≡ barred (length (c .memory)) e
     ends-so =
         ap (ends program) run-is
-        ∙ rw (lt-leb (length program / 4) (e .index) (good-oldest .2), ← good-oldest .1)
+        ∙ rw (lt-leb (length program / perInstruction) (e .index) (good-oldest .2), ← good-oldest .1)
         (does-so (runOf c e) (e .instruction) (e .fate) comes .1)
 
     run-goes : barred (length (c .memory)) e ≡ false
@@ -278,7 +285,7 @@ decoded-d code d s imm =
     (chosen-d (eqb code 3) _ _ d refl
     (chosen-d (eqb code 4) _ _ d refl (chosen-d (eqb code 5) (Byte d s imm) (Half d s imm) d refl refl))))
 
-d-fits : (program : List ℕ) (i : ℕ) → programFits program ≡ true → i < length program / 4
+d-fits : (program : List ℕ) (i : ℕ) → programFits program ≡ true → i < length program / perInstruction
     → dOf (instructionAt program i) < 8
 unfolding programFits
 d-fits program i fits h =
@@ -286,8 +293,8 @@ d-fits program i fits h =
     (decoded-d (getD program (i * 4) 0) (getD program (i * 4 + 1) 0) (getD program (i * 4 + 2) 0) (getD program (i * 4 + 3) 0))
     (formed-d (getD program (i * 4) 0) (getD program (i * 4 + 1) 0) (getD program (i * 4 + 2) 0)
     (getD program (i * 4 + 3) 0)
-    (every-at (wellFormedAt program) (length program / 4)
-    (both (eqb (length program % 4) 0) (every (wellFormedAt program) (length program / 4)) fits .1)
+    (every-at (wellFormedAt program) (length program / perInstruction)
+    (both (eqb (length program % 4) 0) (every (wellFormedAt program) (length program / perInstruction)) fits .1)
     i
     h))
 
@@ -378,11 +385,11 @@ none-after program memory fits {c} kept (committing e es at w f) end =
 pub issue-left : (program memory : List ℕ) (c : Core) → Kept program memory c
     → ends program (runAfter program memory (c .commits)) ≡ false
     → c .entries ≡ []
-    → c .next < length program / 4
+    → c .next < length program / perInstruction
 issue-left program memory c kept goes empty =
     let next : c .next ≡ runAfter program memory (c .commits) .index =
     ap (λ (l : List Entry). headIndex l (c .next)) (sym empty) ∙ kept .index in
-    omega (arith, leb-false (length program / 4) (runAfter program memory (c .commits) .index) (neither _ _ goes .0))
+    omega (arith, leb-false (length program / perInstruction) (runAfter program memory (c .commits) .index) (neither _ _ goes .0))
 
 -- the oldest entry's operands are known
 pub oldest-known : (c : Core) (e : Entry) (es : List Entry) → c .entries ≡ e ∷ es

@@ -9,7 +9,7 @@ use Prim.Native.Nat.{ℕ, _≤_}
 use native.Mathlib.Omega.{arith}
 use lib.ListN.{length, replicate, set, take, drop}
 use Rattle.marks.specs.Circle.{firsts}
-use Rattle.table.specs.Limits.{sizesFit}
+use Rattle.table.specs.Limits.{sizesFit, stagesMost, slots}
 use Rattle.table.specs.View.{markFate, tabulate}
 use Rattle.table.specs.computed.Check.{marksBelow, rowFits, lawfulBy}
 use Rattle.engine.specs.Contract.{refused, done, named, executed, committed, finished}
@@ -18,9 +18,10 @@ use Rattle.machine_model.specs.declared.Instruction.the-variants.{Add}
 use Rattle.machine_model.specs.declared.Fate.{Fate}
 use Rattle.machine_model.specs.declared.Fate.the-variants.{Waiting, Executed}
 use Rattle.machine_model.specs.declared.Machine.{Machine}
+use Rattle.machine_model.specs.Program.{registersMost}
 use Rattle.machine_model.specs.Window.{blankEntry}
-use Rattle.machine_model.specs.Calls.{Call, issue, execute, commit, finish, Answer, respond}
-use Rattle.machine_model.specs.Contract.{freshMachine, plain, Sound, Meets, Opens}
+use Rattle.machine_model.specs.Calls.{Opening, banked, Call, issue, execute, commit, finish, Answer, respond}
+use Rattle.machine_model.specs.Contract.{freshMachine, tabled, plain, Sound, Meets, Opens}
 use Rattle.machine_model.proofs.Opened.{fresh-sound, opens-done}
 use Rattle.machine_model.proofs.Answering.{refused-meets, accepted-meets, validate-passes}
 use Rattle.theorem.specs.Play.{without, needed}
@@ -29,6 +30,7 @@ use Rattle.theorem.specs.Truth.{CallsTruth}
 use Rattle.theorem.specs.Answered.{told, toldAfter, oldest}
 use Rattle.theorem.proofs.Cases.{computing}
 use Rattle.theorem.proofs.Sentences.{Unrefused}
+use Rattle.theorem.proofs.Buffered.{buffer-owes}
 use Rattle.theorem.proofs.Closing.{life-join, calls-theorem, calls-next}
 use Rattle.theorem.proofs.Outcome.{finish-over}
 use Rattle.theorem.proofs.Answered.{calls-passed-up}
@@ -47,28 +49,32 @@ machine oldest live number ran fate registers next =
         live = live;
         next = number;
         executed = ran;
-        numbers = replicate 16 0;
-        addresses = replicate 64 0;
-        loads = replicate 64 0;
-        stores = replicate 64 0;
-        values = replicate 16 0;
-        taken = replicate 16 0;
+        numbers = replicate stagesMost 0;
+        addresses = replicate slots 0;
+        loads = replicate slots 0;
+        stores = replicate slots 0;
+        values = replicate stagesMost 0;
+        taken = replicate stagesMost 0;
       };
-      window = set (replicate 16 blankEntry) 0 (record { instruction = Add 1 0 9; index = 0; fate = fate; distance = 0 });
+      window = set (replicate stagesMost blankEntry) 0 (record { instruction = Add 1 0 9; index = 0; fate = fate; distance = 0 });
       registers = registers;
       count = 4;
       next = next;
     }
 
+-- one bank of one row, three stages and eight words
+abbrev opening : Opening
+opening = banked 1 1 3 8
+
 -- opened; its first instruction issued, executed and committed; the program finished
 abbrev m₀ : Machine
-m₀ = freshMachine 1 1 3 8 4
+m₀ = freshMachine opening 4
 
 abbrev m₁ : Machine
-m₁ = machine 0 1 1 0 Waiting (replicate 8 0) 1
+m₁ = machine 0 1 1 0 Waiting (replicate registersMost 0) 1
 
 abbrev m₂ : Machine
-m₂ = machine 0 1 1 1 (Executed 9 0) (replicate 8 0) 1
+m₂ = machine 0 1 1 1 (Executed 9 0) (replicate registersMost 0) 1
 
 abbrev m₃ : Machine
 m₃ = machine 1 0 1 1 (Executed 9 0) (0 ∷ 9 ∷ 0 ∷ 0 ∷ 0 ∷ 0 ∷ 0 ∷ 0 ∷ []) 1
@@ -79,13 +85,13 @@ m₄ = machine 1 0 4 0 Waiting (0 ∷ 9 ∷ 9 ∷ 6 ∷ 0 ∷ 0 ∷ 0 ∷ 0 ∷ 
 abbrev final : List ℕ
 final = 0 ∷ 0 ∷ 0 ∷ 9 ∷ 6 ∷ 0 ∷ 0 ∷ 0 ∷ []
 
-opens : Opens 1 1 3 8 program memory done m₀
+opens : Opens opening program memory done m₀
 unfolding computing sizesFit
-opens = opens-done 1 1 3 8 program memory refl refl
+opens = opens-done opening program memory refl refl
 
 sound₀ : Sound m₀
 unfolding sizesFit
-sound₀ = fresh-sound 1 1 3 8 4 refl
+sound₀ = fresh-sound opening 4 refl
 
 sound : Sound m₁ × Sound m₂ × Sound m₃ × Sound m₄
 unfolding computing sizesFit firsts markFate tabulate marksBelow rowFits lawfulBy
@@ -133,32 +139,32 @@ finishes-all = accepted m₃ m₄ (finish 5 lent) memory final left (sound .2) (
 
 -- ---- the life, and what the theorem says of it
 
-begins : Life program m₀ memory (commit ∷ []) (refused 11 ∷ []) m₀ memory [] 0
+begins : Life tabled program m₀ memory (commit ∷ []) (refused 11 ∷ []) m₀ memory [] 0
 begins = lived commit born refuses
 
-needs : Life program m₀ memory (needed (plain m₀)) (named 0 ∷ executed 0 0 none ∷ committed 0 1 1 9 0 ∷ []) m₃ memory
+needs : Life tabled program m₀ memory (needed program (plain m₀)) (named 0 ∷ executed 0 0 none ∷ committed 0 1 1 9 0 ∷ []) m₃ memory
     (take 5 numbers) 1
 unfolding computing tabulate
 needs = lived commit (lived (execute 0) (lived issue born issues) executes) commits
 
-whole : Life program m₀ memory (commit ∷ issue ∷ execute 0 ∷ commit ∷ finish 5 lent ∷ [])
+whole : Life tabled program m₀ memory (commit ∷ issue ∷ execute 0 ∷ commit ∷ finish 5 lent ∷ [])
     (refused 11 ∷ named 0 ∷ executed 0 0 none ∷ committed 0 1 1 9 0 ∷ finished 3 ∷ []) m₄ final numbers 4
 unfolding computing tabulate
 whole = lived (finish 5 lent) (life-join begins needs) finishes-all
 
-pub true-of-it : CallsTruth program memory m₄ final numbers 4
-true-of-it = calls-theorem opens whole
+pub true-of-it : CallsTruth tabled program memory m₄ final numbers 4
+true-of-it = calls-theorem buffer-owes opens whole
 
 -- the calls that the opened machine needs commit the run's first instruction
-pub goes-on-there : (length (needed (plain m₀)) ≤ 3) × Unrefused (named 0 ∷ executed 0 0 none ∷ committed 0 1 1 9 0 ∷ [])
-    × CallsTruth program memory m₃ memory (take 5 numbers) 1
+pub goes-on-there : (length (needed program (plain m₀)) ≤ 3) × Unrefused (named 0 ∷ executed 0 0 none ∷ committed 0 1 1 9 0 ∷ [])
+    × CallsTruth tabled program memory m₃ memory (take 5 numbers) 1
 unfolding computing
-goes-on-there = calls-next opens begins refl needs
+goes-on-there = calls-next buffer-owes opens begins refl needs
 
 -- and the record is then the run's: without its distances it is concluded, not computed
 pub records-there : without (take 5 numbers) ≡ 0 ∷ 1 ∷ 1 ∷ 9 ∷ []
 unfolding computing
-records-there = calls-theorem opens begins .goes-on refl needs .3
+records-there = calls-theorem buffer-owes opens begins .goes-on refl needs .3
 
 -- the commit's numbers were passed up by the execution before it: nothing of what is told is computed
 pub passed-there : oldest (toldAfter [] (issue ∷ execute 0 ∷ []) (named 0 ∷ executed 0 0 none ∷ [])) ≡ told 0 0
@@ -168,7 +174,7 @@ passed-there =
 
 -- the finish said 3 of 5 with five places left, so no further calls tell of a commit
 pub stops-there : {cs : List Call} {answers : List Answer} {x : Machine} {y more : List ℕ} {j : ℕ}
-    → Life program m₄ final cs answers x y more j
+    → Life tabled program m₄ final cs answers x y more j
     → j ≡ 0
 unfolding computing tabulate
-stops-there more = finish-over opens (life-join begins needs) 5 3 lent finishes-all (omega arith) (omega arith) more
+stops-there more = finish-over buffer-owes opens (life-join begins needs) 5 3 lent finishes-all (omega arith) (omega arith) more

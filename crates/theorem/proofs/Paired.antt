@@ -4,17 +4,16 @@
 -- is the law of faithful references (crates/lookup/proofs/Faithfully.antt): what stays is a part of what the store's check
 -- leaves, also where the address had no row, as the check then leaves all. Entries do not keep the word that a load took, and
 -- nothing here goes by it. Assumes nothing.
-use mathlib.Core.Bool.{Bool, true, false, cond}
-use mathlib.Core.List.{List, [], _∷_, _++_, map}
+use mathlib.Core.Bool.{Bool, true, false, cond, true≢false}
+use mathlib.Core.List.{List, [], _∷_, map}
 use mathlib.Core.Logic.{_⊎_, inl, inr, ⊎-elim}
-use mathlib.Core.Path.{_≡_, refl, sym, ap, subst, _∙_}
-use Prim.Native.Nat.{ℕ, zero, suc, _+_, _-_, _≤_, _<_, min}
+use mathlib.Core.Path.{_≡_, refl, sym, ap, _∙_}
+use Prim.Native.Nat.{ℕ, zero, suc, _-_, _≤_, _<_}
 use native.Mathlib.Nat.{le-refl}
 use native.Mathlib.Omega.{arith}
-use lib.Dec.{eqb, ltb}
-use lib.ListN.{length, getD, take, drop, set, length-append, length-take, length-drop, length-set, List·getD-append}
-use lib.Seq.{getD-take, getD-drop, getD-set-same, getD-set-other, getD-at}
-use borrow.Author.Tests.{ltb-true, ltb-false, eqb-true, eqb-false}
+use lib.Dec.{ltb}
+use lib.ListN.{length, getD, take, drop}
+use borrow.Author.Tests.{ltb-true}
 use Rattle.marks.specs.Counting.{last}
 use Rattle.table.specs.Bank.{bank}
 use Rattle.table.specs.Reference.{Side, lacks, holds, Fate, waiting, other, accessed, Ref, ref, blank, fateOf, at, State}
@@ -34,60 +33,19 @@ use Rattle.machine_model.specs.declared.Fate as Machine
 use Rattle.machine_model.specs.declared.Fate.the-variants.{Waiting, Executed}
 use Rattle.machine_model.specs.declared.Entry.{Entry}
 use Rattle.machine_model.specs.Program.{kind}
-use Rattle.machine_model.specs.Window.{blankEntry, entryAt, accessBy, referenceBy, untold, reference}
-use Rattle.theorem.specs.computed.Linked.{wordless}
+use Rattle.machine_model.specs.Window.{pending, accessBy, referenceBy, untold, reference}
 use Rattle.theorem.proofs.Core.{seenBy}
+use Rattle.theorem.proofs.Each.{Each, each-drop}
 
--- the lists have one length, and what stands at each position is related
-abbrev pub Each : (Ref → Entry → Type 0) → List Ref → List Entry → Type 0
-Each P rs es = (length rs ≡ length es) × ((p : ℕ) → p < length es → P (at rs p) (entryAt es p))
+-- a fate without the word that its load took, which an entry does not keep
+abbrev pub wordlessSide : Side → Side
+wordlessSide lacks = lacks
+wordlessSide (holds w) = holds (untold w)
 
-module _ (P : Ref → Entry → Type 0) (rs : List Ref) (es : List Entry) (all : Each P rs es) where
-  pub each-next : (r : Ref) (e : Entry) → P r e → Each P (rs ++ (r ∷ [])) (es ++ (e ∷ []))
-  each-next r e h =
-      (simp length-append (omega (arith, all .0)), λ p l. go p l (ltb p (length es)) refl)
-    where
-      go : (p : ℕ) → p < length (es ++ (e ∷ [])) → (t : Bool) → ltb p (length es) ≡ t
-          → P (at (rs ++ (r ∷ [])) p) (entryAt (es ++ (e ∷ [])) p)
-      go p l true t =
-          let i : p < length es = ltb-true p (length es) t in
-          rw (List·getD-append rs (r ∷ []) blank p (omega (arith, all .0)), List·getD-append es (e ∷ []) blankEntry p i)
-          (all .1 p i)
-      go p l false t =
-          let i : length es ≡ p = omega (arith, ltb-false p (length es) t, length-append es (e ∷ [])) in
-          rw (getD-at rs r [] blank p (all .0 ∙ i), getD-at es e [] blankEntry p i) h
-
-  pub each-take : (k : ℕ) → Each P (take k rs) (take k es)
-  each-take k =
-      (length-take k rs ∙ ap (min k) (all .0) ∙ sym (length-take k es), λ p l. go p l (length-take k es))
-    where
-      go : (p : ℕ) → p < length (take k es) → length (take k es) ≡ min k (length es)
-          → P (at (take k rs) p) (entryAt (take k es) p)
-      go p l m =
-          let i : p < k = omega arith in
-          rw (getD-take k rs p blank i, getD-take k es p blankEntry i) (all .1 p (omega arith))
-
-  pub each-drop : (k : ℕ) → Each P (drop k rs) (drop k es)
-  each-drop k = (
-    length-drop k rs ∙ ap (λ (n : ℕ). n - k) (all .0) ∙ sym (length-drop k es),
-    λ p l. rw (getD-drop k rs p blank, getD-drop k es p blankEntry) (all .1 (k + p) (omega (arith, length-drop k es))),
-  )
-
-  pub each-set : (p : ℕ) (r : Ref) (e : Entry) → P r e → Each P (set rs p r) (set es p e)
-  each-set p r e h =
-      (length-set rs p r ∙ all .0 ∙ sym (length-set es p e), λ q l. go q (rw (length-set es p e) at l) (eqb q p) refl)
-    where
-      go : (q : ℕ) → q < length es → (t : Bool) → eqb q p ≡ t → P (at (set rs p r) q) (entryAt (set es p e) q)
-      go q l true t =
-          let i : q ≡ p = eqb-true q p t in
-          subst (λ (j : ℕ). P (at (set rs p r) j) (entryAt (set es p e) j)) (sym i)
-          (rw (
-            getD-set-same rs p r blank (omega (arith, all .0)),
-            getD-set-same es p e blankEntry (omega arith),
-          ) h)
-      go q l false t =
-          let i = eqb-false q p t in
-          rw (getD-set-other rs p q r blank i, getD-set-other es p q e blankEntry i) (all .1 q l)
+abbrev pub wordless : Fate → Fate
+wordless waiting = waiting
+wordless other = other
+wordless (accessed a l s) = accessed a (wordlessSide l) s
 
 -- a reference bears its entry's fate, but for the word that a load took
 abbrev pub Fated : Ref → Entry → Type 0
@@ -99,13 +57,13 @@ after-wordless waiting a w = refl
 after-wordless other a w = refl
 after-wordless (accessed b l s) a w = refl
 
-pub seen-paired : (rs : List Ref) (es : List Entry) (a w : ℕ) → Each Fated rs es → seen rs a w ≡ seenBy es a w
+pub seen-paired : (rs : List Ref) (es : List Entry) (a w : ℕ) → Each blank Fated rs es → seen rs a w ≡ seenBy es a w
 unfolding seen seenBy
 seen-paired [] [] a w all = refl
 seen-paired [] (e ∷ es) a w all = absurd (omega (arith, all .0))
 seen-paired (r ∷ rs) [] a w all = absurd (omega (arith, all .0))
 seen-paired (ref n f ∷ rs) (e ∷ es) a w all =
-    seen-paired rs es a (wordAfter f a w) (each-drop Fated (ref n f ∷ rs) (e ∷ es) all 1)
+    seen-paired rs es a (wordAfter f a w) (each-drop blank Fated (ref n f ∷ rs) (e ∷ es) all 1)
     ∙ ap (seenBy es a) (after-wordless f a w ∙ ap (λ (g : Fate). wordAfter g a w) (all .1 0 (omega arith)))
 
 -- nor in which of them loaded
@@ -115,13 +73,13 @@ clear-wordless other a b = refl
 clear-wordless (accessed c lacks s) a b = refl
 clear-wordless (accessed c (holds w) s) a b = refl
 
-clear-paired : (rs : List Ref) (es : List Entry) (a : ℕ) → Each Fated rs es → clear a (map fateOf rs) ≡ clear a (map reference es)
+clear-paired : (rs : List Ref) (es : List Entry) (a : ℕ) → Each blank Fated rs es → clear a (map fateOf rs) ≡ clear a (map reference es)
 unfolding clear
 clear-paired [] [] a all = refl
 clear-paired [] (e ∷ es) a all = absurd (omega (arith, all .0))
 clear-paired (r ∷ rs) [] a all = absurd (omega (arith, all .0))
 clear-paired (ref n f ∷ rs) (e ∷ es) a all =
-    ap (clearBy f a) (clear-paired rs es a (each-drop Fated (ref n f ∷ rs) (e ∷ es) all 1))
+    ap (clearBy f a) (clear-paired rs es a (each-drop blank Fated (ref n f ∷ rs) (e ∷ es) all 1))
     ∙ clear-wordless f a (clear a (map reference es))
     ∙ ap (λ (g : Fate). clearBy g a (clear a (map reference es))) (all .1 0 (omega arith))
 
@@ -219,7 +177,7 @@ module _ (μ : ℕ → ℕ) (i : Instruction) where
       go Merging = refl
 
   -- what is owed to references is owed to their entries, which see the same
-  pub spares-paired : (ν : ℕ → ℕ) (rs : List Ref) (es : List Entry) (x : Machine.Fate) → ((a : ℕ) → μ a ≡ ν a) → Each Fated rs es
+  pub spares-paired : (ν : ℕ → ℕ) (rs : List Ref) (es : List Entry) (x : Machine.Fate) → ((a : ℕ) → μ a ≡ ν a) → Each blank Fated rs es
       → Spares μ (referenceBy μ i x) (map fateOf rs) → Spares ν (referenceBy untold i x) (map reference es)
   spares-paired ν rs es Waiting same all h = tt
   spares-paired ν rs es (Executed v a) same all h = go (kind i) h
@@ -238,10 +196,18 @@ module _ (μ : ℕ → ℕ) (i : Instruction) where
 
 -- ---- the word that a load took plays no part in the rest
 
-pub wordless-waiting : (f : Fate) → wordless f ≡ waiting → f ≡ waiting
+wordless-waiting : (f : Fate) → wordless f ≡ waiting → f ≡ waiting
 wordless-waiting waiting e = refl
 wordless-waiting other e = absurd (let z : _≡_ {A = ℕ} 0 1 = cc in omega arith)
 wordless-waiting (accessed a l s) e = absurd (let z : _≡_ {A = ℕ} 0 1 = cc in omega arith)
+
+waiting-of : (i : Instruction) (x : Machine.Fate) → pending x ≡ true → referenceBy untold i x ≡ waiting
+waiting-of i Waiting e = refl
+waiting-of i (Executed v a) e = absurd (true≢false (sym e))
+
+-- where an entry has not executed, nor has its reference
+pub pending-waiting : (r : Ref) (e : Entry) → Fated r e → pending (e .fate) ≡ true → fateOf r ≡ waiting
+pending-waiting r e fate idle = wordless-waiting (fateOf r) (fate ∙ waiting-of (e .instruction) (e .fate) idle)
 
 pub faults-wordless : (words : ℕ) (f : Fate) → faults words f ≡ faults words (wordless f)
 faults-wordless words waiting = refl

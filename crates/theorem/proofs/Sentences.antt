@@ -19,10 +19,9 @@ use Rattle.engine.specs.Contract.{refused, named, executed, done, committed, fi
 use Rattle.engine.specs.Conditions.{refusal}
 use Rattle.machine_model.specs.declared.Instruction.{Instruction}
 use Rattle.machine_model.specs.declared.Instruction.the-variants.{Byte, Half}
-use Rattle.machine_model.specs.Program.{instructionAt}
+use Rattle.machine_model.specs.Program.{perInstruction, instructionAt}
 use Rattle.machine_model.specs.Over
-use Rattle.machine_model.specs.Calls.{Plain, Call, issue, execute, squash, commit, finish, Answer, Result, respond}
-use Rattle.machine_model.specs.Calls.{issueChecks, executeChecks, squashChecks, commitChecks, finishChecks}
+use Rattle.machine_model.specs.Over.{Engine, Plain, Call, issue, execute, squash, commit, finish, Answer, Result}
 use Rattle.theorem.specs.Sequential.{Run, putsPart, register, addressOf, does, faultsAt, ends}
 use Rattle.theorem.specs.Play.{recorded, commitsIn, isRefused, noneRefused}
 use Rattle.theorem.proofs.Finishing.{either}
@@ -72,18 +71,19 @@ Counts (squash p) a = commitsIn a ≡ 0
 Counts commit a = commitsIn a ≡ cond (isRefused a) 0 1
 Counts (finish k list) a = isRefused a ≡ false → a ≡ finished (commitsIn a)
 
-pub counts : (program : List ℕ) (c : Call) (X : Plain) (memory : List ℕ) → Counts c (respond program c X memory .answer)
+pub counts : {O S : Type 0} (E : Engine O S) (program : List ℕ) (c : Call) (X : Plain S) (memory : List ℕ)
+    → Counts c (Over.respond E program c X memory .answer)
 unfolding Over.respond
-counts program issue X memory =
-    either (λ (r : Result). Counts issue (r .answer)) (eqb (refusal (issueChecks program X)) 0) refl refl
-counts program (execute p) X memory =
-    either (λ (r : Result). Counts (execute p) (r .answer)) (eqb (refusal (executeChecks program X memory p)) 0) refl refl
-counts program (squash p) X memory =
-    either (λ (r : Result). Counts (squash p) (r .answer)) (eqb (refusal (squashChecks program X p)) 0) refl refl
-counts program commit X memory =
-    either (λ (r : Result). Counts commit (r .answer)) (eqb (refusal (commitChecks program X memory)) 0) refl refl
-counts program (finish k list) X memory =
-    either (λ (r : Result). Counts (finish k list) (r .answer)) (eqb (refusal (finishChecks program X memory)) 0) (λ e. refl)
+counts {S = S} E program issue X memory =
+    either (λ (r : Result S). Counts issue (r .answer)) (eqb (refusal (Over.issueChecks E program X)) 0) refl refl
+counts {S = S} E program (execute p) X memory =
+    either (λ (r : Result S). Counts (execute p) (r .answer)) (eqb (refusal (Over.executeChecks E program X memory p)) 0) refl refl
+counts {S = S} E program (squash p) X memory =
+    either (λ (r : Result S). Counts (squash p) (r .answer)) (eqb (refusal (Over.squashChecks E program X p)) 0) refl refl
+counts {S = S} E program commit X memory =
+    either (λ (r : Result S). Counts commit (r .answer)) (eqb (refusal (Over.commitChecks E program X memory)) 0) refl refl
+counts {S = S} E program (finish k list) X memory =
+    either (λ (r : Result S). Counts (finish k list) (r .answer)) (eqb (refusal (Over.finishChecks E program X memory)) 0) (λ e. refl)
     (λ e. absurd (true≢false e))
 
 -- ---- B and H in the sequential run
@@ -92,9 +92,9 @@ counts program (finish k list) X memory =
 pub odd-ends : (program : List ℕ) (r : Run) (d s imm : ℕ) → instructionAt program (r .index) ≡ Half d s imm
     → addressOf r s imm % 2 ≡ 1 → ends program r ≡ true
 odd-ends program r d s imm is odd =
-    ap (λ (i : Instruction). leb (length program / 4) (r .index) || faultsAt r i) is
+    ap (λ (i : Instruction). leb (length program / perInstruction) (r .index) || faultsAt r i) is
     ∙ rw (eq-eqb (addressOf r s imm % 2) 1 odd, or-true (leb (length (r .memory)) (wordOf (addressOf r s imm))))
-    (or-true (leb (length program / 4) (r .index)))
+    (or-true (leb (length program / perInstruction) (r .index)))
 
 -- byte j of memory: its word is a quarter of j rounded down, and lower byte numbers are the lower bits of the word
 abbrev pub byteAt : List ℕ → ℕ → ℕ

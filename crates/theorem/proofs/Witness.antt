@@ -15,8 +15,9 @@ use native.Mathlib.Omega.{arith}
 use lib.ListN.{length, take, drop, replicate}
 use Rattle.marks.specs.Circle.{stage}
 use Rattle.table.specs.Limits.{sizesFit}
+use Rattle.table.specs.Reference.{State}
 use Rattle.engine.specs.Contract.{refused, done, named, executed, committed, finished}
-use Rattle.machine_model.specs.Calls.{Call, issue, execute, squash, commit, finish, Answer, respond, opened}
+use Rattle.machine_model.specs.Calls.{banked, buffered, Call, issue, execute, squash, commit, finish, Answer, respond, opened}
 use Rattle.theorem.specs.Sequential.{runAfter, ends, step}
 use Rattle.theorem.specs.Play.{without, Played, play, start, answersOf, allAccepted}
 use Rattle.theorem.specs.Truth.{run, next, Truth}
@@ -24,6 +25,7 @@ use Rattle.theorem.specs.Finish.{stepsLeft, FinishTruth}
 use Rattle.theorem.specs.Unrolled.{repeated, unrolled}
 use Rattle.theorem.specs.Answered.{told, toldAfter, oldest}
 use Rattle.theorem.proofs.Cases.{computing}
+use Rattle.theorem.proofs.Buffered.{buffer-owes}
 use Rattle.theorem.proofs.Record.{record-theorem}
 use Rattle.theorem.proofs.Finished.{finish-theorem}
 use Rattle.theorem.proofs.Outcome.{one-outcome}
@@ -36,8 +38,8 @@ program = 1 ∷ 1 ∷ 0 ∷ 9 ∷ 4 ∷ 1 ∷ 0 ∷ 3 ∷ 3 ∷ 2 ∷ 0 ∷ 3 �
 abbrev pub memory : List ℕ
 memory = 0 ∷ 0 ∷ 0 ∷ 5 ∷ 6 ∷ 0 ∷ 0 ∷ 0 ∷ []
 
-abbrev opening : Played
-opening = start (opened 1 1 3 8 program) memory
+abbrev opening : Played State
+opening = start (opened (banked 1 1 3 8) program) memory
 
 abbrev calls : List Call
 calls =
@@ -45,13 +47,13 @@ calls =
     ∷ finish 5 (replicate 11 0)
     ∷ []
 
-abbrev x : Played
-x = play program opening calls
+abbrev x : Played State
+x = play buffered program opening calls
 
 -- Nothing is live at first. The load takes 5, too early: the older store to 3 executes later and squashes from position 2, a
 -- violation. After two commits the window stands at stages 2 and 0. The load of 4 takes the one row; the older load of 3
 -- evicts it and squashes from position 1. The finish commits that load, and then the other, issued and executed once more.
-pub answered : answersOf program opening calls
+pub answered : answersOf buffered program opening calls
     ≡ refused 11 ∷ named 0 ∷ named 1 ∷ named 2 ∷ executed 5 0 none ∷ executed 0 0 none ∷ executed 0 0 (some 2)
     ∷ committed 0 1 1 9 0
     ∷ committed 1 4 3 9 0
@@ -64,8 +66,8 @@ pub answered : answersOf program opening calls
 unfolding computing
 answered = refl
 
-abbrev wrap : Played
-wrap = play program opening (take 11 calls)
+abbrev wrap : Played State
+wrap = play buffered program opening (take 11 calls)
 
 -- the two live entries stand at stages 2 and 0
 pub wrapped : (wrap .state .buffer .oldest ≡ 2) × (length (wrap .state .entries) ≡ 2) × (stage 2 3 1 ≡ 0)
@@ -81,45 +83,45 @@ unfolding computing without
 recorded = (refl, refl, refl)
 
 -- one of the calls is refused, the first; without it none is
-pub told-apart : (allAccepted program opening calls ≡ false) × (allAccepted program opening (drop 1 calls) ≡ true)
+pub told-apart : (allAccepted buffered program opening calls ≡ false) × (allAccepted buffered program opening (drop 1 calls) ≡ true)
 unfolding computing
 told-apart = (refl, refl)
 
 -- and the theorem is about it: the opening passes its checks
-pub true-of-it : (cs : List Call) → Truth program memory (play program opening cs)
+pub true-of-it : (cs : List Call) → Truth buffered program memory (play buffered program opening cs)
 unfolding computing sizesFit
-true-of-it cs = record-theorem 1 1 3 8 program memory refl cs
+true-of-it cs = record-theorem buffer-owes (banked 1 1 3 8) program memory refl cs
 
 -- After the wrap two instructions are committed and two are left. Two calls are needed to commit the next one, the load of 3.
-pub next-there : (next wrap ≡ execute 0 ∷ commit ∷ []) × (wrap .commits ≡ 2) × (ends program (run program memory wrap) ≡ false)
+pub next-there : (next program wrap ≡ execute 0 ∷ commit ∷ []) × (wrap .commits ≡ 2) × (ends program (run program memory wrap) ≡ false)
     × (step program (run program memory wrap) .record′ ≡ without (take 15 numbers))
 unfolding computing without
 next-there = (refl, refl, refl, refl)
 
 -- both are accepted, and the record then has its numbers too: concluded, not computed
-pub goes-on-there : (allAccepted program wrap (next wrap) ≡ true) × (length (next wrap) ≤ 3)
-    × (play program wrap (next wrap) .commits ≡ 3)
-    × (without (play program wrap (next wrap) .record′) ≡ without (take 15 numbers))
+pub goes-on-there : (allAccepted buffered program wrap (next program wrap) ≡ true) × (length (next program wrap) ≤ 3)
+    × (play buffered program wrap (next program wrap) .commits ≡ 3)
+    × (without (play buffered program wrap (next program wrap) .record′) ≡ without (take 15 numbers))
 goes-on-there =
     let g = true-of-it (take 11 calls) .goes-on (next-there .2) in
     (g .0, g .1, g .2 ∙ ap suc (next-there .1), g .3 ∙ next-there .3)
 
 -- at the end no further calls commit anything
-pub stops-there : (more : List Call) → play program x more .commits ≡ 4
+pub stops-there : (more : List Call) → play buffered program x more .commits ≡ 4
 unfolding computing
 stops-there more = true-of-it calls .stops refl more
 
 -- the same program finished in order, on two banks and a longer window: as many commits, so one outcome
-abbrev y : Played
-y = play program (start (opened 2 1 5 8 program) memory) (finish 9 (replicate 20 0) ∷ [])
+abbrev y : Played State
+y = play buffered program (start (opened (banked 2 1 5 8) program) memory) (finish 9 (replicate 20 0) ∷ [])
 
 as-many : x .commits ≡ y .commits
 unfolding computing
 as-many = refl
 
-true-in-order : Truth program memory y
+true-in-order : Truth buffered program memory y
 unfolding computing sizesFit
-true-in-order = record-theorem 2 1 5 8 program memory refl (finish 9 (replicate 20 0) ∷ [])
+true-in-order = record-theorem buffer-owes (banked 2 1 5 8) program memory refl (finish 9 (replicate 20 0) ∷ [])
 
 pub outcome-there : (without (x .record′) ≡ without (y .record′)) × (x .state .registers ≡ y .state .registers)
     × (x .memory ≡ y .memory)
@@ -128,8 +130,8 @@ outcome-there = one-outcome (true-of-it calls) true-in-order as-many
 -- ---- a finish
 
 -- two instructions are committed, then a finish is made with limit 5 and room for four commits
-abbrev two : Played
-two = play program opening (take 13 calls)
+abbrev two : Played State
+two = play buffered program opening (take 13 calls)
 
 abbrev said : Answer
 said = respond program (finish 5 (replicate 20 0)) (two .state) (two .memory) .answer
@@ -140,7 +142,7 @@ two-committed = refl
 
 finish-true : FinishTruth program memory (two .commits) 5 (replicate 20 0) said
 unfolding computing sizesFit
-finish-true = finish-theorem 1 1 3 8 program memory refl (take 13 calls) 5 (replicate 20 0)
+finish-true = finish-theorem buffer-owes (banked 1 1 3 8) program memory refl (take 13 calls) 5 (replicate 20 0)
 
 -- it says 2, as many as the run has left: of the finish nothing is computed
 pub finish-says : said ≡ finished 2
@@ -159,8 +161,8 @@ finish-ends = finish-true .ended 2 finish-says (omega arith) (omega arith)
 abbrev parts : List ℕ
 parts = 1 ∷ 1 ∷ 0 ∷ 511 ∷ 5 ∷ 1 ∷ 0 ∷ 13 ∷ 6 ∷ 1 ∷ 0 ∷ 14 ∷ 3 ∷ 2 ∷ 0 ∷ 3 ∷ 6 ∷ 1 ∷ 0 ∷ 13 ∷ []
 
-abbrev part-opening : Played
-part-opening = start (opened 1 1 3 8 parts) memory
+abbrev part-opening : Played State
+part-opening = start (opened (banked 1 1 3 8) parts) memory
 
 abbrev part-calls : List Call
 part-calls =
@@ -172,7 +174,7 @@ part-calls =
 
 -- The half word goes first and is squashed by the byte, a store to its word. It goes again, and the load takes its word from
 -- one position older. The finish commits three and leaves the odd one executed, whose commit is refused.
-pub part-answered : answersOf parts part-opening part-calls
+pub part-answered : answersOf buffered parts part-opening part-calls
     ≡ named 0 ∷ named 1 ∷ named 2 ∷ executed 0 0 none ∷ executed 0 0 none ∷ executed 0 0 (some 2)
     ∷ committed 0 1 1 511 0
     ∷ named 1
@@ -192,21 +194,21 @@ abbrev part-numbers : List ℕ
 part-numbers =
     0 ∷ 1 ∷ 1 ∷ 511 ∷ 0 ∷ 1 ∷ 5 ∷ 13 ∷ 65285 ∷ 0 ∷ 2 ∷ 6 ∷ 14 ∷ 33554181 ∷ 0 ∷ 3 ∷ 3 ∷ 2 ∷ 33554181 ∷ 1 ∷ []
 
-pub part-recorded : (play parts part-opening part-calls .record′ ≡ part-numbers)
+pub part-recorded : (play buffered parts part-opening part-calls .record′ ≡ part-numbers)
     × (runAfter parts memory 4 .record′ ≡ without part-numbers)
     × (ends parts (runAfter parts memory 4) ≡ true)
 unfolding computing without
 part-recorded = (refl, refl, refl)
 
 -- though an instruction is left and its place in the window is free again, no further calls commit anything
-pub part-stops : (more : List Call) → play parts (play parts part-opening part-calls) more .commits ≡ 4
+pub part-stops : (more : List Call) → play buffered parts (play buffered parts part-opening part-calls) more .commits ≡ 4
 unfolding computing sizesFit
-part-stops more = record-theorem 1 1 3 8 parts memory refl part-calls .stops refl more
+part-stops more = record-theorem buffer-owes (banked 1 1 3 8) parts memory refl part-calls .stops refl more
 
 -- ---- what an execution answered
 
 -- of the three entries that are live before the finish: the byte and the half word have no distance, the load has one
-pub part-told : toldAfter [] (take 11 part-calls) (answersOf parts part-opening (take 11 part-calls))
+pub part-told : toldAfter [] (take 11 part-calls) (answersOf buffered parts part-opening (take 11 part-calls))
     ≡ told 0 0 ∷ told 0 0 ∷ told 33554181 1 ∷ []
 unfolding computing toldAfter
 part-told = refl
@@ -215,18 +217,18 @@ part-told = refl
 abbrev until-load : List Call
 until-load = take 11 part-calls ++ (commit ∷ commit ∷ [])
 
-pub part-unrolled : unrolled parts part-opening (take 12 part-calls) ≡ until-load ++ (commit ∷ issue ∷ execute 0 ∷ commit ∷ [])
+pub part-unrolled : unrolled buffered parts part-opening (take 12 part-calls) ≡ until-load ++ (commit ∷ issue ∷ execute 0 ∷ commit ∷ [])
 unfolding computing unrolled repeated
 part-unrolled = refl
 
 -- the third commits the load, two commits after its execution: what that one answered is concluded from the commit
-load-committed : respond parts commit (play parts part-opening until-load .state) (play parts part-opening until-load .memory)
+load-committed : respond parts commit (play buffered parts part-opening until-load .state) (play buffered parts part-opening until-load .memory)
     .answer
     ≡ committed 3 3 2 33554181 1
 unfolding computing
 load-committed = refl
 
-pub part-passed : oldest (toldAfter [] until-load (answersOf parts part-opening until-load)) ≡ told 33554181 1
+pub part-passed : oldest (toldAfter [] until-load (answersOf buffered parts part-opening until-load)) ≡ told 33554181 1
 part-passed =
-    commit-passes parts part-opening refl (take 12 part-calls) until-load (issue ∷ execute 0 ∷ commit ∷ []) part-unrolled 3 3 2
+    commit-passes buffered parts part-opening refl (take 12 part-calls) until-load (issue ∷ execute 0 ∷ commit ∷ []) part-unrolled 3 3 2
     33554181 1 load-committed

@@ -10,7 +10,7 @@ use Prim.Native.Nat.{ℕ}
 use lib.Dec.{eqb}
 use lib.ListN.{getD, take, drop, set}
 use Rattle.engine.specs.Contract.{refused, named, executed, done, committed, finished}
-use Rattle.machine_model.specs.Calls.{Call, issue, execute, squash, commit, finish, Answer}
+use Rattle.machine_model.specs.Over.{Call, issue, execute, squash, commit, finish, Answer}
 use Rattle.theorem.specs.Play.{isRefused}
 
 -- the value and the distance that an entry's execution answered; silent is one that has not executed

@@ -8,7 +8,7 @@ use mathlib.Core.List.{List}
 use Prim.Native.Nat.{ℕ, zero, suc, _+_, _*_, _/_, _≤_, _<_, min}
 use lib.ListN.{length}
 use Rattle.engine.specs.Contract.{finished}
-use Rattle.machine_model.specs.Calls.{Answer, perCommit}
+use Rattle.machine_model.specs.Over.{Answer, perCommit}
 use Rattle.theorem.specs.Sequential.{Run, runAfter, ends, step}
 
 -- how many steps the run has left at r, counted up to m

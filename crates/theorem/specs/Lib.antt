@@ -8,4 +8,3 @@ pub mod Finish
 pub mod Unrolled
 pub mod Answered
 pub mod Examples
-pub mod computed

@@ -7,7 +7,7 @@ use Prim.Native.Nat.{ℕ, zero, suc, _-_}
 use lib.Dec.{eqb, ltb}
 use lib.ListN.{length}
 use Rattle.engine.specs.Conditions.{refusal}
-use Rattle.machine_model.specs.Calls.{Call, issue, execute, squash, commit, finish, perCommit, programDone, finishChecks}
+use Rattle.machine_model.specs.Over.{Engine, Call, issue, execute, squash, commit, finish, perCommit, programDone, finishChecks}
 use Rattle.theorem.specs.Play.{Played, plays, play, needed}
 
 -- none of these calls is a finish
@@ -22,23 +22,25 @@ abbrev pub Singles : List Call → Type 0
 Singles [] = Unit {0}
 Singles (c ∷ cs) = Single c × Singles cs
 
--- The calls that a finish repeats with limit k and so many places: those that commit the next instruction, as long as they do.
-unfoldable pub repeated : List ℕ → ℕ → ℕ → Played → List Call
-repeated program zero places x = []
-repeated program (suc k) places x =
-    let y = play program x (needed (x .state)) in
-    cond (ltb places perCommit || programDone (x .state)) []
-    (needed (x .state) ++ cond (eqb (y .commits) (x .commits)) [] (repeated program k (places - perCommit) y))
+module _ {O S : Type 0} (E : Engine O S) (program : List ℕ) where
+  -- The calls that a finish repeats with limit k and so many places: those that commit the next instruction, as long as they do.
+  unfoldable pub repeated : ℕ → ℕ → Played S → List Call
+  repeated zero places x = []
+  repeated (suc k) places x =
+      let calls = needed program (x .state) in
+      let y = play E program x calls in
+      cond (ltb places perCommit || programDone (x .state)) []
+      (calls ++ cond (eqb (y .commits) (x .commits)) [] (repeated k (places - perCommit) y))
 
--- a finish stands for the calls that it repeats, a refused one for none, and any other call for itself
-abbrev pub standsFor : List ℕ → Played → Call → List Call
-standsFor program x issue = issue ∷ []
-standsFor program x (execute p) = execute p ∷ []
-standsFor program x (squash p) = squash p ∷ []
-standsFor program x commit = commit ∷ []
-standsFor program x (finish k list) =
-    cond (eqb (refusal (finishChecks program (x .state) (x .memory))) 0) (repeated program k (length list) x) []
+  -- a finish stands for the calls that it repeats, a refused one for none, and any other call for itself
+  abbrev pub standsFor : Played S → Call → List Call
+  standsFor x issue = issue ∷ []
+  standsFor x (execute p) = execute p ∷ []
+  standsFor x (squash p) = squash p ∷ []
+  standsFor x commit = commit ∷ []
+  standsFor x (finish k list) =
+      cond (eqb (refusal (finishChecks E program (x .state) (x .memory))) 0) (repeated k (length list) x) []
 
-unfoldable pub unrolled : List ℕ → Played → List Call → List Call
-unrolled program x [] = []
-unrolled program x (c ∷ cs) = standsFor program x c ++ unrolled program (plays program x c) cs
+  unfoldable pub unrolled : Played S → List Call → List Call
+  unrolled x [] = []
+  unrolled x (c ∷ cs) = standsFor x c ++ unrolled (plays E program x c) cs

@@ -8,7 +8,7 @@ use mathlib.Core.Option.{none, some}
 use Prim.Native.Nat.{ℕ}
 use lib.ListN.{length, replicate}
 use Rattle.engine.specs.Contract.{refused, named, executed, done, committed, finished}
-use Rattle.machine_model.specs.Calls.{Call, issue, execute, squash, commit, finish, Answer, opened}
+use Rattle.machine_model.specs.Calls.{banked, buffered, Call, issue, execute, squash, commit, finish, Answer, opened}
 use Rattle.theorem.specs.Play.{play, start, answersOf, allAccepted}
 use Rattle.theorem.specs.Truth.{next}
 use Rattle.theorem.specs.Examples.{five, A, P, L, S, B, H, bytes, mixed, mixedCommits, laid, laidCommits}
@@ -30,14 +30,14 @@ pub record PlayExample : Type 0 where
 -- what a row's calls come to after an opening with one bank, four rows, four stages and as many words as the memory has
 abbrev pub playedTo : PlayExample → PlayOutcome
 playedTo e =
-    let x = start (opened 1 4 4 (length (e .memory)) (e .program)) (e .memory) in
-    let y = play (e .program) x (e .calls) in
+    let x = start (opened (banked 1 4 4 (length (e .memory))) (e .program)) (e .memory) in
+    let y = play buffered (e .program) x (e .calls) in
     record {
-      answers = answersOf (e .program) x (e .calls);
-      accepted = allAccepted (e .program) x (e .calls);
+      answers = answersOf buffered (e .program) x (e .calls);
+      accepted = allAccepted buffered (e .program) x (e .calls);
       record′ = y .record′;
       commits = y .commits;
-      needs = next y;
+      needs = next (e .program) y;
     }
 
 -- program, memory and calls; then what they come to
