@@ -16,7 +16,7 @@ ghost use mathlib.Core.Path.{_≡_};
 ghost use mathlib.Core.List.{List, []};
 ghost use Prim.Native.Nat.{ℕ};
 ghost use Rattle.engine.specs.Contract.{refused};
-ghost use Rattle.machine_model.specs.Calls.{issue, squash};
+ghost use Rattle.machine_model.specs.Calls.{banked, issue, squash};
 ghost use Rattle.machine_model.specs.Contract.{doneSays, issueSays, emptyMachine, freshMachine, Meets, Opens};
 
 // A machine of `count` instructions over this table, with nothing in its window.
@@ -39,7 +39,7 @@ fn empty(table: Table, count: u32) -> Machine
 
 // A refused opening: a machine without stages.
 fn unopened(why: u32) -> DoneResult
-    ensures { λ r. ⌜ (doneSays (r .answer) ≡ refused why) × (r .machine ≡ freshMachine 0 0 0 0 0) ⌝ }
+    ensures { λ r. ⌜ (doneSays (r .answer) ≡ refused why) × (r .machine ≡ freshMachine (banked 0 0 0 0) 0) ⌝ }
 {
     DoneResult {
         answer: DoneAnswer::Refused(why),
@@ -56,7 +56,7 @@ pub fn open(
     program: &[u32],
     memory: &[u32],
 ) -> DoneResult
-    ensures { λ r. ⌜ Opens banks rows stages words (now (program .entry)) (now (memory .entry)) (doneSays (r .answer))
+    ensures { λ r. ⌜ Opens (banked banks rows stages words) (now (program .entry)) (now (memory .entry)) (doneSays (r .answer))
         (r .machine) ⌝ }
 {
     if !(table::sizes_fit(banks, rows, stages, words) & (program.len() <= PROGRAM)) {

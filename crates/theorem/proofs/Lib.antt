@@ -6,7 +6,7 @@
 -- and of two, and what else the theorems come to; Unrolled: a finish is the single calls that it repeats; Answered: a commit
 -- passes up what its entry's execution answered. Of the buffer, Paired: its references beside the window's entries; Buffered:
 -- it meets what an engine owes. Witness: histories that they speak of, computed. Lived: a life of calls on machines that they
--- speak of.
+-- speak of. InOrder: a second engine, and that it agrees with the buffer there.
 pub mod Cases
 pub mod Sentences
 pub mod Distances
@@ -28,3 +28,4 @@ pub mod Paired
 pub mod Buffered
 pub mod Witness
 pub mod Lived
+pub mod InOrder

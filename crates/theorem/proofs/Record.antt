@@ -209,7 +209,7 @@ module _ {O S : Type 0} {E : Engine O S} (owes : Owes E) (o : O) (program memory
   record-theorem calls =
       let x = after E o program memory calls in
       let h = held-after calls in
-      let calls = next program x in
+      let needs = next program x in
       record {
         record-is = h .kept .record′;
         record-grows = h .kept .grows;
@@ -220,7 +220,7 @@ module _ {O S : Type 0} {E : Engine O S} (owes : Owes E) (o : O) (program memory
               g .0,
               g .1,
               omega (arith, g .2),
-              held-play owes program memory x h calls .kept .record′ ∙ ap (λ (k : ℕ). runAfter program memory k .record′) (g .2),
+              held-play owes program memory x h needs .kept .record′ ∙ ap (λ (k : ℕ). runAfter program memory k .record′) (g .2),
             );
         stops = none-play owes program memory x h;
       }

@@ -41,13 +41,13 @@ memory = 0 ∷ 0 ∷ 0 ∷ 5 ∷ 6 ∷ 0 ∷ 0 ∷ 0 ∷ []
 abbrev opening : Played State
 opening = start (opened (banked 1 1 3 8) program) memory
 
-abbrev calls : List Call
+abbrev pub calls : List Call
 calls =
     commit ∷ issue ∷ issue ∷ issue ∷ execute 2 ∷ execute 0 ∷ execute 1 ∷ commit ∷ commit ∷ issue ∷ issue ∷ execute 1 ∷ execute 0
     ∷ finish 5 (replicate 11 0)
     ∷ []
 
-abbrev x : Played State
+abbrev pub x : Played State
 x = play buffered program opening calls
 
 -- Nothing is live at first. The load takes 5, too early: the older store to 3 executes later and squashes from position 2, a
