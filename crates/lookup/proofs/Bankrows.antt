@@ -138,10 +138,10 @@ module _ (t : Table) (rules : Rules t) where
 
   module _ (h : ℕ) (bound : h < t .banks) where
     first-opens : (i : ℕ) → i < t .rows → freeIn t h i ≡ false
-        → allocatesRow (t .banks) h (view t .refs) (firstMark t h i) ≡ true
+        → allocatesRow (bank (t .banks)) h (view t .refs) (firstMark t h i) ≡ true
     first-opens i l e =
         let home = rules .in-bank (h * rowsMost + i) (stageOf t (firstMark t h i)) (row-lt t rules h i bound l) (m .here) in
-        opens-from (t .banks) h (view t .refs) (firstMark t h i) (address t (h * rowsMost + i))
+        opens-from (bank (t .banks)) h (view t .refs) (firstMark t h i) (address t (h * rowsMost + i))
         (here (firstMark t h i) (m .live) ∙ m .here) (sym home ∙ row-bank t rules h i l)
         (not-eq-not {b = false} .0 none)
       where
@@ -178,10 +178,10 @@ module _ (t : Table) (rules : Rules t) where
             (at-mark (h * rowsMost + i) (stageOf t p) (firstMark t h i) (row-lt t rules h i bound k) m (f .live) ∙ f .here))
             ∙ u)
 
-    opens-first : (p : ℕ) → p < t .live → allocatesRow (t .banks) h (view t .refs) p ≡ true
+    opens-first : (p : ℕ) → p < t .live → allocatesRow (bank (t .banks)) h (view t .refs) p ≡ true
         → (i : ℕ) × (i < t .rows) × (freeIn t h i ≡ false) × (firstMark t h i ≡ p)
     opens-first p l e =
-        let w = opens-to (t .banks) h (view t .refs) p e in
+        let w = opens-to (bank (t .banks)) h (view t .refs) p e in
         let m = mark-of-touch (w .0) p l (w .1) in
         let b = rules .in-bank (m .0) (stageOf t p) (m .1) (m .2) ∙ ap (bank (t .banks)) (m .3) ∙ w .2 in
         let k = rules .in-rows (m .0) (stageOf t p) (m .1) (m .2) in
@@ -193,15 +193,16 @@ module _ (t : Table) (rules : Rules t) where
         (i, k, o .0, o .1)
 
     -- as many rows are in use as positions open
-    rows-used : count (heldIn t h) (t .rows) ≤ rowsInUse (t .banks) h (view t .refs)
+    rows-used : count (heldIn t h) (t .rows) ≤ rowsInUse (bank (t .banks)) h (view t .refs)
     rows-used =
-        count-into (heldIn t h) (allocatesRow (t .banks) h (view t .refs)) (t .rows) (length (view t .refs)) (firstMark t h)
+        count-into (heldIn t h) (allocatesRow (bank (t .banks)) h (view t .refs)) (t .rows) (length (view t .refs))
+        (firstMark t h)
         (λ i l e.
         let held = not-true (freeIn t h i) e in
         (omega (arith, length-refs t, first-mark t rules h bound i l held .live), first-opens i l held))
         (λ i j l k e d. first-apart t rules h bound i j l k (not-true (freeIn t h i) e) (not-true (freeIn t h j) d))
 
-    row-at-opens : (p : ℕ) → p < t .live → allocatesRow (t .banks) h (view t .refs) p ≡ true
+    row-at-opens : (p : ℕ) → p < t .live → allocatesRow (bank (t .banks)) h (view t .refs) p ≡ true
         → (rowAt t h p < t .rows) × (freeIn t h (rowAt t h p) ≡ false) × (firstMark t h (rowAt t h p) ≡ p)
     unfolding rowAt
     row-at-opens p l e = go (openedIn t h p) refl
@@ -221,18 +222,18 @@ module _ (t : Table) (rules : Rules t) where
             let s : suc i - 1 ≡ i = omega arith in
             rw s (w .0, marked-held t (h * rowsMost + i) (stageOf t (firstMark t h i)) m, is)
 
-    used-rows : rowsInUse (t .banks) h (view t .refs) ≤ count (heldIn t h) (t .rows)
+    used-rows : rowsInUse (bank (t .banks)) h (view t .refs) ≤ count (heldIn t h) (t .rows)
     used-rows =
-        count-into (allocatesRow (t .banks) h (view t .refs)) (heldIn t h) (length (view t .refs)) (t .rows) (rowAt t h)
+        count-into (allocatesRow (bank (t .banks)) h (view t .refs)) (heldIn t h) (length (view t .refs)) (t .rows) (rowAt t h)
         (λ p l e. let o = at-row p l e in (o .0, ap not (o .1)))
         (λ p q l k e d same. sym (at-row p l e .2) ∙ ap (firstMark t h) same ∙ at-row q k d .2)
       where
-        at-row : (p : ℕ) → p < length (view t .refs) → allocatesRow (t .banks) h (view t .refs) p ≡ true
+        at-row : (p : ℕ) → p < length (view t .refs) → allocatesRow (bank (t .banks)) h (view t .refs) p ≡ true
             → (rowAt t h p < t .rows) × (freeIn t h (rowAt t h p) ≡ false) × (firstMark t h (rowAt t h p) ≡ p)
         at-row p l e = row-at-opens p (omega (arith, length-refs t)) e
 
     -- a free row is found exactly where fewer rows are used than there are
-    full : find (freeIn t h) (t .rows) ≡ 0 → t .rows ≤ rowsInUse (t .banks) h (view t .refs)
+    full : find (freeIn t h) (t .rows) ≡ 0 → t .rows ≤ rowsInUse (bank (t .banks)) h (view t .refs)
     full e = omega (arith, rows-used, lt-of-not-le short)
       where
         short : suc (count (heldIn t h) (t .rows)) ≤ t .rows → ⊥
@@ -240,20 +241,20 @@ module _ (t : Table) (rules : Rules t) where
             let w = count-some (heldIn t h) (t .rows) l in
             true≢false (sym (ap not (find-zero (freeIn t h) (t .rows) e (w .0) (w .1))) ∙ w .2)
 
-    left-over : (i : ℕ) → i < t .rows → freeIn t h i ≡ true → rowsInUse (t .banks) h (view t .refs) < t .rows
+    left-over : (i : ℕ) → i < t .rows → freeIn t h i ≡ true → rowsInUse (bank (t .banks)) h (view t .refs) < t .rows
     left-over i l e = omega (arith, used-rows, count-short (heldIn t h) (t .rows) i l (ap not e))
 
     -- the oldest mark of the row that is chosen where none is free
     most : find (freeIn t h) (t .rows) ≡ 0
-        → firstMark t h (chosen (firstMark t h) (t .rows)) ≡ youngestRow (t .banks) h (view t .refs)
+        → firstMark t h (chosen (firstMark t h) (t .rows)) ≡ youngestRow (bank (t .banks)) h (view t .refs)
     most e =
         let i = chosen (firstMark t h) (t .rows) in
         let l : i < t .rows = chosen-lt (firstMark t h) (t .rows) (size t rules .some-row) in
         let held = find-zero (freeIn t h) (t .rows) e i l in
         let m : firstMark t h i < length (view t .refs) =
         omega (arith, length-refs t, first-mark t rules h bound i l held .live) in
-        let y = youngest-chosen (t .banks) h (view t .refs) (firstMark t h i) m (first-opens i l held) in
-        let o = opens-first (youngestRow (t .banks) h (view t .refs)) (omega (arith, length-refs t)) (y .1) in
+        let y = youngest-chosen (bank (t .banks)) h (view t .refs) (firstMark t h i) m (first-opens i l held) in
+        let o = opens-first (youngestRow (bank (t .banks)) h (view t .refs)) (omega (arith, length-refs t)) (y .1) in
         omega (arith, chosen-most (firstMark t h) (t .rows) (o .0) (o .1))
 
     -- the place taken, by what the search for a free row finds
@@ -272,11 +273,11 @@ module _ (t : Table) (rules : Rules t) where
         go zero e =
             ap (λ (x : Place). x .left) (takes-full p e) ∙ chosen-left t h p
             ∙ ap (λ (m : ℕ). cond (ltb p m) m 0) (most e)
-            ∙ rw (le-ltb (rowsInUse (t .banks) h (view t .refs)) (t .rows) (full e))
+            ∙ rw (le-ltb (rowsInUse (bank (t .banks)) h (view t .refs)) (t .rows) (full e))
         go (suc i) e =
             let w = find-at (freeIn t h) (t .rows) i e in
             ap (λ (x : Place). x .left) (takes-free p i e) ∙ sym (length-refs t)
-            ∙ rw (lt-ltb (rowsInUse (t .banks) h (view t .refs)) (t .rows) (left-over i (w .0) (w .1)))
+            ∙ rw (lt-ltb (rowsInUse (bank (t .banks)) h (view t .refs)) (t .rows) (left-over i (w .0) (w .1)))
 
     -- a row of the bank without a mark among the first k references, for an address of the bank that has no row
     bare-row : (a i k : ℕ) → bank (t .banks) a ≡ h → touched a (view t .refs) ≡ false → i < t .rows

@@ -17,25 +17,25 @@ use Rattle.lookup.specs.Rows.{touches, touched, allocatesRow, rowsInUse,
 use Rattle.lookup.specs.Outcome.{allocateRow, keptInRow, survivors}
 use Rattle.lookup.proofs.Firsts.{older-at, older-some, opens-from, opens-to, youngest-chosen}
 
+-- the banks of addresses
+abbrev pub bankOf : State → ℕ → ℕ
+bankOf P = Bank.bank (P .banks)
+
 -- the row of address b, in bank h, has its oldest mark at position q
 pub record RowAt (P : State) (h b q : ℕ) : Type 0 where
-  pub bank : Bank.bank (P .banks) b ≡ h
+  pub bank : bankOf P b ≡ h
   pub live : q < length (P .refs)
   pub mark : touches b (fateOf (at (P .refs) q)) ≡ true
   pub oldest : (k : ℕ) → k < length (P .refs) → touches b (fateOf (at (P .refs) k)) ≡ true → q ≤ k
 
--- the bank of address a
-abbrev pub bankOf : State → ℕ → ℕ
-bankOf P a = Bank.bank (P .banks) a
-
 -- a row of bank h is free
 abbrev pub free : State → ℕ → Bool
-free P h = ltb (rowsInUse (P .banks) h (P .refs)) (P .rows)
+free P h = ltb (rowsInUse (bankOf P) h (P .refs)) (P .rows)
 
 -- what is counted as a row is one, known by its oldest mark
-pub row-counted : (P : State) (h b q : ℕ) → RowAt P h b q → allocatesRow (P .banks) h (P .refs) q ≡ true
+pub row-counted : (P : State) (h b q : ℕ) → RowAt P h b q → allocatesRow (bankOf P) h (P .refs) q ≡ true
 row-counted P h b q r =
-    opens-from (P .banks) h (P .refs) q b (r .mark) (r .bank) (go (touched b (take q (P .refs))) refl)
+    opens-from (bankOf P) h (P .refs) q b (r .mark) (r .bank) (go (touched b (take q (P .refs))) refl)
   where
     go : (t : Bool) → touched b (take q (P .refs)) ≡ t → t ≡ false
     go false e = refl
@@ -43,10 +43,10 @@ row-counted P h b q r =
         let w = older-some b (P .refs) q (omega (arith, r .live)) e in
         absurd (omega (arith, w .1, r .oldest (w .0) (omega (arith, w .1, r .live)) (w .2)))
 
-pub counted-row : (P : State) (h q : ℕ) → q < length (P .refs) → allocatesRow (P .banks) h (P .refs) q ≡ true
+pub counted-row : (P : State) (h q : ℕ) → q < length (P .refs) → allocatesRow (bankOf P) h (P .refs) q ≡ true
     → (b : ℕ) × RowAt P h b q
 counted-row P h q l e =
-    let w = opens-to (P .banks) h (P .refs) q e in
+    let w = opens-to (bankOf P) h (P .refs) q e in
     (w .0, record { bank = w .2; live = l; mark = w .1; oldest = λ k m t. go (w .0) (w .3) k t (ltb k q) refl })
   where
     go : (b : ℕ) → touched b (take q (P .refs)) ≡ false → (k : ℕ) → touches b (fateOf (at (P .refs) k)) ≡ true
@@ -90,10 +90,10 @@ pub record Evicted (P : State) (p h k : ℕ) : Type 0 where
 module _ (P : State) (p : ℕ) where
   -- the youngest of the oldest marks
   abbrev youngest : ℕ → ℕ
-  youngest h = youngestRow (P .banks) h (P .refs)
+  youngest h = youngestRow (bankOf P) h (P .refs)
 
   youngest-most : (h b q : ℕ) → RowAt P h b q → q ≤ youngest h
-  youngest-most h b q r = youngest-chosen (P .banks) h (P .refs) q (r .live) (row-counted P h b q r) .2
+  youngest-most h b q r = youngest-chosen (bankOf P) h (P .refs) q (r .live) (row-counted P h b q r) .2
 
   -- "An execution to an address without a row takes a free row of its bank": nothing is squashed
   pub takes-free : (a : ℕ) (f : Fate) → touches a f ≡ true → touched a (P .refs) ≡ false → free P (bankOf P a) ≡ true
@@ -106,7 +106,7 @@ module _ (P : State) (p : ℕ) where
       → (b q : ℕ) → RowAt P (bankOf P a) b q → p < q → Evicted P p (bankOf P a) (survivors P p f)
   evicts a f e u full b q r l =
       let h = bankOf P a in
-      let best = youngest-chosen (P .banks) h (P .refs) q (r .live) (row-counted P h b q r) in
+      let best = youngest-chosen (bankOf P) h (P .refs) q (r .live) (row-counted P h b q r) in
       let is : survivors P p f ≡ youngest h =
       takes-row P p a f e u ∙ rw (full, lt-ltb p (youngest h) (omega (arith, l, best .2))) in
       let row = counted-row P h (youngest h) (best .0) (best .1) in
@@ -123,7 +123,7 @@ module _ (P : State) (p : ℕ) where
   stalls a f e s =
       let h = bankOf P a in
       let old : youngest h ≤ p =
-      last-le (allocatesRow (P .banks) h (P .refs)) (length (P .refs)) p
+      last-le (allocatesRow (bankOf P) h (P .refs)) (length (P .refs)) p
       (λ k l c. let row = counted-row P h k l c in s .older (row .0) k (row .1)) in
       takes-row P p a f e (s .no-row) ∙ rw (s .full, le-ltb p (youngest h) old)
 

@@ -55,61 +55,66 @@ older-some a refs p l e =
     (w .0, h, ap (λ (r : Ref). touches a (fateOf r)) (sym (getD-take p refs (w .0) blank h)) ∙ w .2)
 
 -- a position that touches an address of the bank, first among its elders, opens a row; and the other way round
-pub opens-from : (banks h : ℕ) (refs : List Ref) (p b : ℕ) → touches b (fateOf (at refs p)) ≡ true → bank banks b ≡ h
-    → touched b (take p refs) ≡ false → allocatesRow banks h refs p ≡ true
-opens-from banks h refs p b e k u = go (fateOf (at refs p)) e
+pub opens-from : (β : ℕ → ℕ) (h : ℕ) (refs : List Ref) (p b : ℕ) → touches b (fateOf (at refs p)) ≡ true
+    → β b ≡ h → touched b (take p refs) ≡ false → allocatesRow β h refs p ≡ true
+opens-from β h refs p b e k u = go (fateOf (at refs p)) e
   where
-    go : (f : Fate) → touches b f ≡ true → allocatesBy banks h (take p refs) f ≡ true
+    go : (f : Fate) → touches b f ≡ true → allocatesBy β h (take p refs) f ≡ true
     go waiting q = absurd (true≢false (sym q))
     go other q = absurd (true≢false (sym q))
     go (accessed c l s) q =
         let same : c ≡ b = eqb-true c b q in
-        ap₂ _&&_ (eq-eqb (bank banks c) h (ap (bank banks) same ∙ k))
+        ap₂ _&&_ (eq-eqb (β c) h (ap β same ∙ k))
         (ap not (ap (λ (x : ℕ). touched x (take p refs)) same ∙ u))
 
-pub opens-to : (banks h : ℕ) (refs : List Ref) (p : ℕ) → allocatesRow banks h refs p ≡ true
-    → (b : ℕ) × (touches b (fateOf (at refs p)) ≡ true) × (bank banks b ≡ h) × (touched b (take p refs) ≡ false)
-opens-to banks h refs p = go (fateOf (at refs p))
+pub opens-to : (β : ℕ → ℕ) (h : ℕ) (refs : List Ref) (p : ℕ) → allocatesRow β h refs p ≡ true
+    → (b : ℕ) × (touches b (fateOf (at refs p)) ≡ true) × (β b ≡ h) × (touched b (take p refs) ≡ false)
+opens-to β h refs p = go (fateOf (at refs p))
   where
-    go : (f : Fate) → allocatesBy banks h (take p refs) f ≡ true
-        → (b : ℕ) × (touches b f ≡ true) × (bank banks b ≡ h) × (touched b (take p refs) ≡ false)
+    go : (f : Fate) → allocatesBy β h (take p refs) f ≡ true
+        → (b : ℕ) × (touches b f ≡ true) × (β b ≡ h) × (touched b (take p refs) ≡ false)
     go waiting q = absurd (true≢false (sym q))
     go other q = absurd (true≢false (sym q))
     go (accessed c l s) q =
-        let both = and-eq-true-iff (eqb (bank banks c) h) (not (touched c (take p refs))) .0 q in
-        (c, eq-eqb c c refl, eqb-true (bank banks c) h (both .0), not-true (touched c (take p refs)) (both .1))
+        let both = and-eq-true-iff (eqb (β c) h) (not (touched c (take p refs))) .0 q in
+        (c, eq-eqb c c refl, eqb-true (β c) h (both .0), not-true (touched c (take p refs)) (both .1))
 
 -- the row chosen is one of the bank, and no row of the bank has an oldest mark younger than its
-pub youngest-chosen : (banks h : ℕ) (refs : List Ref) (p : ℕ) → p < length refs → allocatesRow banks h refs p ≡ true
-    → (youngestRow banks h refs < length refs) × (allocatesRow banks h refs (youngestRow banks h refs) ≡ true)
-    × (p ≤ youngestRow banks h refs)
-youngest-chosen banks h refs = last-is (allocatesRow banks h refs) (length refs)
+pub youngest-chosen : (β : ℕ → ℕ) (h : ℕ) (refs : List Ref) (p : ℕ) → p < length refs → allocatesRow β h refs p ≡ true
+    → (youngestRow β h refs < length refs) × (allocatesRow β h refs (youngestRow β h refs) ≡ true)
+    × (p ≤ youngestRow β h refs)
+youngest-chosen β h refs = last-is (allocatesRow β h refs) (length refs)
 
 -- where the oldest has not executed, a bank without a row that may be evicted has no row in use
-none-used : (banks h : ℕ) (refs : List Ref) → fateOf (at refs 0) ≡ waiting → youngestRow banks h refs ≡ 0
-    → rowsInUse banks h refs ≤ 0
+none-used : (β : ℕ → ℕ) (h : ℕ) (refs : List Ref) → fateOf (at refs 0) ≡ waiting → youngestRow β h refs ≡ 0
+    → rowsInUse β h refs ≤ 0
 unfolding count
-none-used banks h refs w y =
-    count-into (allocatesRow banks h refs) (allocatesRow banks h refs) (length refs) 0 (λ p. p)
+none-used β h refs w y =
+    count-into (allocatesRow β h refs) (allocatesRow β h refs) (length refs) 0 (λ p. p)
     (λ p l e. absurd (not-first p l e)) (λ p q l r d e i. i)
   where
-    not-first : (p : ℕ) → p < length refs → allocatesRow banks h refs p ≡ true → ⊥
+    not-first : (p : ℕ) → p < length refs → allocatesRow β h refs p ≡ true → ⊥
     not-first p l e =
-        let c = youngest-chosen banks h refs p l e in
+        let c = youngest-chosen β h refs p l e in
         let z : p ≡ 0 = omega arith in
         true≢false
-        (sym e ∙ ap (allocatesRow banks h refs) z ∙ ap (allocatesBy banks h (take 0 refs)) w)
+        (sym e ∙ ap (allocatesRow β h refs) z ∙ ap (allocatesBy β h (take 0 refs)) w)
 
-pub never-stalls : (P : State) (h : ℕ) → 0 < P .rows → 0 < length (P .refs) → fateOf (at (P .refs) 0) ≡ waiting
-    → allocateRow P 0 h ≡ 0 → ⊥
-never-stalls P h some-row some w =
-    go (ltb (rowsInUse (P .banks) h (P .refs)) (P .rows)) (ltb 0 (youngestRow (P .banks) h (P .refs))) refl refl
-  where
-    go : (t u : Bool) → ltb (rowsInUse (P .banks) h (P .refs)) (P .rows) ≡ t → ltb 0 (youngestRow (P .banks) h (P .refs)) ≡ u
-        → cond t (length (P .refs)) (cond u (youngestRow (P .banks) h (P .refs)) 0) ≡ 0 → ⊥
-    go true u e d z = omega arith
-    go false true e d z = omega (arith, ltb-true)
-    go false false e d z =
-        let y : youngestRow (P .banks) h (P .refs) ≤ 0 = ltb-false 0 (youngestRow (P .banks) h (P .refs)) d in
-        let full : P .rows ≤ rowsInUse (P .banks) h (P .refs) = ltb-false (rowsInUse (P .banks) h (P .refs)) (P .rows) e in
-        omega (arith, none-used (P .banks) h (P .refs) w (omega arith))
+module _ (P : State) (h : ℕ) where
+  -- how many rows of the bank are in use, and the oldest mark of the one that may be evicted
+  abbrev used : ℕ
+  used = rowsInUse (bank (P .banks)) h (P .refs)
+
+  abbrev young : ℕ
+  young = youngestRow (bank (P .banks)) h (P .refs)
+
+  pub never-stalls : 0 < P .rows → 0 < length (P .refs) → fateOf (at (P .refs) 0) ≡ waiting → allocateRow P 0 h ≡ 0 → ⊥
+  never-stalls some-row some w = go (ltb used (P .rows)) (ltb 0 young) refl refl
+    where
+      go : (t u : Bool) → ltb used (P .rows) ≡ t → ltb 0 young ≡ u → cond t (length (P .refs)) (cond u young 0) ≡ 0 → ⊥
+      go true u e d z = omega arith
+      go false true e d z = omega (arith, ltb-true)
+      go false false e d z =
+          let y : young ≤ 0 = ltb-false 0 young d in
+          let full : P .rows ≤ used = ltb-false used (P .rows) e in
+          omega (arith, none-used (bank (P .banks)) h (P .refs) w (omega arith))

@@ -60,14 +60,14 @@ module _ (P : State) (p : ℕ) where
 
   -- a full bank in which an execution does not stall has a row to evict
   row-younger : (h : ℕ) → free P h ≡ false → (allocateRow P p h ≡ 0 → ⊥) → (b q : ℕ) × RowAt P h b q × (p < q)
-  row-younger h full stays = go (ltb p (youngestRow (P .banks) h (P .refs))) refl
+  row-younger h full stays = go (ltb p (youngestRow (bankOf P) h (P .refs))) refl
     where
-      go : (t : Bool) → ltb p (youngestRow (P .banks) h (P .refs)) ≡ t → (b q : ℕ) × RowAt P h b q × (p < q)
+      go : (t : Bool) → ltb p (youngestRow (bankOf P) h (P .refs)) ≡ t → (b q : ℕ) × RowAt P h b q × (p < q)
       go true e =
-          let l = ltb-true p (youngestRow (P .banks) h (P .refs)) e in
-          let w = last-passes (allocatesRow (P .banks) h (P .refs)) (length (P .refs)) p l in
-          let row = counted-row P h (youngestRow (P .banks) h (P .refs)) (w .0) (w .1) in
-          (row .0, youngestRow (P .banks) h (P .refs), row .1, l)
+          let l = ltb-true p (youngestRow (bankOf P) h (P .refs)) e in
+          let w = last-passes (allocatesRow (bankOf P) h (P .refs)) (length (P .refs)) p l in
+          let row = counted-row P h (youngestRow (bankOf P) h (P .refs)) (w .0) (w .1) in
+          (row .0, youngestRow (bankOf P) h (P .refs), row .1, l)
       go false e = absurd (stays (rw (full, e)))
 
   -- and where an execution that does not stall squashes at all, the list requires it

@@ -17,8 +17,8 @@ use Rattle.lookup.specs.Rows.{touched, rowsInUse, youngestRow}
 -- taking a row for the reference at position p, whose address has none and is of bank h
 abbrev pub allocateRow : State → ℕ → ℕ → ℕ
 allocateRow P p h =
-    cond (ltb (rowsInUse (P .banks) h (P .refs)) (P .rows)) (length (P .refs))
-    (cond (ltb p (youngestRow (P .banks) h (P .refs))) (youngestRow (P .banks) h (P .refs)) 0)
+    cond (ltb (rowsInUse (bank (P .banks)) h (P .refs)) (P .rows)) (length (P .refs))
+    (cond (ltb p (youngestRow (bank (P .banks)) h (P .refs))) (youngestRow (bank (P .banks)) h (P .refs)) 0)
 
 -- the reference at position p executes to an address with a row: where it stores, the younger marks of the row decide
 abbrev pub keptInRow : State → ℕ → ℕ → Side → ℕ
