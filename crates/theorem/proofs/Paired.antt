@@ -96,14 +96,14 @@ last-le f (suc n) = go (f n) (last-le f n)
 room-after : (P : State) (p h : ℕ) → p < length (P .refs) → (allocateRow P p h ≡ 0 → ⊥)
     → (p < allocateRow P p h) × (allocateRow P p h ≤ length (P .refs))
 room-after P p h live =
-    go (ltb (rowsInUse (P .banks) h (P .refs)) (P .rows)) (ltb p (youngestRow (P .banks) h (P .refs))) refl
+    go (ltb (rowsInUse (bank (P .banks)) h (P .refs)) (P .rows)) (ltb p (youngestRow (bank (P .banks)) h (P .refs))) refl
   where
-    go : (t u : Bool) → ltb p (youngestRow (P .banks) h (P .refs)) ≡ u
-        → (cond t (length (P .refs)) (cond u (youngestRow (P .banks) h (P .refs)) 0) ≡ 0 → ⊥)
-        → (p < cond t (length (P .refs)) (cond u (youngestRow (P .banks) h (P .refs)) 0))
-        × (cond t (length (P .refs)) (cond u (youngestRow (P .banks) h (P .refs)) 0) ≤ length (P .refs))
+    go : (t u : Bool) → ltb p (youngestRow (bank (P .banks)) h (P .refs)) ≡ u
+        → (cond t (length (P .refs)) (cond u (youngestRow (bank (P .banks)) h (P .refs)) 0) ≡ 0 → ⊥)
+        → (p < cond t (length (P .refs)) (cond u (youngestRow (bank (P .banks)) h (P .refs)) 0))
+        × (cond t (length (P .refs)) (cond u (youngestRow (bank (P .banks)) h (P .refs)) 0) ≤ length (P .refs))
     go true u e some = (live, le-refl (length (P .refs)))
-    go false true e some = (ltb-true p (youngestRow (P .banks) h (P .refs)) e, last-le _ _)
+    go false true e some = (ltb-true p (youngestRow (bank (P .banks)) h (P .refs)) e, last-le _ _)
     go false false e some = absurd (some refl)
 
 -- what the buffer owes of an execution at position p to this fate that leaves `left`, over this memory
