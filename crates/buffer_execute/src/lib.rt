@@ -128,7 +128,7 @@ pub fn execute(mut t: Table, ticket: Ticket, action: Action, memory: &[u32]) -> 
         &t.taken,
         marks::position_of(oldest, stages, s),
         action,
-        memory,
+        engine_steps::word_below(memory, action),
     );
     let r = effect.row;
     let left = effect.left;

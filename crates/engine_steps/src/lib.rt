@@ -23,7 +23,7 @@ ghost use Rattle.engine.specs.Opening.{fresh};
 ghost use Rattle.engine.specs.Execution.{written};
 ghost use Rattle.engine.specs.Part.{whole};
 ghost use Rattle.engine.specs.computed.Steps.{within, cutMarks, marking, keeping};
-ghost use Rattle.engine.specs.computed.Effect.{effectOf, answered};
+ghost use Rattle.engine.specs.computed.Effect.{wordAddress, wordBelow, effectOf, answered};
 
 // A table with these sizes and nothing in it.
 pub fn empty(banks: usize, rows: usize, stages: usize, words: usize) -> Table
@@ -73,7 +73,26 @@ fn merge(part: Part, b: u32, w: u32, v: u32) -> u32
     }
 }
 
-// What the action comes to at position `p`.
+// The number of the word that the action goes to; any, 0, where it goes to none.
+pub fn word_address(action: Action) -> u32
+    ensures { λ r. ⌜ r ≡ wordAddress action ⌝ }
+{
+    match action {
+        Action::Compute(_) => 0,
+        Action::LoadAt(a) => a,
+        Action::StoreAt(a, _) => a,
+        Action::PartAt(_, b, _) => b / 4,
+    }
+}
+
+// The memory's word there: what stands below the table.
+pub fn word_below(memory: &[u32], action: Action) -> u32
+    ensures { λ r. ⌜ r ≡ wordBelow (now (memory .entry)) action ⌝ }
+{
+    lookup_marks::word(memory, word_address(action))
+}
+
+// What the action comes to at position `p`, where `below` stands below the table at its word.
 pub fn effect_of<'a>(
     banks: usize,
     rows: usize,
@@ -87,7 +106,7 @@ pub fn effect_of<'a>(
     taken: &'a [u32; STAGES],
     p: usize,
     action: Action,
-    memory: &[u32],
+    below: u32,
 ) -> Effect
     requires { ⌜ (0 < banks) × (banks ≤ banksMost) × (0 < rows) × (rows ≤ rowsMost)
         × (oldest < stages) × (live ≤ stages) × (stages ≤ stagesMost) × (p < live) ⌝ }
@@ -95,7 +114,7 @@ pub fn effect_of<'a>(
         × (length (now values) ≡ stagesMost) × (length (now taken) ≡ stagesMost) ⌝ }
     ensures { λ r. ⌜ r
         ≡ effectOf banks rows stages oldest live (now (addresses .entry)) (now (loads .entry)) (now (stores .entry))
-        (now (values .entry)) (now (taken .entry)) p (now (memory .entry)) action ⌝ }
+        (now (values .entry)) (now (taken .entry)) p below action ⌝ }
 {
     match action {
         Action::Compute(v) => Effect {
@@ -123,15 +142,7 @@ pub fn effect_of<'a>(
                 p,
             );
             let r = place.row;
-            let found = lookup_marks::forwarded(
-                oldest,
-                stages,
-                stores,
-                values,
-                r,
-                p,
-                lookup_marks::word(memory, a),
-            );
+            let found = lookup_marks::forwarded(oldest, stages, stores, values, r, p, below);
             Effect {
                 load: true,
                 store: false,
@@ -197,15 +208,7 @@ pub fn effect_of<'a>(
                 p,
             );
             let r = place.row;
-            let found = lookup_marks::forwarded(
-                oldest,
-                stages,
-                stores,
-                values,
-                r,
-                p,
-                lookup_marks::word(memory, a),
-            );
+            let found = lookup_marks::forwarded(oldest, stages, stores, values, r, p, below);
             let word = merge(part, b, found.word, v);
             let left = lookup_rows::left_after(
                 oldest,

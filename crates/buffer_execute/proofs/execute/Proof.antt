@@ -27,7 +27,7 @@ abbrev checked : tie.Else2 → tie.Else1
 checked c = c .before .before .before .before
 
 abbrev named : tie.Else3 → tie.Else2
-named c = c .before .before .before .before .before .before .before .before .before
+named c = c .before .before .before .before .before .before .before .before .before .before
 
 abbrev rowed : tie.After-answered → tie.Else3
 rowed c = c .before .before .before .before .before .before .before .before .before .before .before .before .before .before
@@ -52,10 +52,10 @@ ready-at c =
 
 -- the effect found is the definition's
 found-at : (c : tie.After-effect-of)
-    → let args = entry (checked (c .before .before .before .before .before .before .before .before)) .args in
+    → let args = entry (checked (c .before .before .before .before .before .before .before .before .before)) .args in
     c .effect-of .result
     ≡ effectAt (args .t1) (place (view (args .t1)) (args .ticket)) (args .memory .now) (args .action)
-found-at c = rw (c .before .position-of .ensures) at (c .effect-of .ensures)
+found-at c = rw (c .before .before .position-of .ensures, c .before .word-below .ensures) at (c .effect-of .ensures)
 
 -- the references that stay, the row and the stage lie in their bounds
 bounds-at : (c : tie.Else3)
@@ -93,13 +93,13 @@ position-of-requires c κs =
 
 effect-of-requires : tie.Need-effect-of-requires
 effect-of-requires c κs =
-    let past = c .before .before .before .before .before .before .before in
+    let past = c .before .before .before .before .before .before .before .before in
     let at = checked past in
-    effect-asks _ (rules-at at) (lengths-at (entry at)) _ (rw (c .position-of .ensures) (ready-at past .live))
+    effect-asks _ (rules-at at) (lengths-at (entry at)) _ (rw (c .before .position-of .ensures) (ready-at past .live))
 
 returns-3 : tie.Need-returns-3
 returns-3 c =
-    let past = c .before .before .before .before .before .before .before .before .before in
+    let past = c .before .before .before .before .before .before .before .before .before .before in
     let args = entry (checked past) .args in
     let q = c .before .effect-of in
     stalls (args .t1) (rules-at (checked past)) (args .ticket) (args .memory .now) (args .action) (passed-at past)
@@ -172,6 +172,6 @@ returns-4 c =
 pub execute-spec : {M : Type 1} → statement M
 execute-spec =
     tie.close
-    (tie.spec (λ c κs. search needs) returns execution-refusal-requires returns-2 position-of-requires effect-of-requires
-    returns-3 squashed-from-requires cut-requires cut-requires-2 including-requires set-word-requires
+    (tie.spec (λ c κs. search needs) returns execution-refusal-requires returns-2 position-of-requires (λ c κs. search needs)
+    effect-of-requires returns-3 squashed-from-requires cut-requires cut-requires-2 including-requires set-word-requires
     add-mark-requires add-mark-requires-2 set-value-requires set-value-requires-2 (search needs) returns-4)

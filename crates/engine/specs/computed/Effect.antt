@@ -13,13 +13,24 @@ use Rattle.engine.specs.declared.Action.the-variants.{Compute, LoadAt, S
 use Rattle.engine.specs.Part.{wordOf, whole}
 use Rattle.engine.specs.declared.Effect.{Effect}
 
--- what an action comes to at position p of a table with these parts, over this memory
-abbrev pub effectOf : ℕ → ℕ → ℕ → ℕ → ℕ → List ℕ → List ℕ → List ℕ → List ℕ → List ℕ → ℕ → List ℕ → Action → Effect
-effectOf banks rows stages oldest live addresses loads stores values taken p memory (Compute v) =
+-- the number of the word that an action goes to; any, 0, where it goes to none
+abbrev pub wordAddress : Action → ℕ
+wordAddress (Compute v) = 0
+wordAddress (LoadAt a) = a
+wordAddress (StoreAt a v) = a
+wordAddress (PartAt part b v) = wordOf b
+
+-- what stands there below the table: the memory's word
+abbrev pub wordBelow : List ℕ → Action → ℕ
+wordBelow memory act = getD memory (wordAddress act) 0
+
+-- what an action comes to at position p of a table with these parts, where `below` stands below the table at its word
+abbrev pub effectOf : ℕ → ℕ → ℕ → ℕ → ℕ → List ℕ → List ℕ → List ℕ → List ℕ → List ℕ → ℕ → ℕ → Action → Effect
+effectOf banks rows stages oldest live addresses loads stores values taken p below (Compute v) =
     record { load = false; store = false; row = 0; word = 0; left = live; value = v; address = 0; distance = 0; taken = 0 }
-effectOf banks rows stages oldest live addresses loads stores values taken p memory (LoadAt a) =
+effectOf banks rows stages oldest live addresses loads stores values taken p below (LoadAt a) =
     let q = placeFor oldest stages live rows addresses loads stores (bank banks a) a p in
-    let found = forward oldest stages stores values (q .row) p (getD memory a 0) in
+    let found = forward oldest stages stores values (q .row) p below in
     record {
       load = true;
       store = false;
@@ -31,7 +42,7 @@ effectOf banks rows stages oldest live addresses loads stores values taken p mem
       distance = found .distance;
       taken = found .word;
     }
-effectOf banks rows stages oldest live addresses loads stores values taken p memory (StoreAt a v) =
+effectOf banks rows stages oldest live addresses loads stores values taken p below (StoreAt a v) =
     let q = placeFor oldest stages live rows addresses loads stores (bank banks a) a p in
     record {
       load = false;
@@ -44,10 +55,10 @@ effectOf banks rows stages oldest live addresses loads stores values taken p mem
       distance = 0;
       taken = 0;
     }
-effectOf banks rows stages oldest live addresses loads stores values taken p memory (PartAt part b v) =
+effectOf banks rows stages oldest live addresses loads stores values taken p below (PartAt part b v) =
     let a = wordOf b in
     let q = placeFor oldest stages live rows addresses loads stores (bank banks a) a p in
-    let w = forward oldest stages stores values (q .row) p (getD memory a 0) .word in
+    let w = forward oldest stages stores values (q .row) p below .word in
     record {
       load = true;
       store = true;
@@ -64,11 +75,11 @@ effectOf banks rows stages oldest live addresses loads stores values taken p mem
 abbrev pub answered : Bool → Bool → ℕ → ℕ
 answered load store v = cond load (cond store 0 v) 0
 
--- the same of a table
+-- the same of a table over this memory
 abbrev pub effectAt : Table → ℕ → List ℕ → Action → Effect
 effectAt t p memory act =
     effectOf (t .banks) (t .rows) (t .stages) (t .oldest) (t .live) (t .addresses) (t .loads) (t .stores) (t .values) (t .taken) p
-    memory act
+    (wordBelow memory act) act
 
 -- the table after an execution at stage s with this effect
 abbrev pub applyEffect : Table → Effect → ℕ → Table

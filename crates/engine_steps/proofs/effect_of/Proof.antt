@@ -4,7 +4,6 @@ use mathlib.Core.Bool.{true}
 use mathlib.Core.List.{List}
 use mathlib.Core.Path.{_≡_}
 use Prim.Native.Nat.{ℕ}
-use lib.ListN.{getD}
 use borrow.Author.Needs.{needs}
 use Rattle.table.specs.Bank.{bank}
 use Rattle.lookup.specs.declared.Place.{Place}
@@ -18,11 +17,10 @@ use Rattle.engine.specs.computed.Effect.{effectOf}
 use Rattle.engine_steps.proofs.effect_of.Statement.{statement}
 use Rattle.engine_steps.proofs.effect_of.Tie as tie
 
-part-made : (banks rows stages oldest live : ℕ) (addresses loads stores values taken : List ℕ) (p : ℕ) (memory : List ℕ)
-    (part : Part) (b x w v left : ℕ) (place : Place) (found : Taken)
+part-made : (banks rows stages oldest live : ℕ) (addresses loads stores values taken : List ℕ) (p below : ℕ) (part : Part)
+    (b x v left : ℕ) (place : Place) (found : Taken)
     → place ≡ placeFor oldest stages live rows addresses loads stores (bank banks (wordOf b)) (wordOf b) p
-    → w ≡ getD memory (wordOf b) 0
-    → found ≡ forward oldest stages stores values (place .row) p w
+    → found ≡ forward oldest stages stores values (place .row) p below
     → v ≡ whole part b (found .word) x
     → left ≡ leftAfter oldest stages live loads stores taken (place .row) (place .left) p v
     → _≡_ {A = Effect}
@@ -37,10 +35,9 @@ part-made : (banks rows stages oldest live : ℕ) (addresses loads stores values
       distance = 0;
       taken = found .word;
     })
-    (effectOf banks rows stages oldest live addresses loads stores values taken p memory (PartAt part b x))
-part-made banks rows stages oldest live addresses loads stores values taken p memory part b x w v left place found hp hw hf hv
-    hl =
-    rw (hl, hv, hf, hw, hp)
+    (effectOf banks rows stages oldest live addresses loads stores values taken p below (PartAt part b x))
+part-made banks rows stages oldest live addresses loads stores values taken p below part b x v left place found hp hf hv hl =
+    rw (hl, hv, hf, hp)
 
 returns : tie.Need-returns
 returns c = rw (c .before .action .given .1)
@@ -48,10 +45,9 @@ returns c = rw (c .before .action .given .1)
 returns-2 : tie.Need-returns-2
 returns-2 c =
     rw (
-      c .before .before .before .before .action2 .given .1,
+      c .before .before .before .action2 .given .1,
       c .forwarded .ensures,
-      c .before .word .ensures,
-      c .before .before .place-of .ensures .1,
+      c .before .place-of .ensures .1,
     )
 
 returns-3 : tie.Need-returns-3
@@ -64,13 +60,13 @@ returns-3 c =
 
 returns-4 : tie.Need-returns-4
 returns-4 c =
-    let found = c .before .before .before .before in
-    let args = found .before .before .before .before .before .args in
+    let found = c .before .before .before in
+    let args = found .before .before .before .before .args in
     let act = found .before .before .action4 .given .0 in
     rw (found .before .before .action4 .given .1)
     (part-made (args .banks) (args .rows) (args .stages) (args .oldest) (args .live) (args .addresses .now) (args .loads .now)
-    (args .stores .now) (args .values .now) (args .taken .now) (args .p) (args .memory .now) (act .0) (act .1 .0) (act .1 .1 .0)
-    _ _ _ _ _ (found .place-of3 .ensures .1) (c .before .before .before .word2 .ensures)
+    (args .stores .now) (args .values .now) (args .taken .now) (args .p) (args .below) (act .0) (act .1 .0) (act .1 .1 .0)
+    _ _ _ _ (found .place-of3 .ensures .1)
     (c .before .before .forwarded2 .ensures) (c .before .merge .ensures) (c .left-after2 .ensures))
 
 pub effect-of-spec : {M : Type 1} → statement M
@@ -78,5 +74,4 @@ effect-of-spec =
     tie.close
     (tie.spec
     (search needs) (search needs) (search needs) (search needs) (search needs) (search needs) (search needs)
-    (search needs) (search needs) (search needs) (search needs) (search needs) (search needs) (search needs) returns
-    returns-2 returns-3 returns-4)
+    (search needs) (search needs) (search needs) (search needs) (search needs) returns returns-2 returns-3 returns-4)
