@@ -78,7 +78,7 @@ pub fn execute(mut m: Machine, program: &[u32], p: usize, memory: &[u32]) -> Exe
         &m.table.taken,
         p,
         action,
-        memory,
+        engine_steps::word_below(memory, action),
     );
     let r = effect.row;
     let left = effect.left;

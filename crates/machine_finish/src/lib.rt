@@ -86,6 +86,7 @@ pub fn finish(
             let instruction = e.instruction;
             let x = machine_steps::register(&m.registers, machine_isa::s_of(instruction));
             let y = machine_steps::register(&m.registers, machine_isa::second_of(instruction));
+            let action = machine_isa::action_of(instruction, x, y);
             let effect = engine_steps::effect_of(
                 banks,
                 m.table.rows,
@@ -98,8 +99,8 @@ pub fn finish(
                 &m.table.values,
                 &m.table.taken,
                 0,
-                machine_isa::action_of(instruction, x, y),
-                memory,
+                action,
+                engine_steps::word_below(memory, action),
             );
             let r = effect.row;
             let left = effect.left;

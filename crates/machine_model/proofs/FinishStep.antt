@@ -50,7 +50,7 @@ use Rattle.machine_model.proofs.Answering.{Passed, validate-passes}
 use Rattle.machine_model.proofs.Moved.{issuedOver, issue-meets}
 use Rattle.machine_model.proofs.Formed.{like-small}
 use Rattle.lookup.specs.Forwarding.{forwarded}
-use Rattle.engine.specs.computed.Effect.{effectOf, effectAt, answered, applyEffect}
+use Rattle.engine.specs.computed.Effect.{wordBelow, effectOf, effectAt, answered, applyEffect}
 use Rattle.engine.proofs.Executed.{effect-left, found-bounds, effect-made}
 use Rattle.machine_model.proofs.Comparing.{agree-waiting}
 use Rattle.machine_model.proofs.Executions.{waits-waiting, asked, execute-meets}
@@ -265,126 +265,132 @@ module _ {program : List ℕ} {m : Machine} {w : List ℕ} {b : Machine}
 
   module _ (idle : pending (own .fate) ≡ true) {x y : ℕ} (hx : x ≡ getD (b .registers) (sOf (own .instruction)) 0)
       (hy : y ≡ getD (b .registers) (second (own .instruction)) 0) {act : Action}
-      (ha : act ≡ actionOf (own .instruction) x y) {q : Effect}
+      (ha : act ≡ actionOf (own .instruction) x y) {below : ℕ} (hb : below ≡ wordBelow w act) {q : Effect}
       (hq : q
-      ≡ effectOf (t .banks) (t .rows) n o (t .live) (t .addresses) (t .loads) (t .stores) (t .values) (t .taken) 0 w act) where
-    idle-here : pending (entryOf b 0 .fate) ≡ true
-    idle-here = ap (λ (s : ℕ). pending (getD (b .window) s blankEntry .fate)) here ∙ idle
+      ≡ effectOf (t .banks) (t .rows) n o (t .live) (t .addresses) (t .loads) (t .stores) (t .values) (t .taken) 0 below act)
+    where
+      idle-here : pending (entryOf b 0 .fate) ≡ true
+      idle-here = ap (λ (s : ℕ). pending (getD (b .window) s blankEntry .fate)) here ∙ idle
 
-    -- at position 0 the operands are the committed registers
-    asks : asked b program w 0 passed-here ≡ some act
-    unfolding registerSeen tabulate
-    asks =
-        let by : ℕ → Option Action = λ s.
-        let i = getD (b .window) s blankEntry .instruction in
-        some (actionOf i (getD (b .registers) (sOf i) 0) (getD (b .registers) (second i) 0)) in
-        ap by here ∙ ap₂ (λ (k j : ℕ). some (actionOf (own .instruction) k j)) (sym hx) (sym hy) ∙ ap some (sym ha)
+      -- at position 0 the operands are the committed registers
+      asks : asked b program w 0 passed-here ≡ some act
+      unfolding registerSeen tabulate
+      asks =
+          let by : ℕ → Option Action = λ s.
+          let i = getD (b .window) s blankEntry .instruction in
+          some (actionOf i (getD (b .registers) (sOf i) 0) (getD (b .registers) (second i) 0)) in
+          ap by here ∙ ap₂ (λ (k j : ℕ). some (actionOf (own .instruction) k j)) (sym hx) (sym hy) ∙ ap some (sym ha)
 
-    effect-is : q ≡ effectAt t 0 w act
-    effect-is =
-        hq
-        ∙ circle along
-        (λ (k j : ℕ).
-        effectOf (t .banks) (t .rows) j k (t .live) (t .addresses) (t .loads) (t .stores) (t .values) (t .taken) 0 w act)
+      effect-is : q ≡ effectAt t 0 w act
+      effect-is =
+          hq
+          ∙ circle along
+          (λ (k j : ℕ).
+          effectOf (t .banks) (t .rows) j k (t .live) (t .addresses) (t .loads) (t .stores) (t .values) (t .taken) 0 below act)
+          ∙ ap
+          (λ (z : ℕ).
+          effectOf (t .banks) (t .rows) (t .stages) (t .oldest) (t .live) (t .addresses) (t .loads) (t .stores) (t .values)
+          (t .taken) 0 z act)
+          hb
 
-    -- it never stalls
-    stays : q .left ≡ 0 → ⊥
-    stays e =
-        let rules = passed-here .sound .rules in
-        let f = fateOf (at (view t .refs) 0) in
-        let x = entryOf b 0 in
-        oldest-leaves (view t) (fits t rules .some-row) (omega (arith, length-refs t, along .some))
-        (agree-waiting f
-        (ap (λ (g : Reference.Fate). agree g f) (sym (waits-waiting (x .instruction) (x .fate) idle-here))
-        ∙ passed-here .sound .agrees 0 (along .some)))
-        (fateBy (forwarded (view t) w 0) act)
-        (sym (effect-left t rules 0 (along .some) w act) ∙ ap (λ (k : Effect). k .left) (sym effect-is) ∙ e)
+      -- it never stalls
+      stays : q .left ≡ 0 → ⊥
+      stays e =
+          let rules = passed-here .sound .rules in
+          let f = fateOf (at (view t .refs) 0) in
+          let x = entryOf b 0 in
+          oldest-leaves (view t) (fits t rules .some-row) (omega (arith, length-refs t, along .some))
+          (agree-waiting f
+          (ap (λ (g : Reference.Fate). agree g f) (sym (waits-waiting (x .instruction) (x .fate) idle-here))
+          ∙ passed-here .sound .agrees 0 (along .some)))
+          (fateBy (forwarded (view t) w 0) act)
+          (sym (effect-left t rules 0 (along .some) w act) ∙ ap (λ (k : Effect). k .left) (sym effect-is) ∙ e)
 
-    pub taken-bounds : (0 < q .left) × (q .left ≤ t .live) × (q .row < slots)
-    taken-bounds = found-bounds t (passed-here .sound .rules) 0 (along .some) w act effect-is stays
+      pub taken-bounds : (0 < q .left) × (q .left ≤ t .live) × (q .row < slots)
+      taken-bounds = found-bounds t (passed-here .sound .rules) 0 (along .some) w act effect-is stays
 
-    module _ {done : ℕ} {cutLoads cutStores addresses loads stores values words : List ℕ} {f : Entry} {next : ℕ}
-        (hd : done ≡ bitOr (t .executed) (2 ^ o)) (hl : cutLoads ≡ cutMarks (t .banks) o n (t .live) (q .left) (t .loads))
-        (hs : cutStores ≡ cutMarks (t .banks) o n (t .live) (q .left) (t .stores))
-        (ka : addresses ≡ cond (q .load || q .store) (set (t .addresses) (q .row) (q .word)) (t .addresses))
-        (kl : loads ≡ marking cutLoads (q .load) (q .row) o)
-        (ks : stores ≡ marking cutStores (q .store) (q .row) o)
-        (kv : values ≡ keeping (t .values) (q .store) o (q .value))
-        (kw : words ≡ keeping (t .taken) (q .load) o (q .taken))
-        (hf : f ≡ getD (b .window) (stage o n (q .left)) blankEntry)
-        (hn : next ≡ cond (ltb (q .left) (t .live)) (f .index) (b .next)) where
-      abbrev taken : Machine
-      taken = took b o q done addresses loads stores values words next
+      module _ {done : ℕ} {cutLoads cutStores addresses loads stores values words : List ℕ} {f : Entry} {next : ℕ}
+          (hd : done ≡ bitOr (t .executed) (2 ^ o)) (hl : cutLoads ≡ cutMarks (t .banks) o n (t .live) (q .left) (t .loads))
+          (hs : cutStores ≡ cutMarks (t .banks) o n (t .live) (q .left) (t .stores))
+          (ka : addresses ≡ cond (q .load || q .store) (set (t .addresses) (q .row) (q .word)) (t .addresses))
+          (kl : loads ≡ marking cutLoads (q .load) (q .row) o)
+          (ks : stores ≡ marking cutStores (q .store) (q .row) o)
+          (kv : values ≡ keeping (t .values) (q .store) o (q .value))
+          (kw : words ≡ keeping (t .taken) (q .load) o (q .taken))
+          (hf : f ≡ getD (b .window) (stage o n (q .left)) blankEntry)
+          (hn : next ≡ cond (ltb (q .left) (t .live)) (f .index) (b .next)) where
+        abbrev taken : Machine
+        taken = took b o q done addresses loads stores values words next
 
-      table-is : taken .table ≡ applyEffect t q o
-      table-is =
-          let cuts : List ℕ → ℕ → ℕ → List ℕ = λ l j k. cutMarks (t .banks) j k (t .live) (q .left) l in
-          effect-made t q o done addresses cutLoads loads cutStores stores values words (hl ∙ circle along (cuts (t .loads)))
-          (hs ∙ circle along (cuts (t .stores))) hd ka kl ks kv kw
+        table-is : taken .table ≡ applyEffect t q o
+        table-is =
+            let cuts : List ℕ → ℕ → ℕ → List ℕ = λ l j k. cutMarks (t .banks) j k (t .live) (q .left) l in
+            effect-made t q o done addresses cutLoads loads cutStores stores values words (hl ∙ circle along (cuts (t .loads)))
+            (hs ∙ circle along (cuts (t .stores))) hd ka kl ks kv kw
 
-      next-is : next ≡ cond (ltb (q .left) (t .live)) (entryOf b (q .left) .index) (b .next)
-      next-is =
-          hn
-          ∙ ap (λ (x : Entry). cond (ltb (q .left) (t .live)) (x .index) (b .next))
-          (hf ∙ circle along (λ (j k : ℕ). getD (b .window) (stage j k (q .left)) blankEntry))
+        next-is : next ≡ cond (ltb (q .left) (t .live)) (entryOf b (q .left) .index) (b .next)
+        next-is =
+            hn
+            ∙ ap (λ (x : Entry). cond (ltb (q .left) (t .live)) (x .index) (b .next))
+            (hf ∙ circle along (λ (j k : ℕ). getD (b .window) (stage j k (q .left)) blankEntry))
 
-      taken-meets :
-          Meets program b (execute 0) w
-          (executed (answered (q .load) (q .store) (q .value)) (q .distance)
-          (squashSays (cond (ltb (q .left) (t .live)) (squashed.From (q .left)) squashed.Nothing)))
-          taken
-          w
-          []
-      taken-meets =
-          execute-meets b program w 0 passed-here (along .some) idle-here (along .sized .window) (along .sized .lengths) act
-          asks o (sym here) q effect-is stays (taken .table) table-is _ refl _ refl next next-is
+        taken-meets :
+            Meets program b (execute 0) w
+            (executed (answered (q .load) (q .store) (q .value)) (q .distance)
+            (squashSays (cond (ltb (q .left) (t .live)) (squashed.From (q .left)) squashed.Nothing)))
+            taken
+            w
+            []
+        taken-meets =
+            execute-meets b program w 0 passed-here (along .some) idle-here (along .sized .window) (along .sized .lengths) act
+            asks o (sym here) q effect-is stays (taken .table) table-is _ refl _ refl next next-is
 
-      taken-sized : Sized taken
-      taken-sized =
-          let l = along .sized .lengths in
-          let cuts : (ws : List ℕ) → length ws ≡ slots → length (cutMarks (t .banks) o n (t .live) (q .left) ws) ≡ slots = λ ws.
-          length-cut (ltb (q .left) (t .live)) (rowsIn (t .banks)) ws (firsts o n (q .left)) slots in
-          let marks : (ws : List ℕ) (on : Bool) → length ws ≡ slots → length (marking ws on (q .row) o) ≡ slots = λ ws on.
-          length-either on ws (q .row) (bitOr (getD ws (q .row) 0) (2 ^ o)) slots in
-          record {
-            lengths = record {
-              numbers = l .numbers;
-              addresses =
-                  rw ka (length-either (q .load || q .store) (t .addresses) (q .row) (q .word) slots (l .addresses));
-              loads = rw kl (marks cutLoads (q .load) (rw hl (cuts (t .loads) (l .loads))));
-              stores = rw ks (marks cutStores (q .store) (rw hs (cuts (t .stores) (l .stores))));
-              values =
-                  rw kv (length-either (q .store) (t .values) o (q .value) stagesMost (l .values));
-              taken =
-                  rw kw (length-either (q .load) (t .taken) o (q .taken) stagesMost (l .taken));
-            };
-            window = simp length-set (along .sized .window);
-            registers = along .sized .registers;
-            small = along .sized .small;
-          }
+        taken-sized : Sized taken
+        taken-sized =
+            let l = along .sized .lengths in
+            let cuts : (ws : List ℕ) → length ws ≡ slots → length (cutMarks (t .banks) o n (t .live) (q .left) ws) ≡ slots = λ ws.
+            length-cut (ltb (q .left) (t .live)) (rowsIn (t .banks)) ws (firsts o n (q .left)) slots in
+            let marks : (ws : List ℕ) (on : Bool) → length ws ≡ slots → length (marking ws on (q .row) o) ≡ slots = λ ws on.
+            length-either on ws (q .row) (bitOr (getD ws (q .row) 0) (2 ^ o)) slots in
+            record {
+              lengths = record {
+                numbers = l .numbers;
+                addresses =
+                    rw ka (length-either (q .load || q .store) (t .addresses) (q .row) (q .word) slots (l .addresses));
+                loads = rw kl (marks cutLoads (q .load) (rw hl (cuts (t .loads) (l .loads))));
+                stores = rw ks (marks cutStores (q .store) (rw hs (cuts (t .stores) (l .stores))));
+                values =
+                    rw kv (length-either (q .store) (t .values) o (q .value) stagesMost (l .values));
+                taken =
+                    rw kw (length-either (q .load) (t .taken) o (q .taken) stagesMost (l .taken));
+              };
+              window = simp length-set (along .sized .window);
+              registers = along .sized .registers;
+              small = along .sized .small;
+            }
 
-      window-holds : o < length (b .window)
-      window-holds = omega (arith, along .sized .window, along .oldest, oldest-small t (passed-here .sound .rules))
+        window-holds : o < length (b .window)
+        window-holds = omega (arith, along .sized .window, along .oldest, oldest-small t (passed-here .sound .rules))
 
-      pub ready-taken : (u : Machine) → u ≡ taken → Prepared program m w u
-      ready-taken u e =
-          subst (Prepared program m w) (sym e)
-          (record {
-            along = record {
-              passes = execute-passes b taken program (length w) (along .passes) w w _ 0 taken-meets;
-              is =
-                  ready-waiting program m b w (passed-here .sound) (along .some) (along .is) taken _
-                  (ap (λ (x : Entry). pending (x .fate)) at-oldest ∙ idle)
-                  taken-meets;
-              some = taken-bounds .0;
-              oldest = along .oldest;
-              stages = along .stages;
-              sized = taken-sized;
-            };
-            executed =
-                ap (λ (s : ℕ). pending (getD (taken .window) s blankEntry .fate)) (along .oldest)
-                ∙ ap (λ (x : Entry). pending (x .fate)) (getD-set-same (b .window) o _ blankEntry window-holds);
-          })
+        pub ready-taken : (u : Machine) → u ≡ taken → Prepared program m w u
+        ready-taken u e =
+            subst (Prepared program m w) (sym e)
+            (record {
+              along = record {
+                passes = execute-passes b taken program (length w) (along .passes) w w _ 0 taken-meets;
+                is =
+                    ready-waiting program m b w (passed-here .sound) (along .some) (along .is) taken _
+                    (ap (λ (x : Entry). pending (x .fate)) at-oldest ∙ idle)
+                    taken-meets;
+                some = taken-bounds .0;
+                oldest = along .oldest;
+                stages = along .stages;
+                sized = taken-sized;
+              };
+              executed =
+                  ap (λ (s : ℕ). pending (getD (taken .window) s blankEntry .fate)) (along .oldest)
+                  ∙ ap (λ (x : Entry). pending (x .fate)) (getD-set-same (b .window) o _ blankEntry window-holds);
+            })
 
 -- ---- committed
 

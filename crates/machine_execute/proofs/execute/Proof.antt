@@ -16,6 +16,7 @@ use Rattle.table.specs.Limits.{stagesMost, slots}
 use Rattle.table.specs.Rules.{Rules}
 use Rattle.engine.proofs.Lengths.{fits, circle-asks, effect-asks, stage-small}
 use Rattle.machine_model.specs.Program.{sOf}
+use Rattle.engine.specs.computed.Effect.{effectAt}
 use Rattle.engine.specs.declared.Action.{Action}
 use Rattle.engine.proofs.Executed.{found-bounds, effect-made}
 use Rattle.machine_model.specs.Window.{blankEntry}
@@ -51,7 +52,7 @@ abbrev staged : tie.After-known-told → tie.After-stage-at
 staged c = waiting c .before .before .before
 
 abbrev known : tie.After-effect-of → tie.After-known-told
-known c = c .before .before .before .before .before .before .before
+known c = c .before .before .before .before .before .before .before .before
 
 abbrev placed : tie.Else4 → tie.After-stage-at
 placed c = staged (known (c .before))
@@ -120,6 +121,12 @@ asks-at : (c : tie.After-known-told)
     asked (args .t1) (args .program .now) (args .memory .now) (args .p) (passed-at (past at)) ≡ some (action c)
 asks-at c = sym (asked-at (c .before .before .before)) ∙ ap wantedBy (c .before .wanted .given .1)
 
+-- the effect found is the definition's
+found-at : (c : tie.After-effect-of)
+    → let args = begun (staged (known c)) .args in
+    c .effect-of .result ≡ effectAt (args .t1 .table) (args .p) (args .memory .now) (action (known c))
+found-at c = rw (c .before .word-below .ensures) at (c .effect-of .ensures)
+
 bounds-at : (c : tie.Else4)
     → let at = placed c in
     let q = c .before .effect-of .result in
@@ -128,7 +135,7 @@ bounds-at c =
     let at = placed c in
     let lies =
     found-bounds _ (rules-at at) _ (at .before .if2 .left) (begun at .args .memory .now) (action (known (c .before)))
-    (c .before .effect-of .ensures) (c .if4 .left) in
+    (found-at (c .before)) (c .if4 .left) in
     (lies .1, lies .2, small-at at)
 
 -- the position of the first that does not stay, and its stage
@@ -189,7 +196,7 @@ returns-4 c =
 
 effect-of-requires : tie.Need-effect-of-requires
 effect-of-requires c κs =
-    let at = staged (c .before .before .before .before .before .before) in
+    let at = staged (c .before .before .before .before .before .before .before) in
     effect-asks _ (rules-at at) (sized-at (begun at) .lengths) _ (at .before .if2 .left)
 
 returns-5 : tie.Need-returns-5
@@ -199,7 +206,7 @@ returns-5 c =
     let args = begun at .args in
     stall-refused (args .t1) (args .program .now) (args .memory .now) (args .p) (passed-at (past at))
     (at .before .if2 .left) (idle-at (waiting k)) (action k) (asks-at k)
-    (c .before .effect-of .result) (c .before .effect-of .ensures) (c .if4 .taken)
+    (c .before .effect-of .result) (found-at (c .before)) (c .if4 .taken)
 
 cut-requires : tie.Need-cut-requires
 cut-requires c κs =
@@ -265,7 +272,7 @@ returns-6 c =
     execute-meets (args .t1) (args .program .now) (args .memory .now) (args .p) (passed-at (past begin))
     (begin .before .if2 .left) (idle-at (waiting k)) (sized-at (begun begin) .window)
     (sized-at (begun begin) .lengths) (action k)
-    (asks-at k) (s .result) (s .ensures) q (at .before .effect-of .ensures) (at .if4 .left) _
+    (asks-at k) (s .result) (s .ensures) q (found-at (at .before)) (at .if4 .left) _
     (effect-made t q (s .result) (ran .including .result) (words .set-word .last .0) (less .before .before .cut .last .0)
     (loads .add-mark .last .0) (less .cut2 .last .0) (stores .add-mark2 .last .0) (kept .set-value .last .0)
     (took .set-value2 .last .0)
@@ -282,7 +289,7 @@ pub execute-spec : {M : Type 1} → statement M
 execute-spec =
     tie.close
     (tie.spec (λ c κs. search needs) returns returns-2 stage-at-requires mul-e array-copy-out-e (search needs) returns-3
-    wanted-at-requires (search needs) (search needs) returns-4 effect-of-requires returns-5 cut-requires
+    wanted-at-requires (search needs) (search needs) returns-4 (λ c κs. search needs) effect-of-requires returns-5 cut-requires
     cut-requires-2 including-requires set-word-requires add-mark-requires add-mark-requires-2 set-value-requires
     set-value-requires-2 mul-f element-set-from-f stage-at-requires-2 mul-f-2 array-copy-out-f (search needs) (search needs)
     (search needs) returns-6)

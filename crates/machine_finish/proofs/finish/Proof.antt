@@ -167,8 +167,8 @@ instruction-at-requires c κs =
     let passed = passed-in (head (past .before)) in
     program-small _ _ _ (passed .fits) (passed .counted) (left-at past)
 
-mul-t69 : tie.Need-mul-t69 Inv-loop μ-loop
-mul-t69 c = omega (arith, oldest-below (head (c .before .before .before .before .before .before .before .before)))
+mul-t70 : tie.Need-mul-t70 Inv-loop μ-loop
+mul-t70 c = omega (arith, oldest-below (head (c .before .before .before .before .before .before .before .before)))
 
 element-set-from-m : tie.Need-element-set-from-m Inv-loop μ-loop
 element-set-from-m c = oldest-below (head (c .before .before .before .before .before .before .before .before))
@@ -238,7 +238,7 @@ abbrev idle : tie.After-register2 Inv-loop μ-loop → tie.Then5 Inv-loop μ-loo
 idle c = c .before .before .before .before .before .before .before .before
 
 abbrev operands : tie.After-effect-of Inv-loop μ-loop → tie.After-register2 Inv-loop μ-loop
-operands c = c .before .before .before .before .before .before .before .before .before
+operands c = c .before .before .before .before .before .before .before .before .before .before
 
 abbrev chosen : tie.After-effect-of Inv-loop μ-loop → tie.Joined4 Inv-loop μ-loop
 chosen c = issued (idle (operands c) .before)
@@ -255,7 +255,7 @@ sizes-at c = along-sizes (begun-at c)
 
 effect-of-requires : tie.Need-effect-of-requires Inv-loop μ-loop
 effect-of-requires c κs =
-    let j = issued (idle (c .before .before .before .before .before .before .before .before) .before) in
+    let j = issued (idle (c .before .before .before .before .before .before .before .before .before) .before) in
     let a = begun-at j in
     let s = sizes-at j in
     let l = a .sized .lengths in (
@@ -275,7 +275,8 @@ bounds-at c =
     taken-bounds (begun-at j) (idle-at (idle y))
     (x .register .ensures ∙ ap (λ (k : ℕ). getD registers k 0) (x .before .s-of .ensures))
     (y .register2 .ensures ∙ ap (λ (k : ℕ). getD registers k 0) (y .before .second-of .ensures))
-    (c .before .before .action-of .ensures)
+    (c .before .before .before .before .before .before .before .before .before .action-of .ensures)
+    (c .before .word-below .ensures)
     (c .effect-of .ensures)
 
 cut-requires : tie.Need-cut-requires Inv-loop μ-loop
@@ -335,8 +336,8 @@ mul-f c = omega (arith, after-small c)
 element-copy-out-f : tie.Need-element-copy-out-f Inv-loop μ-loop
 element-copy-out-f c = after-small c
 
-mul-t79 : tie.Need-mul-t79 Inv-loop μ-loop
-mul-t79 c = omega (arith, oldest-below (head (chosen (marked (c .before .before .before .before .before)) .before)))
+mul-t80 : tie.Need-mul-t80 Inv-loop μ-loop
+mul-t80 c = omega (arith, oldest-below (head (chosen (marked (c .before .before .before .before .before)) .before)))
 
 element-set-from-m-2 : tie.Need-element-set-from-m-2 Inv-loop μ-loop
 element-set-from-m-2 c = oldest-below (head (chosen (marked (c .before .before .before .before .before)) .before))
@@ -354,20 +355,21 @@ ready-at c =
     ready-taken (begun-at j) (idle-at (record { before = c .before; if5 = v .0 }))
     (v .4 .ensures ∙ ap (λ (k : ℕ). getD registers k 0) (v .3 .ensures))
     (v .8 .ensures ∙ ap (λ (k : ℕ). getD registers k 0) (v .7 .ensures))
-    (v .15 .ensures)
+    (v .9 .ensures)
     (v .17 .ensures)
-    (v .23 .ensures)
-    (v .19 .ensures)
-    (v .21 .ensures)
-    (v .27 .ensures)
-    (v .29 .ensures)
-    (v .31 .ensures)
-    (v .33 .ensures)
-    (v .35 .ensures)
-    (ap (λ (s : ℕ). getD (j .if4 .m .window) s blankEntry) (v .36 .ensures))
-    (v .38 .ensures)
+    (v .18 .ensures)
+    (v .24 .ensures)
+    (v .20 .ensures)
+    (v .22 .ensures)
+    (v .28 .ensures)
+    (v .30 .ensures)
+    (v .32 .ensures)
+    (v .34 .ensures)
+    (v .36 .ensures)
+    (ap (λ (s : ℕ). getD (j .if4 .m .window) s blankEntry) (v .37 .ensures))
+    (v .39 .ensures)
     (c .if5 .m)
-    (v .39))
+    (v .40))
     (λ v. ready-kept (begun-at j) (sym (waits-at (c .before)) ∙ v .0 .left) (c .if5 .m) (v .1))
     (c .if5 .came)
 
@@ -593,10 +595,10 @@ finish-spec =
     tie.close
     (tie.spec Inv-loop μ-loop (λ c κs. search needs) returns loop-holds mul-if2 (search needs) (search needs)
     (search needs) returns-2 (search needs) (search needs) returns-3 (search needs) set-number-requires
-    cast-instruction-at instruction-at-requires mul-t69 element-set-from-m add-m mul-e element-copy-out-e
+    cast-instruction-at instruction-at-requires mul-t70 element-set-from-m add-m mul-e element-copy-out-e
     (search needs) (search needs) register-requires (search needs) register-requires-2 (search needs)
-    effect-of-requires cut-requires cut-requires-2 including-requires set-word-requires add-mark-requires
-    add-mark-requires-2 set-value-requires set-value-requires-2 stage-at-requires mul-f element-copy-out-f mul-t79
+    (λ c κs. search needs) effect-of-requires cut-requires cut-requires-2 including-requires set-word-requires add-mark-requires
+    add-mark-requires-2 set-value-requires set-value-requires-2 stage-at-requires mul-f element-copy-out-f mul-t80
     element-set-from-m-2
     (search needs) mul-done element-copy-out-done at-stage-requires (search needs) (search needs) same-length-5
     same-length-6 returns-4 (search needs) same-length-7 same-length-8 returns-5 write-back-requires (search needs)
