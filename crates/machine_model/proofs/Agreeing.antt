@@ -31,7 +31,7 @@ use Rattle.table.specs.Reference.{Side, Fate, waiting, other}
 use Rattle.table.specs.Rules.{Rules}
 use Rattle.table.specs.View.{stageOf, address, loadMark, storeMark, mark, value, taken, wordIf, fateAt}
 use Rattle.table.proofs.Sizes.{sizes, bank-lt}
-use Rattle.table.proofs.Fates.{Fated, pending, bare, marks, fated, mark-load, mark-store, fate-marked, fate-other, fate-waiting}
+use Rattle.table.proofs.Fates.{Fated, waits, bare, marks, fated, mark-load, mark-store, fate-marked, fate-other, fate-waiting}
 use Rattle.table.proofs.Lawful.{lawful-rules, taken-has, taken-from}
 use Rattle.machine_model.specs.Contract.{markKind, kindOf, placeOf, entryOf, agree}
 use Rattle.engine.specs.Conditions.{refusal, when}
