@@ -25,7 +25,7 @@ use Rattle.marks.proofs.Counts.{every-at, every-same}
 use Rattle.marks.proofs.Sets.{has-or, has-zero}
 use Rattle.table.specs.declared.Table.{Table}
 use Rattle.table.specs.Bank.{bank}
-use Rattle.table.specs.Limits.{rowsIn}
+use Rattle.table.specs.Limits.{rowsMost, rowsIn}
 use Rattle.table.specs.computed.Check.{marksBelow, lawful}
 use Rattle.table.specs.Reference.{Side, Fate, waiting, other}
 use Rattle.table.specs.Rules.{Rules}
@@ -141,10 +141,10 @@ module _ (t : Table) (rules : Rules t) (s : ℕ) where
   at-address words a = has (marksAt (t .addresses) words (bank (t .banks) a) a) s
 
   abbrev of : ℕ → ℕ → Bool
-  of a i = eqb (getD (t .addresses) (bank (t .banks) a * 8 + i) 0) a
+  of a i = eqb (getD (t .addresses) (bank (t .banks) a * rowsMost + i) 0) a
 
   abbrev row : List ℕ → ℕ → ℕ → ℕ
-  row words a i = getD words (bank (t .banks) a * 8 + i) 0
+  row words a i = getD words (bank (t .banks) a * rowsMost + i) 0
 
   bank-low : (a : ℕ) → bank (t .banks) a < t .banks
   bank-low a = bank-lt (t .banks) a (sizes _ _ _ _ (rules .sizes) .some-bank)
@@ -152,14 +152,14 @@ module _ (t : Table) (rules : Rules t) (s : ℕ) where
   row-found : (words : List ℕ) (a : ℕ) → at-address words a ≡ true
       → (r : ℕ) × (r < rowsIn (t .banks)) × (address t r ≡ a) × (has (getD words r 0) s ≡ true)
   row-found words a h =
-      let w = union-from (of a) (row words a) 8 s h in
-      (bank (t .banks) a * 8 + w .0, omega (arith, bank-low a, w .1), eqb-true _ _ (w .2), w .3)
+      let w = union-from (of a) (row words a) rowsMost s h in
+      (bank (t .banks) a * rowsMost + w .0, omega (arith, bank-low a, w .1), eqb-true _ _ (w .2), w .3)
 
-  row-in : (words : List ℕ) (r a : ℕ) → r / 8 ≡ bank (t .banks) a → address t r ≡ a → has (getD words r 0) s ≡ true
+  row-in : (words : List ℕ) (r a : ℕ) → r / rowsMost ≡ bank (t .banks) a → address t r ≡ a → has (getD words r 0) s ≡ true
       → at-address words a ≡ true
   row-in words r a b e m =
-      let q : bank (t .banks) a * 8 + r % 8 ≡ r = omega arith in
-      union-has (of a) (row words a) 8 (r % 8) s (omega arith) (eq-eqb _ _ (ap (address t) q ∙ e))
+      let q : bank (t .banks) a * rowsMost + r % rowsMost ≡ r = omega arith in
+      union-has (of a) (row words a) rowsMost (r % rowsMost) s (omega arith) (eq-eqb _ _ (ap (address t) q ∙ e))
       (ap (λ (x : ℕ). has (getD words x 0) s) q ∙ m)
 
   -- the code's test of an entry with this fate

@@ -28,7 +28,7 @@ use Rattle.engine.proofs.Lengths.{fits, oldest-small}
 use Rattle.engine.proofs.Reaching.{within-length}
 use Rattle.lookup.specs.declared.Mark.{Mark}
 use Rattle.lookup.specs.computed.Search.{markedFate}
-use Rattle.machine_model.specs.Program.{sOf, kind, destination, instructionAt, codeOf}
+use Rattle.machine_model.specs.Program.{registersMost, sOf, kind, destination, instructionAt, codeOf}
 use Rattle.engine.specs.Contract.{refused, named, executed, committed}
 use Rattle.engine.specs.declared.Action.{Action}
 use Rattle.engine.specs.Execution.{written, fateBy}
@@ -257,7 +257,7 @@ module _ {program : List ℕ} {m : Machine} {w : List ℕ} {b : Machine}
         executed = is;
       })
 
-  pub own-small : (sOf (own .instruction) < 8) × (second (own .instruction) < 8)
+  pub own-small : (sOf (own .instruction) < registersMost) × (second (own .instruction) < registersMost)
   own-small =
       like-small program (b .count) own (passed-here .fits) (passed-here .counted)
       (ap (λ (s : ℕ). matchesProgram program (b .count) (getD (b .window) s blankEntry)) (sym here)

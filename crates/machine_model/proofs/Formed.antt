@@ -13,7 +13,7 @@ use Rattle.marks.proofs.Counts.{every-at}
 use Rattle.machine_model.specs.declared.Instruction.{Instruction}
 use Rattle.machine_model.specs.declared.Instruction.the-variants.{Add, Sum, Load, Store, Byte, Half}
 use Rattle.machine_model.specs.declared.Entry.{Entry}
-use Rattle.machine_model.specs.Program.{decoded, instructionAt, codeOf, wellFormed, wellFormedAt, programFits, dOf, sOf}
+use Rattle.machine_model.specs.Program.{registersMost, decoded, instructionAt, codeOf, wellFormed, wellFormedAt, programFits, dOf, sOf}
 use Rattle.machine_model.specs.Program.{immOf, same}
 use Rattle.machine_model.specs.Calls.{matchesProgram}
 use Rattle.machine_model.specs.computed.Parts.{second}
@@ -49,9 +49,9 @@ told code d s imm = go (eqb code 1) (eqb code 2) (eqb code 3) (eqb code 4) (eqb 
 
 -- what a well-formed instruction's numbers are at most
 record Small (code d s imm : ℕ) : Type 0 where
-  low-d : d < 8
-  low-s : s < 8
-  low-imm : eqb code 2 ≡ true → imm < 8
+  low-d : d < registersMost
+  low-s : s < registersMost
+  low-imm : eqb code 2 ≡ true → imm < registersMost
 
 formed : (code d s imm : ℕ) → wellFormed code d s imm ≡ true → Small code d s imm
 formed code d s imm h =
@@ -71,7 +71,7 @@ formed code d s imm h =
 
 -- an instruction with the numbers of another that is well formed
 alike-small : (i j : Instruction) (code d s imm : ℕ) → Told i code d s imm → Small code d s imm → same i j ≡ true
-    → (sOf j < 8) × (second j < 8)
+    → (sOf j < registersMost) × (second j < registersMost)
 alike-small i j code d s imm t small h = go j (third .1) (second-pair .1) (first .1) (eqb-true _ _ (first .0))
   where
     third : ((eqb (codeOf i) (codeOf j) && eqb (dOf i) (dOf j) && eqb (sOf i) (sOf j)) ≡ true)
@@ -86,14 +86,14 @@ alike-small i j code d s imm t small h = go j (third .1) (second-pair .1) (first
     first : (eqb (codeOf i) (codeOf j) ≡ true) × (eqb (dOf i) (dOf j) ≡ true)
     first = and-eq-true-iff (eqb (codeOf i) (codeOf j)) (eqb (dOf i) (dOf j)) .0 (second-pair .0)
 
-    s-low : (r : ℕ) → eqb (sOf i) r ≡ true → r < 8
+    s-low : (r : ℕ) → eqb (sOf i) r ≡ true → r < registersMost
     s-low r e = omega (arith, eqb-true (sOf i) r e, t .is-s, small .low-s)
 
-    d-low : (r : ℕ) → eqb (dOf i) r ≡ true → r < 8
+    d-low : (r : ℕ) → eqb (dOf i) r ≡ true → r < registersMost
     d-low r e = omega (arith, eqb-true (dOf i) r e, t .is-d, small .low-d)
 
     go : (k : Instruction) → eqb (immOf i) (immOf k) ≡ true → eqb (sOf i) (sOf k) ≡ true → eqb (dOf i) (dOf k) ≡ true
-        → codeOf i ≡ codeOf k → (sOf k < 8) × (second k < 8)
+        → codeOf i ≡ codeOf k → (sOf k < registersMost) × (second k < registersMost)
     go (Add e r n) a b f g = (s-low r b, s-low r b)
     go (Sum e r n) a b f g = (
       s-low r b,
@@ -114,13 +114,13 @@ formed-at program count i fits counted low =
 
 -- what reading the instruction at index i asks for
 pub program-small : (program : List ℕ) (count i : ℕ) → programFits program ≡ true → length program ≡ 4 * count → i < count
-    → (i * 4 + 3 < length program) × (getD program (i * 4 + 1) 0 < 8) × (getD program (i * 4 + 2) 0 < 8)
+    → (i * 4 + 3 < length program) × (getD program (i * 4 + 1) 0 < registersMost) × (getD program (i * 4 + 2) 0 < registersMost)
 program-small program count i fits counted low =
     let small = formed-at program count i fits counted low in
     (omega arith, small .low-d, small .low-s)
 
 pub like-small : (program : List ℕ) (count : ℕ) (e : Entry) → programFits program ≡ true → length program ≡ 4 * count
-    → matchesProgram program count e ≡ true → (sOf (e .instruction) < 8) × (second (e .instruction) < 8)
+    → matchesProgram program count e ≡ true → (sOf (e .instruction) < registersMost) × (second (e .instruction) < registersMost)
 like-small program count e fits counted h =
     let i = e .index in
     let both = and-eq-true-iff (ltb i count) (same (instructionAt program i) (e .instruction)) .0 h in

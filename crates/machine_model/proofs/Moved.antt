@@ -13,6 +13,7 @@ use lib.Dec.{eqb, leb}
 use lib.ListN.{length, take, set, length-append}
 use lib.Seq.{length-take-le}
 use borrow.Author.Tests.{lt-ltb, le-leb, lt-leb, eq-eqb, ne-eqb}
+use Rattle.table.specs.Limits.{stagesMost}
 use Rattle.table.specs.Reference.{ref, waiting}
 use Rattle.table.specs.View.{stageOf, view}
 use Rattle.table.specs.Moves.{issued, squashTo}
@@ -74,7 +75,7 @@ module _ (program : List ℕ) (m : Machine) (passed : Passed m program (m .table
       (issue-responds 6
       (issue-number false true (ne-eqb (m .table .live) (m .table .stages) some) (le-leb (m .count) (m .next) e)))
 
-  pub issue-meets : Lengths (m .table) → length (m .window) ≡ 16 → m .table .live < m .table .stages → m .next < m .count
+  pub issue-meets : Lengths (m .table) → length (m .window) ≡ stagesMost → m .table .live < m .table .stages → m .next < m .count
       → Meets program m issue w (named (m .table .live)) (issuedOver program m) w []
   issue-meets lengths long room left =
       let rules = passed .sound .rules in

@@ -22,7 +22,7 @@ use Rattle.machine_model.specs.declared.Instruction.the-variants.{Add, S
 use Rattle.machine_model.specs.declared.Fate.{Fate}
 use Rattle.machine_model.specs.declared.Fate.the-variants.{Executed}
 use Rattle.machine_model.specs.declared.Entry.{Entry}
-use Rattle.machine_model.specs.Program.{sOf, kind, destination, sum}
+use Rattle.machine_model.specs.Program.{registersMost, sOf, kind, destination, sum}
 use Rattle.engine.specs.declared.Action.the-variants.{Compute, LoadAt, StoreAt, PartAt}
 use Rattle.engine.specs.declared.Action.{Action}
 use Rattle.machine_model.specs.Window.{
@@ -53,9 +53,9 @@ unfolding registerSeen
 register-snoc [] e k w = refl
 register-snoc (d ∷ es) e k w = register-snoc es e k (cond (writesTo (d .instruction) k) (valueOf (d .fate)) w)
 
--- 8, which stands for no register, is no register's number
-writes-number : (o : Option ℕ) (k : ℕ) → k < 8 → isRegister o k ≡ eqb (registerNumber o) k
-writes-number none k h = sym (ne-eqb 8 k (λ e. omega arith))
+-- registersMost, which stands for no register, is no register's number
+writes-number : (o : Option ℕ) (k : ℕ) → k < registersMost → isRegister o k ≡ eqb (registerNumber o) k
+writes-number none k h = sym (ne-eqb registersMost k (λ e. omega arith))
 writes-number (some d) k h = refl
 
 -- one turn of a search that finds nothing, and of one that finds position q
@@ -77,7 +77,7 @@ entryBy window oldest stages p = getD window (stage oldest stages p) blankEntry
 abbrev Packed : List Entry → ℕ → ℕ → List ℕ → ℕ → Type 0
 Packed window oldest stages into p = (q : ℕ) → q < p → getD into q 0 ≡ destinationAt window oldest stages q
 
-module _ (window : List Entry) (oldest stages : ℕ) (into : List ℕ) (k : ℕ) (small : k < 8) (base : Option ℕ) where
+module _ (window : List Entry) (oldest stages : ℕ) (into : List ℕ) (k : ℕ) (small : k < registersMost) (base : Option ℕ) where
   register-next : (p : ℕ) → Packed window oldest stages into (suc p)
       → registerSeen (entriesOf window oldest stages (suc p)) k base
       ≡ cond (eqb (getD into p 0) k) (valueOf (entryBy window oldest stages p .fate))

@@ -8,14 +8,16 @@ use mir.Val.{Val}
 use denote.Laws.{Is}
 use denote.Struct.Declared.{row}
 use borrow.Author.Needs.{needs}
+use Rattle.machine_model.specs.Program.{registersMost}
+use Rattle.table.specs.Limits.{stagesMost}
 use Rattle.engine.proofs.Lengths.{Lengths, lengths-of}
 use Rattle.machine_model.specs.declared.Machine.{Machine}
 use Rattle.machine_model.proofs.Machine.{the-type}
 
 pub record Sized (m : Machine) : Type 0 where
   pub lengths : Lengths (m .table)
-  pub window : length (m .window) ≡ 16
-  pub registers : length (m .registers) ≡ 8
+  pub window : length (m .window) ≡ stagesMost
+  pub registers : length (m .registers) ≡ registersMost
   pub small : m .count < 2 ^ 32
 
 -- a machine that machine values hold has them

@@ -27,7 +27,7 @@ use Rattle.machine_model.specs.declared.Instruction.the-variants.{Add, Sum, Loa
 use Rattle.machine_model.specs.declared.Fate.{Fate}
 use Rattle.machine_model.specs.declared.Fate.the-variants.{Waiting, Executed}
 use Rattle.machine_model.specs.declared.Entry.{Entry}
-use Rattle.machine_model.specs.Program.{perInstruction, decoded, instructionAt, codeOf, wellFormed, wellFormedAt, programFits}
+use Rattle.machine_model.specs.Program.{registersMost, perInstruction, decoded, instructionAt, codeOf, wellFormed, wellFormedAt, programFits}
 use Rattle.machine_model.specs.Program.{dOf}
 use Rattle.machine_model.specs.Window.{pending, entryAt, entryWith, writesTo, valueOf, addressBy, registerSeen, referenceBy, untold}
 use Rattle.machine_model.specs.Window.{reference, evaluate}
@@ -249,7 +249,7 @@ does-length r (Store d s imm) = refl
 does-length r (Byte d s imm) = refl
 does-length r (Half d s imm) = refl
 
-after-length : (program memory : List ℕ) (n : ℕ) → length (runAfter program memory n .registers) ≡ 8
+after-length : (program memory : List ℕ) (n : ℕ) → length (runAfter program memory n .registers) ≡ registersMost
 unfolding runAfter
 after-length program memory zero = refl
 after-length program memory (suc n) = go (ends program r) ∙ after-length program memory n
@@ -265,7 +265,7 @@ both : (a b : Bool) → (a && b) ≡ true → (a ≡ true) × (b ≡ true)
 both true b e = (refl, e)
 both false b e = absurd (true≢false (sym e))
 
-formed-d : (code d s imm : ℕ) → wellFormed code d s imm ≡ true → d < 8
+formed-d : (code d s imm : ℕ) → wellFormed code d s imm ≡ true → d < registersMost
 formed-d code d s imm e =
     let registers : (leb d 7 && leb s 7) ≡ true =
     both (leb 1 code && leb code 6) (leb d 7 && leb s 7)
@@ -286,7 +286,7 @@ decoded-d code d s imm =
     (chosen-d (eqb code 4) _ _ d refl (chosen-d (eqb code 5) (Byte d s imm) (Half d s imm) d refl refl))))
 
 d-fits : (program : List ℕ) (i : ℕ) → programFits program ≡ true → i < length program / perInstruction
-    → dOf (instructionAt program i) < 8
+    → dOf (instructionAt program i) < registersMost
 unfolding programFits
 d-fits program i fits h =
     rw

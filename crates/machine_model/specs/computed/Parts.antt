@@ -31,14 +31,14 @@ use Rattle.machine_model.specs.declared.Operand.{Operand}
 use Rattle.machine_model.specs.declared.Operand.the-variants.{Unknown, Known}
 use Rattle.machine_model.specs.declared.Wanted.{Wanted}
 use Rattle.machine_model.specs.declared.Wanted.the-variants as wanted
-use Rattle.machine_model.specs.Program.{codeOf, dOf, sOf, immOf, destination, sum, programFits}
+use Rattle.machine_model.specs.Program.{registersMost, codeOf, dOf, sOf, immOf, destination, sum, programFits}
 use Rattle.machine_model.specs.Window.{blankEntry, reference}
 use Rattle.machine_model.specs.Calls.{matchesProgram}
 use Rattle.machine_model.specs.Contract.{kindOf, placeOf}
 
--- the register that an instruction writes as a number; 8 where it writes none
+-- the register that an instruction writes as a number; registersMost where it writes none
 abbrev pub registerNumber : Option ℕ → ℕ
-registerNumber none = 8
+registerNumber none = registersMost
 registerNumber (some d) = d
 
 -- that number of the entry at position q of a window by stage
