@@ -4,8 +4,7 @@
 -- Executions: execute. ChecksKept, OldestReady, Finishes, FinishStep: finish. Sentences: 01's sentences of an operand, of
 -- refusal 9 and of a distance, over the plain state. Through the contract, Ordered: a call is refused with the smallest number
 -- that holds; Answered: where an execution answers 9 and 10; Outcomes: what an accepted one squashes, and what a load answers;
--- Refetched: the next issue after a squash. Equal: when two machines have one plain state. Shown, Breaking: the examples, the
--- broken machines.
+-- Refetched: the next issue after a squash. Equal: when two machines have one plain state.
 pub mod Comparing
 pub mod Sized
 pub mod Sounding
@@ -28,5 +27,3 @@ pub mod Answered
 pub mod Outcomes
 pub mod Refetched
 pub mod Equal
-pub mod Shown
-pub mod Breaking

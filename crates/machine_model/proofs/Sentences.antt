@@ -10,6 +10,7 @@ use mathlib.Core.Path.{_≡_, refl, sym, ap, _∙_}
 use Prim.Native.Nat.{ℕ, zero, suc, _≤_, _<_}
 use native.Mathlib.Nat.{eq-or-lt-of-le, le-of-suc-le-suc, not-suc-le-zero, le-refl, le-step}
 use native.Mathlib.Omega.{arith}
+use lib.Dec.{leb}
 use lib.ListN.{length, getD, take}
 use lib.Seq.{take-suc}
 use Rattle.table.specs.Reference.{Side, accessed, holds, ref, at}
@@ -21,8 +22,8 @@ use Rattle.machine_model.specs.declared.Fate.{Fate}
 use Rattle.machine_model.specs.declared.Fate.the-variants.{Waiting, Executed}
 use Rattle.machine_model.specs.declared.Entry.{Entry}
 use Rattle.machine_model.specs.Window.{blankEntry, entryAt, writesTo, valueOf, registerSeen, with₂, evaluate}
-use Rattle.machine_model.specs.Program.{codeOf, kind, sum}
-use Rattle.machine_model.specs.Calls.{Plain, pending, evaluated, unknown, answerBy, loadDistance}
+use Rattle.machine_model.specs.Program.{codeOf, dOf, kind, sum}
+use Rattle.machine_model.specs.Calls.{Plain, pending, evaluated, unknown, answerBy, target, loadDistance}
 use Rattle.machine_model.proofs.Operands.{register-snoc}
 
 -- one more older entry
@@ -189,6 +190,15 @@ module _ (X : Plain) (memory : List ℕ) (p : ℕ) (inside : p ≤ length (X .en
   waits-nine k n w = lacking _ _ own k n (waits-unknown (X .entries) p k (getD (X .registers) k 0) inside w)
 
 -- ---- how far the word came
+
+-- "index, code, register (for S the address)", and for B and H the byte number: the codes from 4 on
+pub third-number : (i : Instruction) (a : ℕ) → target i a ≡ cond (leb 4 (codeOf i)) a (dOf i)
+third-number (Add d s imm) a = refl
+third-number (Sum d s k) a = refl
+third-number (Load d s imm) a = refl
+third-number (Store d s imm) a = refl
+third-number (Byte d s imm) a = refl
+third-number (Half d s imm) a = refl
 
 -- "a fifth number, 0 for other codes": of L, whose code is 3, it is the distance
 pub distance-told : (i : Instruction) (d : ℕ)

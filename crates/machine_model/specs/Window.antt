@@ -80,7 +80,7 @@ referenceBy μ i Waiting = waiting
 referenceBy μ i (Executed v a) = accessBy μ (kind i) v a
 
 -- The same of an entry. The word that its load took is the table's to keep, and 0 stands for it here. No call goes by it; `spoil`
--- of specs/Examples.antt puts it into a state.
+-- of crates/machine_examples puts it into a state.
 abbrev pub untold : ℕ → ℕ
 untold a = 0
 

@@ -11,10 +11,10 @@ use Rattle.table.specs.Bank.{home, bank}
 use Rattle.table.specs.Limits.{sizesFit}
 use Rattle.table.specs.View.{markFate}
 use Rattle.table.specs.computed.Check.{marksBelow, rowFits, lawfulBy, lawful}
 use Rattle.machine_model.specs.declared.Machine.{Machine}
 use Rattle.machine_model.specs.Contract.{Sound}
-use Rattle.machine_model.specs.Broken.{RefusesAll, Case, sound, broken, AllTold, cases}
+use Rattle.machine_examples.specs.Broken.{RefusesAll, Case, sound, broken, AllTold, cases}
 use Rattle.machine_model.proofs.Sounding.{agreeing, tests-sound, broken-tests}
 
 -- whatever call is made on a machine that breaks the rules is refused with 2
 pub broken-refuses : (m : Machine) → (Sound m → ⊥) → RefusesAll m

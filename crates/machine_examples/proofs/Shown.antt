@@ -9,13 +9,13 @@ use Rattle.table.specs.Limits.{sizesFit}
 use Rattle.lookup.specs.Forwarding.{seen, distance}
 use Rattle.lookup.specs.Violation.{keptYounger}
 use Rattle.lookup.specs.Rows.{touched}
 use Rattle.machine_model.specs.Program.{programFits}
 use Rattle.machine_model.specs.Window.{registerSeen}
 use Rattle.machine_model.specs.Over
 use Rattle.machine_model.specs.Calls.{finishes, respond}
-use Rattle.machine_model.specs.Examples.{Example, toldBy, seenOf, AllShown, told, played, examples}
-use Rattle.machine_model.specs.Examples.{openings, refusals, unlikes, runs, parts, distances, sameWords, numberings}
-use Rattle.machine_model.specs.Examples.{damaged}
+use Rattle.machine_examples.specs.Examples.{Example, toldBy, seenOf, AllShown, told, played, examples}
+use Rattle.machine_examples.specs.Examples.{openings, refusals, unlikes, runs, parts, distances, sameWords, numberings}
+use Rattle.machine_examples.specs.Examples.{damaged}
 
 -- an equation of lists is one of each row
 each : (rows : List Example) → map seenOf rows ≡ map toldBy rows → AllShown rows
