@@ -189,7 +189,7 @@ module _ (X : Plain) (memory : List ℕ) (p : ℕ) (inside : p ≤ length (X .en
   pub waits-nine : (k : ℕ) → Needs own k → WriterWaits (X .entries) p k → unknown (evaluated X memory p) ≡ true
   waits-nine k n w = lacking _ _ own k n (waits-unknown (X .entries) p k (getD (X .registers) k 0) inside w)
 
--- ---- how far the word came
+-- ---- what a commit answers, and how far the word came
 
 -- "index, code, register (for S the address)", and for B and H the byte number: the codes from 4 on
 pub third-number : (i : Instruction) (a : ℕ) → target i a ≡ cond (leb 4 (codeOf i)) a (dOf i)
