@@ -5,10 +5,10 @@
 #include <time.h>
 
 // The static libraries': a slice is a pointer and a length.
-extern uint64_t mixes_buffer(size_t banks, size_t rows, size_t stages, size_t words, uint32_t calls,
+extern uint64_t bench_buffer(size_t banks, size_t rows, size_t stages, size_t words, uint32_t calls,
                              uint64_t seed, uint32_t when, size_t part, size_t by, size_t whole,
                              size_t falling, uint32_t *memory, size_t length);
-extern uint64_t mixes_machine(size_t banks, size_t rows, size_t stages, size_t words, uint32_t calls,
+extern uint64_t bench_machine(size_t banks, size_t rows, size_t stages, size_t words, uint32_t calls,
                               uint64_t seed, uint32_t when, size_t part, size_t by, uint32_t limit,
                               const uint32_t *program, size_t numbers, uint32_t *memory, size_t length,
                               uint32_t *list, size_t places);
@@ -77,9 +77,9 @@ static uint64_t in_rattle(const struct job *j)
     struct sizes z = j->sizes;
     struct spoiling w = j->spoiling;
     if (j->mix == BUFFER)
-        return mixes_buffer(z.banks, z.rows, z.stages, z.words, j->calls, j->seed, w.when, w.part, w.by,
+        return bench_buffer(z.banks, z.rows, z.stages, z.words, j->calls, j->seed, w.when, w.part, w.by,
                             whole(j), j->falling, rattle.memory, j->length);
-    return mixes_machine(z.banks, z.rows, z.stages, z.words, j->calls, j->seed, w.when, w.part, w.by, j->limit,
+    return bench_machine(z.banks, z.rows, z.stages, z.words, j->calls, j->seed, w.when, w.part, w.by, j->limit,
                          program, j->numbers, rattle.memory, j->length, rattle.list, j->places);
 }
 

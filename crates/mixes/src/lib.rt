@@ -1,42 +1,32 @@
 // What the benchmark's mixes of calls share: the draws, the checksum with one more number, and a table spoiled. The mixes are
-// in mixes_buffer and mixes_machine.
+// in mixes_buffer and mixes_machine. What is promised is that every function ends and stays inside its arrays, and of two draws
+// the bounds that this asks for; the numbers drawn and summed are held to those of the same in C (benchmarks/inplace.c) by
+// tests/answers.
 use table::BANKS;
 use table::ROWS;
 use table::SLOTS;
 use table::STAGES;
 use table::Table;
-ghost use mathlib.Core.Path.{_≡_};
-ghost use mathlib.Core.Logic.{_⊎_};
-ghost use Prim.Native.Nat.{_+_, _*_, _/_, _%_, _<_};
-ghost use lib.Bits.{bitAnd};
+ghost use Prim.Native.Nat.{_<_};
 ghost use Rattle.table.specs.Limits.{stagesMost};
-ghost use Rattle.mixes.specs.computed.Turns.{added, summed, listed};
 
 // The next state of the generator, which is linear congruential modulo 2^31.
-pub fn advance(seed: u64) -> u64
-    ensures { λ r. ⌜ r ≡ seed % 2147483648 * 1103515245 + 12345 ⌝ }
-{
+pub fn advance(seed: u64) -> u64 {
     (seed % 2147483648) * 1103515245 + 12345
 }
 
 // Fifteen high bits of a state.
-pub fn bits(seed: u64) -> usize
-    ensures { λ r. ⌜ r ≡ seed / 65536 % 32768 ⌝ }
-{
+pub fn bits(seed: u64) -> usize {
     (seed / 65536 % 32768) as usize
 }
 
 // One of four words, so that stores of a word already there are drawn.
-pub fn word_drawn(drawn: usize) -> u32
-    ensures { λ r. ⌜ r ≡ drawn / 4096 % 4 * 305419896 ⌝ }
-{
+pub fn word_drawn(drawn: usize) -> u32 {
     (drawn / 4096 % 4 * 305419896) as u32
 }
 
 // The checksum with one more number: turned left by one, plus the number.
-pub fn with(sum: u64, x: u64) -> u64
-    ensures { λ r. ⌜ r ≡ added sum x ⌝ }
-{
+pub fn with(sum: u64, x: u64) -> u64 {
     let twice = std::num::wrapping_add_u64(sum, sum);
     let turned = std::num::wrapping_add_u64(twice, sum / 9223372036854775808);
     std::num::wrapping_add_u64(turned, x)
@@ -46,9 +36,7 @@ pub fn with(sum: u64, x: u64) -> u64
 pub struct Tally(pub usize, pub u64, pub u64, pub u64, pub u64, pub u64);
 
 // The checksum with the numbers of an answer.
-pub fn with_all(sum: u64, tally: Tally) -> u64
-    ensures { λ r. ⌜ r ≡ summed sum (listed tally) ⌝ }
-{
+pub fn with_all(sum: u64, tally: Tally) -> u64 {
     let count = tally.0;
     if count == 0 {
         return sum;
@@ -74,7 +62,7 @@ pub fn with_all(sum: u64, tally: Tally) -> u64
 
 // One of sixteen addresses, spread over the banks; half of the draws give one of three.
 pub fn address_drawn(drawn: usize) -> u32
-    ensures { λ r. ⌜ r ≡ bitAnd drawn (drawn / 16) % 16 * 5 ⌝ }
+    ensures { λ r. ⌜ r < 80 ⌝ }
 {
     ((drawn & (drawn / 16)) % 16 * 5) as u32
 }
@@ -96,9 +84,7 @@ pub fn position_drawn(
     live: usize,
     executed: u32,
     drawn: usize,
-) -> usize
-    ensures { λ r. ⌜ (r ≡ 0) ⊎ (r < live) ⌝ }
-{
+) -> usize {
     if live == 0 {
         return 0;
     }
@@ -139,9 +125,7 @@ pub fn turn_drawn(
 }
 
 // In a row of the table the marks of one kind come or go where there is one of the other, or one mark does.
-fn spoil_marks(t: Table, x: usize) -> Table
-    ensures { λ r. ⌜ (r .next ≡ t .next) × (r .numbers ≡ t .numbers) × (r .values ≡ t .values) ⌝ }
-{
+fn spoil_marks(t: Table, x: usize) -> Table {
     let banks = t.banks;
     let rows = t.rows;
     let stages = t.stages;
@@ -177,9 +161,7 @@ fn spoil_marks(t: Table, x: usize) -> Table
 
 // A table with one number, the marks of one row or the words taken changed, which mostly breaks a rule; words never do. Sizes
 // wrap, so that they shrink too, also under a marked row; the row is any of the arrays', also one that the sizes do not give.
-pub fn spoil(t: Table, what: usize, x: usize) -> Table
-    ensures { λ r. ⌜ (r .next ≡ t .next) × (r .numbers ≡ t .numbers) × (r .values ≡ t .values) ⌝ }
-{
+pub fn spoil(t: Table, what: usize, x: usize) -> Table {
     let r = x % SLOTS;
     let bit: u32 = 1 << (x / SLOTS % STAGES);
     let mut n = t;

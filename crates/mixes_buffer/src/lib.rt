@@ -1,38 +1,28 @@
 // A long fixed mix of calls of the buffer, for the benchmark.
 //
-// It returns a checksum of every answer. benchmarks/inplace.c has the same mix over the same calls in C, so only
-// numbers and lent slices cross the boundary. What is promised is that the checksum is that of the answers of as
-// many calls, each of which met its contract (specs/computed/Turns.antt).
+// It returns a checksum of every answer. benchmarks/inplace.c has the same mix over the same calls in C, to which
+// tests/answers holds the checksum. What is promised is that the mix ends and stays inside the slices lent.
 use mixes::Tally;
 use table::STAGES;
 use table::Table;
 use table::Ticket;
-ghost use Rattle.buffer_model.specs.Answers as buffer;
-ghost use Rattle.mixes.specs.computed.Turns.{Tallies, numbersIn};
-ghost use Rattle.mixes_buffer.specs.computed.Turns.{ticketed, Served, BufferTurns};
 
 // The numbers of an answer: a refusal's number, or 100 and what the answer carries.
-fn done_tally(answer: buffer::DoneAnswer) -> Tally
-    ensures { λ r. ⌜ Tallies r (numbersIn ticketed (buffer.doneSays answer)) ⌝ }
-{
+fn done_tally(answer: buffer::DoneAnswer) -> Tally {
     match answer {
         buffer::DoneAnswer::Refused(k) => Tally(1, k as u64, 0, 0, 0, 0),
         buffer::DoneAnswer::Done => Tally(1, 100, 0, 0, 0, 0),
     }
 }
 
-fn named_tally(answer: buffer::TicketAnswer) -> Tally
-    ensures { λ r. ⌜ Tallies r (numbersIn ticketed (buffer.ticketSays answer)) ⌝ }
-{
+fn named_tally(answer: buffer::TicketAnswer) -> Tally {
     match answer {
         buffer::TicketAnswer::Refused(k) => Tally(1, k as u64, 0, 0, 0, 0),
         buffer::TicketAnswer::Named(at) => Tally(3, 100, at.stage as u64, at.number as u64, 0, 0),
     }
 }
 
-fn executed_tally(answer: buffer::ExecuteAnswer) -> Tally
-    ensures { λ r. ⌜ Tallies r (numbersIn ticketed (buffer.executeSays answer)) ⌝ }
-{
+fn executed_tally(answer: buffer::ExecuteAnswer) -> Tally {
     match answer {
         buffer::ExecuteAnswer::Refused(k) => Tally(1, k as u64, 0, 0, 0, 0),
         buffer::ExecuteAnswer::Executed(v, d, squashed) => match squashed {
@@ -108,9 +98,7 @@ fn execute_drawn(
     whole: usize,
     word: usize,
     memory: &[u32],
-) -> buffer::ExecuteResult
-    ensures { λ r. ⌜ Served t (now (memory .entry)) (buffer.executeSays (r .answer)) (r .table) (now (memory .entry)) ⌝ }
-{
+) -> buffer::ExecuteResult {
     if word < 16384 {
         return buffer::execute_other(t, ticket, memory);
     }
@@ -123,8 +111,7 @@ fn execute_drawn(
 // half of the executions loads and half stores. In the turn after which `when` are left, the table is spoiled instead.
 //
 // The calls stand in the loop, and not in a function of their own: each layer would copy the table once more.
-#[no_mangle]
-pub extern "C" fn mixes_buffer(
+pub fn mixes_buffer(
     banks: usize,
     rows: usize,
     stages: usize,
@@ -137,9 +124,7 @@ pub extern "C" fn mixes_buffer(
     whole: usize,
     falling: usize,
     memory: &mut [u32],
-) -> u64
-    ensures { λ r. ⌜ BufferTurns banks rows stages words (now (memory .entry)) when calls (now (memory .exit)) r ⌝ }
-{
+) -> u64 {
     let opened = buffer::open(banks, rows, stages, words, memory);
     let said = opened.answer;
     let mut t = opened.table;
