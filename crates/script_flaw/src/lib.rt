@@ -382,7 +382,7 @@ fn at_end(part: Part) -> Reason
 fn look(s: &[u8], at: usize, part: Part) -> Outlook
     ensures { λ r. ⌜ Looks (now (s .entry)) at part r ⌝ }
 {
-    let taken = text::take_line(s, at);
+    let taken = text_lines::take_line(s, at);
     let line = taken.line;
     let next = taken.next;
     match line {

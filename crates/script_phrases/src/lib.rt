@@ -15,7 +15,7 @@ pub fn put(out: &mut [u8], at: usize, s: &[u8]) -> usize
     requires { ⌜ at + length (now s) ≤ length (now out) ⌝ }
     ensures { λ r. ⌜ Writes (now (out .entry)) at (now (s .entry)) (now (out .exit)) r × (r ≤ at + length (now (s .entry))) ⌝ }
 {
-    text::put_text(out, at, s)
+    text_numbers::put_text(out, at, s)
 }
 
 // A number.
@@ -23,7 +23,7 @@ pub fn put_value(out: &mut [u8], at: usize, n: u64) -> usize
     requires { ⌜ at + 20 ≤ length (now out) ⌝ }
     ensures { λ r. ⌜ Writes (now (out .entry)) at (decimal n) (now (out .exit)) r × (r ≤ at + 20) ⌝ }
 {
-    text::put_decimal(out, at, n)
+    text_numbers::put_decimal(out, at, n)
 }
 
 // One of two texts.

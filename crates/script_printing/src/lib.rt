@@ -14,7 +14,7 @@ fn put_number(out: &mut [u8], at: usize, n: u64, after: u8) -> usize
     requires { ⌜ at + 21 ≤ length (now out) ⌝ }
     ensures { λ r. ⌜ Writes (now (out .entry)) at (numberField n after) (now (out .exit)) r × (r ≤ at + 21) ⌝ }
 {
-    let end = text::put_decimal(out, at, n);
+    let end = text_numbers::put_decimal(out, at, n);
     out[end] = after;
     end + 1
 }
@@ -77,7 +77,7 @@ pub fn put_bad(out: &mut [u8], at: usize, n: u64) -> usize
     requires { ⌜ at + longest ≤ length (now out) ⌝ }
     ensures { λ e. ⌜ Writes (now (out .entry)) at (badLine n) (now (out .exit)) e × (e ≤ at + longest) ⌝ }
 {
-    let a = text::put_text(out, at, b"bad,");
+    let a = text_numbers::put_text(out, at, b"bad,");
     put_number(out, a, n, b'\n')
 }
 
@@ -87,9 +87,9 @@ pub fn put_end(out: &mut [u8], at: usize, e: Ending, commits: u64) -> usize
     ensures { λ r. ⌜ Writes (now (out .entry)) at (endLine e commits) (now (out .exit)) r × (r ≤ at + longest) ⌝ }
 {
     let a = match e {
-        Ending::Open => text::put_text(out, at, b"end,open,"),
-        Ending::Done => text::put_text(out, at, b"end,done,"),
-        Ending::Fault => text::put_text(out, at, b"end,fault,"),
+        Ending::Open => text_numbers::put_text(out, at, b"end,open,"),
+        Ending::Done => text_numbers::put_text(out, at, b"end,done,"),
+        Ending::Fault => text_numbers::put_text(out, at, b"end,fault,"),
     };
     put_number(out, a, commits, b'\n')
 }

@@ -141,7 +141,7 @@ pub fn read_item(s: &[u8], from: usize, to: usize) -> Item
     if s[from + 1] != b',' {
         return Item::Malformed;
     }
-    say_fields(b, text::read_fields(s, from + 2, to))
+    say_fields(b, text_numbers::read_fields(s, from + 2, to))
 }
 
 // What was found, if the test holds.
@@ -181,7 +181,7 @@ fn take_four(item: Item, first: bool, at: usize) -> Found
 fn found_on(s: &[u8], at: usize, first: bool) -> Found
     ensures { λ r. ⌜ r ≡ foundBy first (now (s .entry)) (lineAt (now (s .entry)) at) ⌝ }
 {
-    let taken = text::take_line(s, at);
+    let taken = text_lines::take_line(s, at);
     let line = taken.line;
     let next = taken.next;
     match line {

@@ -104,7 +104,7 @@ fn ask_of(item: Item, line: u64) -> Ask
 pub fn next_order(s: &[u8], cursor: usize, line: u64) -> Order
     ensures { λ r. ⌜ r ≡ orderAt (now (s .entry)) cursor line ⌝ }
 {
-    let taken = text::take_line(s, cursor);
+    let taken = text_lines::take_line(s, cursor);
     let found = taken.line;
     let next = taken.next;
     match found {

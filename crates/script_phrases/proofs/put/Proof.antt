@@ -1,4 +1,4 @@
--- `script_phrases::put` meets its contract: these bytes, as `text::put_text` writes them.
+-- `script_phrases::put` meets its contract: these bytes, as `text_numbers::put_text` writes them.
 -- Assumes nothing.
 use native.Mathlib.Omega.{arith}
 use Rattle.script_model.proofs.Writing.{writes-text}

@@ -1,14 +1,14 @@
--- `text::line_at` meets its contract. The loop's invariant: the first line feed from the index on is the first one
+-- `text_lines::line_at` meets its contract. The loop's invariant: the first line feed from the index on is the first one
 -- from the start on. The measure is what is left of the length.
 -- Assumes nothing.
 use mathlib.Core.Path.{_≡_, refl, _∙_}
 use Prim.Native.Nat.{_-_}
 use native.Mathlib.Omega.{arith}
 use lib.ListN.{length}
 use Rattle.text.specs.Lines.{feed}
 use Rattle.text.proofs.Splits.{feed-on, line-found, line-missed, line-none}
-use Rattle.text.proofs.line_at.Statement.{statement}
-use Rattle.text.proofs.line_at.Tie as tie
+use Rattle.text_lines.proofs.line_at.Statement.{statement}
+use Rattle.text_lines.proofs.line_at.Tie as tie
 
 abbrev Inv-loop : tie.InvT-loop
 Inv-loop s at i₀ i = feed s i ≡ feed s at

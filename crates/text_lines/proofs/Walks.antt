@@ -25,7 +25,7 @@ use denote.Triple.Entry.{Args}
 use denote.Triple.Spec.{Meets, tripleOf}
 use denote.Triple.Table.{entered}
 use denote.Triple.Walked.{Stays, AllGo, Walks, walk-meets}
-use Rattle.text.proofs.LineReader as T
+use Rattle.text_lines.proofs.LineReader as T
 
 -- the reader's type, over a signature's one lifetime
 abbrev pub Reader : Lfts 1 → RattleType

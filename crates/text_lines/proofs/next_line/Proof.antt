@@ -1,4 +1,4 @@
--- `text::next_line` meets its contract: a walk of its MIR, by hand. The borrow is opened, which gives the struct's cell and what
+-- `text_lines::next_line` meets its contract: a walk of its MIR, by hand. The borrow is opened, which gives the struct's cell and what
 -- the struct owns. `line_at` is called on the slice and the number in the cell, and `place_after` on the line and the number; all
 -- that the proof knows of the two is that each meets its contract. The number that `place_after` returned is stored in the cell,
 -- and the borrow is closed at the struct with that number. The struct is Copy: of what it owns one copy is kept, and of the other
@@ -50,28 +50,28 @@ use denote.Triple.Entry.{Vals, onEntry}
 use denote.Triple.Spec.{tripleOf}
 use denote.Triple.Table.{cited}
 use denote.Triple.Walked.{says, Stays, stay-ref, walkOf, goes-ref, Walks, ends-at, walked}
 use Rattle.text.specs.Lines.{lineAt, afterLine}
-use Rattle.text.specs.declared.LineReader.{LineReader}
+use Rattle.text_lines.specs.declared.LineReader.{LineReader}
 use Rattle.text.specs.declared.Line.{Line}
 use Rattle.text.specs.declared.Line.the-variants.{Whole}
-use Rattle.text.proofs.LineReader as T
-use Rattle.text.proofs.LineReader.Laws as T′
+use Rattle.text_lines.proofs.LineReader as T
+use Rattle.text_lines.proofs.LineReader.Laws as T′
 use Rattle.text.proofs.Line as S
 use Rattle.text.proofs.Line.Laws as S′
-use Rattle.text.proofs.line_at as line
-use Rattle.text.proofs.line_at.Symbol as line-def
-use Rattle.text.proofs.line_at.Symbol.{name as #text·line-at}
-use Rattle.text.proofs.line_at.Met as line-thm
-use Rattle.text.proofs.place_after as place
-use Rattle.text.proofs.place_after.Symbol as place-def
-use Rattle.text.proofs.place_after.Symbol.{name as #text·place-after}
-use Rattle.text.proofs.place_after.Met as place-thm
+use Rattle.text_lines.proofs.line_at as line
+use Rattle.text_lines.proofs.line_at.Symbol as line-def
+use Rattle.text_lines.proofs.line_at.Symbol.{name as #lines·line-at}
+use Rattle.text_lines.proofs.line_at.Met as line-thm
+use Rattle.text_lines.proofs.place_after as place
+use Rattle.text_lines.proofs.place_after.Symbol as place-def
+use Rattle.text_lines.proofs.place_after.Symbol.{name as #lines·place-after}
+use Rattle.text_lines.proofs.place_after.Met as place-thm
 use Rattle.text.proofs.Splits.{line-is}
-use Rattle.text.proofs.Walks.{returned, walk-entered}
-use Rattle.text.proofs.next_line.Key.{name as #text·next-line}
-use Rattle.text.proofs.next_line as next
-use Rattle.text.proofs.next_line.Statement as stated
-use Rattle.text.proofs.next_line.Code as code
+use Rattle.text_lines.proofs.Walks.{returned, walk-entered}
+use Rattle.text_lines.proofs.next_line.Key.{name as #lines·next-line}
+use Rattle.text_lines.proofs.next_line as next
+use Rattle.text_lines.proofs.next_line.Statement as stated
+use Rattle.text_lines.proofs.next_line.Code as code
 
 -- `LineReader<'a>`, as the referent's place in the signature
 abbrev behind : Slot 2
@@ -195,8 +195,8 @@ module _ {M : Type 1} (𝓤 : URA M) (H : Heap 𝓤) (A : Atoms 𝓤) (W : Given
       owned ! S.the-row (Is S.the-row) (EL.makes S.the-type S′.the-plain 𝓤 H A) l _ is $ move ! (1 ∷ 0 ∷ []) $ done !
 
   module _ (C : Calls 𝓤 H) (Λ : Loops 𝓤 H) (fm : FmC 𝓤 H (W .laws) C)
-      (known-line : Triple 𝓤 (C #text·line-at) (LineAt 𝓤 H A at-mem run))
-      (known-place : Triple 𝓤 (C #text·place-after) (PlaceAfter 𝓤 H A at-mem run)) where
+      (known-line : Triple 𝓤 (C #lines·line-at) (LineAt 𝓤 H A at-mem run))
+      (known-place : Triple 𝓤 (C #lines·place-after) (PlaceAfter 𝓤 H A at-mem run)) where
     walk : ent 𝓤 (onEntry 𝓤 H A next.signature (κ, (κ′, tt)) (q, (q′, tt)) x at)
         (WpFn 𝓤 H C Λ code.function (vptr b o ∷ []) Post)
     walk =
@@ -259,7 +259,7 @@ module _ {M : Type 1} (𝓤 : URA M) (H : Heap 𝓤) (A : Atoms 𝓤) (W : Given
 module _ {M : Type 1} (𝓤 : URA M) (H : Heap 𝓤) (A : Atoms 𝓤) (W : Given 𝓤 H A) (at-mem : Memory → SProp 𝓤)
     (run : Routine → Fun 𝓤) where
   next-walks : (C : Calls 𝓤 H) (Λ : Loops 𝓤 H) → FmC 𝓤 H (W .laws) C
-      → Triple 𝓤 (C #text·line-at) (LineAt 𝓤 H A at-mem run) → Triple 𝓤 (C #text·place-after) (PlaceAfter 𝓤 H A at-mem run)
+      → Triple 𝓤 (C #lines·line-at) (LineAt 𝓤 H A at-mem run) → Triple 𝓤 (C #lines·place-after) (PlaceAfter 𝓤 H A at-mem run)
       → Walks 𝓤 H A next.ended stayed (WpFn 𝓤 H C Λ code.function) (next.clauses 𝓤 H A at-mem run)
   next-walks C Λ fm known-line known-place = walked 𝓤 H A next.ended stayed (next.clauses 𝓤 H A at-mem run)
       (WpFn 𝓤 H C Λ code.function) (λ κs. (ptr-vals, tt))
@@ -274,9 +274,9 @@ next-line-spec 𝓤 H 𝓜 𝓖 𝓡 =
     let W = givenOf 𝓤 H 𝓜 𝓖 in
     let own = tables 𝓤 H 𝓜 𝓡 code.env in
     walk-entered 𝓤 H 𝓜 𝓖 𝓡 next.ended stayed (goes-ref 𝓤 H A W 2 0 tt behind, tt)
-    (next.clauses 𝓤 H A (𝓜 .mem) (𝓡 .run)) code.env #text·next-line code.function (code.unfolded 𝓤 H 𝓜 𝓡)
+    (next.clauses 𝓤 H A (𝓜 .mem) (𝓡 .run)) code.env #lines·next-line code.function (code.unfolded 𝓤 H 𝓜 𝓡)
     (λ fm. next-walks 𝓤 H A W (𝓜 .mem) (𝓡 .run) (own .C) (own .Λ) fm
-    (cited 𝓤 H (LineAt 𝓤 H A (𝓜 .mem) (𝓡 .run)) 𝓜 𝓡 code.env #text·line-at line-def.routine code.calls-text·line-at
+    (cited 𝓤 H (LineAt 𝓤 H A (𝓜 .mem) (𝓡 .run)) 𝓜 𝓡 code.env #lines·line-at line-def.routine code.calls-text-lines·line-at
     (line-thm.met 𝓤 H 𝓜 𝓖 𝓡))
-    (cited 𝓤 H (PlaceAfter 𝓤 H A (𝓜 .mem) (𝓡 .run)) 𝓜 𝓡 code.env #text·place-after place-def.routine
-    code.calls-text·place-after (place-thm.met 𝓤 H 𝓜 𝓖 𝓡)))
+    (cited 𝓤 H (PlaceAfter 𝓤 H A (𝓜 .mem) (𝓡 .run)) 𝓜 𝓡 code.env #lines·place-after place-def.routine
+    code.calls-text-lines·place-after (place-thm.met 𝓤 H 𝓜 𝓖 𝓡)))

@@ -1,14 +1,14 @@
--- `text::next_byte` meets its contract: a comma, a byte below the digits or above them, a digit.
+-- `text_numbers::next_byte` meets its contract: a comma, a byte below the digits or above them, a digit.
 -- Assumes nothing.
 use mathlib.Core.Path.{sym, ap, _∙_}
 use Prim.Native.Nat.{ℕ}
 use native.Mathlib.Omega.{arith}
 use Rattle.text.specs.Fields.{largest, byte}
 use Rattle.text.specs.computed.Reader.{shown, few}
 use Rattle.text.proofs.Reader.{below-digits, above-digits}
 use borrow.Author.Needs.{needs}
-use Rattle.text.proofs.next_byte.Statement.{statement}
-use Rattle.text.proofs.next_byte.Tie as tie
+use Rattle.text_numbers.proofs.next_byte.Statement.{statement}
+use Rattle.text_numbers.proofs.next_byte.Tie as tie
 
 returns : tie.Need-returns
 returns c =

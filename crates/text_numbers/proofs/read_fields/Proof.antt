@@ -1,15 +1,15 @@
--- `text::read_fields` meets its contract. The loop's invariant: what the bytes that are left make of the fields so far is
+-- `text_numbers::read_fields` meets its contract. The loop's invariant: what the bytes that are left make of the fields so far is
 -- what the whole line makes. The measure is what is left. Assumes nothing.
 use mathlib.Core.Path.{_≡_, refl, sym, _∙_}
 use Prim.Native.Nat.{_-_}
 use native.Mathlib.Omega.{arith}
 use lib.Seq.{slice}
 use borrow.Author.Needs.{needs}
 use Rattle.text.specs.Fields.{largest, bytes, closed, fields}
 use Rattle.text.specs.computed.Reader.{shown, fitting}
 use Rattle.text.proofs.Reader.{read-on, read-all}
-use Rattle.text.proofs.read_fields.Statement.{statement}
-use Rattle.text.proofs.read_fields.Tie as tie
+use Rattle.text_numbers.proofs.read_fields.Statement.{statement}
+use Rattle.text_numbers.proofs.read_fields.Tie as tie
 
 abbrev Inv-loop : tie.InvT-loop
 Inv-loop s from to n₀ i₀ n i =

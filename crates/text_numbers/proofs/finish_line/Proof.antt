@@ -1,12 +1,12 @@
--- `text::finish_line` meets its contract: the open field has room, or the line is not good.
+-- `text_numbers::finish_line` meets its contract: the open field has room, or the line is not good.
 -- Assumes nothing.
 use mathlib.Core.Path.{_≡_}
 use native.Mathlib.Omega.{arith}
 use lib.ListN.{length}
 use Rattle.text.proofs.Reader.{last-field, no-last, overfull}
 use borrow.Author.Needs.{needs}
-use Rattle.text.proofs.finish_line.Statement.{statement}
-use Rattle.text.proofs.finish_line.Tie as tie
+use Rattle.text_numbers.proofs.finish_line.Statement.{statement}
+use Rattle.text_numbers.proofs.finish_line.Tie as tie
 
 returns : tie.Need-returns
 returns c =

@@ -1,4 +1,4 @@
--- `text::read_from` meets its contract: a walk of its MIR, by hand. A `LineReader` is made of the slice and the number
+-- `text_lines::read_from` meets its contract: a walk of its MIR, by hand. A `LineReader` is made of the slice and the number
 -- passed, in the result's local. A `&[u8]` is Copy, so what it owns is had twice: once for src at exit, and once inside the
 -- result, beside the facts of at.
 -- Assumes nothing.
@@ -33,14 +33,14 @@ use denote.Struct.Rest.{own-shut}
 use denote.Triple.Entry.{Vals, onEntry}
 use denote.Triple.Walked.{says, Stays, stay-none, stay-none-slice, walkOf, goes-none, goes-none-slice, Walks, ends-at, walked}
 use denote.Exit.{yes}
-use Rattle.text.specs.declared.LineReader.{LineReader}
-use Rattle.text.proofs.LineReader as T
-use Rattle.text.proofs.LineReader.Laws as T′
-use Rattle.text.proofs.Walks.{walk-entered}
-use Rattle.text.proofs.read_from.Key.{name as #text·read-from}
-use Rattle.text.proofs.read_from as read
-use Rattle.text.proofs.read_from.Statement as stated
-use Rattle.text.proofs.read_from.Code as code
+use Rattle.text_lines.specs.declared.LineReader.{LineReader}
+use Rattle.text_lines.proofs.LineReader as T
+use Rattle.text_lines.proofs.LineReader.Laws as T′
+use Rattle.text_lines.proofs.Walks.{walk-entered}
+use Rattle.text_lines.proofs.read_from.Key.{name as #lines·read-from}
+use Rattle.text_lines.proofs.read_from as read
+use Rattle.text_lines.proofs.read_from.Statement as stated
+use Rattle.text_lines.proofs.read_from.Code as code
 
 abbrev stayed : Stays (read.ended .signature .params) (read.ended .kept)
 stayed = (stay-none-slice (0 ∷ []) tt (plain (λ _. u8)) yes, (stay-none (λ _. usize) yes, tt))
@@ -114,5 +114,5 @@ read-from-spec 𝓤 H 𝓜 𝓖 𝓡 =
       goes-none-slice 𝓤 H A W 1 (0 ∷ []) tt (plain (λ _. u8)) yes,
       (goes-none 𝓤 H A W 1 (λ _. usize) yes (λ κs x f. refl), tt),
     )
-    (read.clauses 𝓤 H A (𝓜 .mem) (𝓡 .run)) code.env #text·read-from code.function (code.unfolded 𝓤 H 𝓜 𝓡)
+    (read.clauses 𝓤 H A (𝓜 .mem) (𝓡 .run)) code.env #lines·read-from code.function (code.unfolded 𝓤 H 𝓜 𝓡)
     (λ fm. read-walks 𝓤 H A W (𝓜 .mem) (𝓡 .run) (own .C) (own .Λ))

@@ -1,12 +1,12 @@
--- `text::place_after` meets its contract: the line is the one of the arm that is taken.
+-- `text_lines::place_after` meets its contract: the line is the one of the arm that is taken.
 -- Assumes nothing.
 use mathlib.Core.Path.{sym, ap}
 use native.Mathlib.Omega.{arith}
 use Rattle.text.specs.Lines.{afterLine}
 use Rattle.text.specs.declared.Line.{Line}
 use borrow.Author.Needs.{needs}
-use Rattle.text.proofs.place_after.Statement.{statement}
-use Rattle.text.proofs.place_after.Tie as tie
+use Rattle.text_lines.proofs.place_after.Statement.{statement}
+use Rattle.text_lines.proofs.place_after.Tie as tie
 
 add-result : tie.Need-add-result
 add-result c = omega (arith, c .before .before .before .pre _ _ (c .before .line .given .1))

@@ -1,4 +1,4 @@
--- `text::take_line` meets its contract: a walk of its MIR, by hand. The reader that `read_from` returns is stored in a local, and
+-- `text_lines::take_line` meets its contract: a walk of its MIR, by hand. The reader that `read_from` returns is stored in a local, and
 -- the local is lent to `next_line` by `&mut`, for a lifetime that is made for the call and lies within the text's; once that has
 -- ended the local is had again, at the reader that `next_line` left, and its number is read. All that the proof knows of the two
 -- is that each meets its contract. In a local of a body MIR erases the lifetime of the struct's type, so the value is shown to
@@ -51,29 +51,29 @@ use denote.Triple.Spec.{tripleOf}
 use denote.Triple.Table.{cited}
 use denote.Triple.Walked.{says, Stays, stay-none, stay-none-slice, walkOf, goes-none, goes-none-slice, Walks, ends-at, walked}
 use denote.Exit.{yes}
 use Rattle.text.specs.Lines.{lineAt, afterLine}
-use Rattle.text.specs.declared.LineReader.{LineReader}
+use Rattle.text_lines.specs.declared.LineReader.{LineReader}
 use Rattle.text.specs.declared.Line.{Line}
-use Rattle.text.specs.declared.Taken.{Taken}
-use Rattle.text.proofs.LineReader as T
-use Rattle.text.proofs.LineReader.Laws as T′
+use Rattle.text_lines.specs.declared.Taken.{Taken}
+use Rattle.text_lines.proofs.LineReader as T
+use Rattle.text_lines.proofs.LineReader.Laws as T′
 use Rattle.text.proofs.Line as S
 use Rattle.text.proofs.Line.Laws as S′
-use Rattle.text.proofs.Taken as U
-use Rattle.text.proofs.Taken.Laws as U′
-use Rattle.text.proofs.read_from as read
-use Rattle.text.proofs.read_from.Symbol as read-def
-use Rattle.text.proofs.read_from.Symbol.{name as #text·read-from}
-use Rattle.text.proofs.read_from.Met as read-thm
-use Rattle.text.proofs.next_line as next
-use Rattle.text.proofs.next_line.Symbol as next-def
-use Rattle.text.proofs.next_line.Symbol.{name as #text·next-line}
-use Rattle.text.proofs.next_line.Met as next-thm
-use Rattle.text.proofs.Walks.{Reader, returned, walk-entered}
-use Rattle.text.proofs.take_line.Key.{name as #text·take-line}
-use Rattle.text.proofs.take_line as take
-use Rattle.text.proofs.take_line.Statement as stated
-use Rattle.text.proofs.take_line.Code as code
+use Rattle.text_lines.proofs.Taken as U
+use Rattle.text_lines.proofs.Taken.Laws as U′
+use Rattle.text_lines.proofs.read_from as read
+use Rattle.text_lines.proofs.read_from.Symbol as read-def
+use Rattle.text_lines.proofs.read_from.Symbol.{name as #lines·read-from}
+use Rattle.text_lines.proofs.read_from.Met as read-thm
+use Rattle.text_lines.proofs.next_line as next
+use Rattle.text_lines.proofs.next_line.Symbol as next-def
+use Rattle.text_lines.proofs.next_line.Symbol.{name as #lines·next-line}
+use Rattle.text_lines.proofs.next_line.Met as next-thm
+use Rattle.text_lines.proofs.Walks.{Reader, returned, walk-entered}
+use Rattle.text_lines.proofs.take_line.Key.{name as #lines·take-line}
+use Rattle.text_lines.proofs.take_line as take
+use Rattle.text_lines.proofs.take_line.Statement as stated
+use Rattle.text_lines.proofs.take_line.Code as code
 
 abbrev stayed : Stays (take.ended .signature .params) (take.ended .kept)
 stayed = (stay-none-slice (0 ∷ []) tt (plain (λ _. u8)) yes, (stay-none (λ _. usize) yes, tt))
@@ -198,8 +198,8 @@ module _ {M : Type 1} (𝓤 : URA M) (H : Heap 𝓤) (A : Atoms 𝓤) (W : Given
       move ! (1 ∷ 0 ∷ []) $ done !
 
   module _ (C : Calls 𝓤 H) (Λ : Loops 𝓤 H) (fm : FmC 𝓤 H (W .laws) C)
-      (known-read : Triple 𝓤 (C #text·read-from) (Read 𝓤 H A at-mem run))
-      (known-next : Triple 𝓤 (C #text·next-line) (Next 𝓤 H A at-mem run)) where
+      (known-read : Triple 𝓤 (C #lines·read-from) (Read 𝓤 H A at-mem run))
+      (known-next : Triple 𝓤 (C #lines·next-line) (Next 𝓤 H A at-mem run)) where
     walk : Is (ShrSlice (named 0) κ u8) s (v ∷ []) → ent 𝓤 (onEntry 𝓤 H A take.signature (κ, tt) (q, tt) (s, (n, tt)) at)
         (WpFn 𝓤 H C Λ code.function (v ∷ vint w64 n ∷ []) Post)
     walk p =
@@ -269,7 +269,7 @@ module _ {M : Type 1} (𝓤 : URA M) (H : Heap 𝓤) (A : Atoms 𝓤) (W : Given
 module _ {M : Type 1} (𝓤 : URA M) (H : Heap 𝓤) (A : Atoms 𝓤) (W : Given 𝓤 H A) (at-mem : Memory → SProp 𝓤)
     (run : Routine → Fun 𝓤) where
   take-walks : (C : Calls 𝓤 H) (Λ : Loops 𝓤 H) → FmC 𝓤 H (W .laws) C
-      → Triple 𝓤 (C #text·read-from) (Read 𝓤 H A at-mem run) → Triple 𝓤 (C #text·next-line) (Next 𝓤 H A at-mem run)
+      → Triple 𝓤 (C #lines·read-from) (Read 𝓤 H A at-mem run) → Triple 𝓤 (C #lines·next-line) (Next 𝓤 H A at-mem run)
       → Walks 𝓤 H A take.ended stayed (WpFn 𝓤 H C Λ code.function) (take.clauses 𝓤 H A at-mem run)
   take-walks C Λ fm known-read known-next = walked 𝓤 H A take.ended stayed (take.clauses 𝓤 H A at-mem run)
       (WpFn 𝓤 H C Λ code.function) (λ κs. (slice-vals, (uint-vals w64, tt)))
@@ -287,9 +287,9 @@ take-line-spec 𝓤 H 𝓜 𝓖 𝓡 =
       goes-none-slice 𝓤 H A W 1 (0 ∷ []) tt (plain (λ _. u8)) yes,
       (goes-none 𝓤 H A W 1 (λ _. usize) yes (λ κs x f. refl), tt),
     )
-    (take.clauses 𝓤 H A (𝓜 .mem) (𝓡 .run)) code.env #text·take-line code.function (code.unfolded 𝓤 H 𝓜 𝓡)
+    (take.clauses 𝓤 H A (𝓜 .mem) (𝓡 .run)) code.env #lines·take-line code.function (code.unfolded 𝓤 H 𝓜 𝓡)
     (λ fm. take-walks 𝓤 H A W (𝓜 .mem) (𝓡 .run) (own .C) (own .Λ) fm
-    (cited 𝓤 H (Read 𝓤 H A (𝓜 .mem) (𝓡 .run)) 𝓜 𝓡 code.env #text·read-from read-def.routine code.calls-text·read-from
+    (cited 𝓤 H (Read 𝓤 H A (𝓜 .mem) (𝓡 .run)) 𝓜 𝓡 code.env #lines·read-from read-def.routine code.calls-text-lines·read-from
     (read-thm.met 𝓤 H 𝓜 𝓖 𝓡))
-    (cited 𝓤 H (Next 𝓤 H A (𝓜 .mem) (𝓡 .run)) 𝓜 𝓡 code.env #text·next-line next-def.routine code.calls-text·next-line
+    (cited 𝓤 H (Next 𝓤 H A (𝓜 .mem) (𝓡 .run)) 𝓜 𝓡 code.env #lines·next-line next-def.routine code.calls-text-lines·next-line
     (next-thm.met 𝓤 H 𝓜 𝓖 𝓡)))

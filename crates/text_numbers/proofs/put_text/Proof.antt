@@ -1,4 +1,4 @@
--- `text::put_text`: after i turns the first i bytes are set at their place. A byte more is set behind them.
+-- `text_numbers::put_text`: after i turns the first i bytes are set at their place. A byte more is set behind them.
 -- Assumes nothing.
 use mathlib.Core.Path.{_≡_, ap, sym, _∙_}
 use mathlib.Core.List.{List, [], _∷_}
@@ -8,9 +8,9 @@ use native.Mathlib.Omega.{arith}
 use lib.ListN.{length, getD, set, take}
 use lib.Seq.{sets, length-sets, length-take-le, take-suc, take-all}
 use borrow.Author.Needs.{needs}
 use Rattle.text.proofs.Stores.{sets-append}
-use Rattle.text.proofs.put_text.Statement.{statement}
-use Rattle.text.proofs.put_text.Tie as tie
+use Rattle.text_numbers.proofs.put_text.Statement.{statement}
+use Rattle.text_numbers.proofs.put_text.Tie as tie
 
 one-more : (l s : List ℕ) (at i : ℕ) → i < length s
     → set (sets l at (take i s)) (at + i) (getD s i 0) ≡ sets l at (take (i + 1) s)

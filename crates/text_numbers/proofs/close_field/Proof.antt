@@ -1,4 +1,4 @@
--- `text::close_field` meets its contract: a comma after a field, with room for one more and without, and one that
+-- `text_numbers::close_field` meets its contract: a comma after a field, with room for one more and without, and one that
 -- stands after no field.
 -- Assumes nothing.
 use mathlib.Core.Bool.{true}
@@ -6,10 +6,10 @@ use mathlib.Core.Path.{_≡_, _∙_}
 use native.Mathlib.Omega.{arith}
 use lib.ListN.{length}
 use borrow.Author.Tests.{not-true, not-false}
 use Rattle.text.proofs.Reader.{next-field, no-field, no-room}
 use borrow.Author.Needs.{needs}
-use Rattle.text.proofs.close_field.Statement.{statement}
-use Rattle.text.proofs.close_field.Tie as tie
+use Rattle.text_numbers.proofs.close_field.Statement.{statement}
+use Rattle.text_numbers.proofs.close_field.Tie as tie
 
 returns : tie.Need-returns
 returns c =

@@ -8,16 +8,16 @@ use Prim.Native.Nat.{ℕ, _+_, _/_, _%_, _<_, _≤_}
 use native.Mathlib.Omega.{arith}
 use lib.ListN.{length, length-append, length-set, set}
 use lib.Seq.{sets, length-sets}
 use Rattle.text.specs.Decimal.{decimal}
 use Rattle.text.proofs.Digits.{decimal-small, decimal-more, decimal-length}
 use Rattle.text.proofs.Stores.{sets-append}
 use borrow.Fn.Kinds.{In}
 use borrow.Fn.PlainCycle.{Measures, is, falls, and}
-use Rattle.text.proofs.put_decimal.Reads as put-decimal
-use Rattle.text.proofs.put_decimal.Kinds as put-decimal-kinds
-use Rattle.text.proofs.+put_decimal.Lts-put_decimal as put-decimal-lts
-use Rattle.text.proofs.+put_decimal.{statement}
-use Rattle.text.proofs.+put_decimal.Tie.{close}
+use Rattle.text_numbers.proofs.put_decimal.Reads as put-decimal
+use Rattle.text_numbers.proofs.put_decimal.Kinds as put-decimal-kinds
+use Rattle.text_numbers.proofs.+put_decimal.Lts-put_decimal as put-decimal-lts
+use Rattle.text_numbers.proofs.+put_decimal.{statement}
+use Rattle.text_numbers.proofs.+put_decimal.Tie.{close}
 
 -- where the decimal of n at `place` of l ends, and the text then
 abbrev Put : List ℕ → ℕ → ℕ → ℕ → List ℕ → Type 0

@@ -1,14 +1,14 @@
--- `text::add_digit` meets its contract: a first digit, a digit more, and one that the open field does not take.
+-- `text_numbers::add_digit` meets its contract: a first digit, a digit more, and one that the open field does not take.
 -- Assumes nothing.
 use mathlib.Core.Bool.{true, false}
 use mathlib.Core.Path.{_≡_, sym, _∙_}
 use native.Mathlib.Omega.{arith}
 use lib.ListN.{length}
 use borrow.Author.Tests.{not-true, not-false}
 use Rattle.text.proofs.Reader.{digit-fits, first-digit, next-digit, no-digit}
 use borrow.Author.Needs.{needs}
-use Rattle.text.proofs.add_digit.Statement.{statement}
-use Rattle.text.proofs.add_digit.Tie as tie
+use Rattle.text_numbers.proofs.add_digit.Statement.{statement}
+use Rattle.text_numbers.proofs.add_digit.Tie as tie
 
 returns : tie.Need-returns
 returns c =

@@ -1,0 +1,2 @@
+-- Walks: what is stated of a function, from a walk of its MIR.
+mod Walks
