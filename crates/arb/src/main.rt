@@ -4,11 +4,19 @@
 use libc::STDERR_FILENO;
 use libc::STDIN_FILENO;
 use libc::STDOUT_FILENO;
+use machine_model::PROGRAM;
+use script_model::MOST;
+use table::WORDS;
 ghost use Prim.Native.Nat.{_≤_};
 ghost use lib.ListN.{length};
 ghost use Rattle.script_model.specs.Playing.{longest};
 
 const TELL: i32 = 3;
+
+// Room for one byte more than a script has, so that longer input is seen, and for a piece of output.
+const INPUT: usize = MOST + 1;
+
+const OUTPUT: usize = 4096;
 
 // How many bytes were read, and whether they are the whole input.
 struct Input {
@@ -131,13 +139,13 @@ fn report(outcome: Outcome, s: &[u8], out: &mut [u8]) {
 }
 
 fn main() {
-    let mut text = [0u8; 65537];
+    let mut text = [0u8; INPUT];
     let input = read_all(&mut text);
     let n = input.count;
     let whole = input.whole;
-    let mut program = [0u32; 1024];
-    let mut memory = [0u32; 4096];
-    let mut out = [0u8; 4096];
+    let mut program = [0u32; PROGRAM];
+    let mut memory = [0u32; WORDS];
+    let mut out = [0u8; OUTPUT];
     let words = script::words_of(&text[0..n]);
     let outcome = play(
         &text[0..n],

@@ -1,4 +1,6 @@
 // Why a script is bad: finds its first bad line and what is wrong there. `flaw_of` is to call, and requires nothing.
+use machine_model::INSTRUCTIONS;
+use machine_model::LAST_REGISTER;
 use script_model::Defect;
 pub use script_model::Flaw;
 use script_model::Item;
@@ -7,6 +9,10 @@ use script_model::Outlook;
 use script_model::Part;
 pub use script_model::Reason;
 use script_model::Took;
+use table::BANKS;
+use table::ROWS;
+use table::STAGES;
+use table::WORDS;
 use text::Line;
 ghost use mathlib.Core.Bool.{cond};
 ghost use mathlib.Core.Path.{_≡_};
@@ -218,13 +224,13 @@ fn find_unfit(banks: u32, rows: u32, stages: u32, words: u32) -> Reason
 {
     leftmost(
         b'N',
-        (banks == 1) | (banks == 2) | (banks == 4) | (banks == 8),
+        (banks == 1) | (banks == 2) | (banks == 4) | (banks as usize == BANKS),
         banks,
-        (1 <= rows) & (rows <= 8),
+        (1 <= rows) & (rows as usize <= ROWS),
         rows,
-        (1 <= stages) & (stages <= 16),
+        (1 <= stages) & (stages as usize <= STAGES),
         stages,
-        (1 <= words) & (words <= 4096),
+        (1 <= words) & (words as usize <= WORDS),
         words,
     )
 }
@@ -240,14 +246,24 @@ fn of_sizes(part: Part, banks: u32, rows: u32, stages: u32, words: u32) -> Reaso
     }
 }
 
-// The leftmost register above 7.
+// The leftmost register that is none.
 fn find_unformed(letter: u8, code: u32, d: u32, s: u32, imm: u32) -> Reason
     ensures { λ r. ⌜ r ≡ unformed letter code d s imm ⌝ }
 {
     if machine_isa::well_formed(code, d, s, imm) {
         return Reason::Fine;
     }
-    leftmost(letter, d <= 7, d, s <= 7, s, false, imm, true, imm)
+    leftmost(
+        letter,
+        d <= LAST_REGISTER,
+        d,
+        s <= LAST_REGISTER,
+        s,
+        false,
+        imm,
+        true,
+        imm,
+    )
 }
 
 // What is wrong with an instruction at its place.
@@ -329,7 +345,7 @@ fn after_operation(part: Part) -> Part
     ensures { λ r. ⌜ r ≡ afterOperation part ⌝ }
 {
     match part {
-        Part::First => Part::Program(256),
+        Part::First => Part::Program(INSTRUCTIONS),
         Part::Program(room) => {
             if 0 < room {
                 return Part::Program(room - 1);
@@ -345,7 +361,7 @@ fn after_other(part: Part) -> Part
     ensures { λ r. ⌜ r ≡ afterOther part ⌝ }
 {
     match part {
-        Part::First => Part::Program(256),
+        Part::First => Part::Program(INSTRUCTIONS),
         Part::Program(_) => Part::Steps,
         Part::Steps => Part::Steps,
     }

@@ -18,6 +18,7 @@ use Rattle.text.specs.Lines.{linesOf}
 use Rattle.table.specs.Limits.{sizesFit}
 use Rattle.engine.specs.Conditions.{refusal}
 use Rattle.machine_model.specs.declared.Machine.{Machine}
+use Rattle.machine_model.specs.Program.{perInstruction, programMost}
 use Rattle.machine_model.specs.Calls.{Plain, Answer, openChecks}
 use Rattle.machine_model.specs.Contract.{Opens, freshMachine}
 use Rattle.machine_model.proofs.Opened.{fresh-sound, fresh-plain}
@@ -69,8 +70,8 @@ script-short text short = ap (λ (t : Bool). cond t unread (script (linesOf text
 abbrev playerBy : List ℕ → Bool → Script → Player
 playerBy text long s =
     cond long (idle (Bad 0))
-    (cond (sizesFit (s .banks) (s .rows) (s .stages) (s .words)) (openedPlayer text s (length (s .body .program) / 4))
-    (idle (Bad 1)))
+    (cond (sizesFit (s .banks) (s .rows) (s .stages) (s .words))
+    (openedPlayer text s (length (s .body .program) / perInstruction)) (idle (Bad 1)))
 
 player-long : (text : List ℕ) → most < length text → firstPlayer text ≡ idle (Bad 0)
 player-long text long = ap (λ (t : Bool). playerBy text t (scriptOf text)) (lt-ltb most (length text) long)
@@ -103,7 +104,7 @@ line-start-grows s (suc k) = let h = line-start-grows s k in omega arith
 record Behind (s : List ℕ) (i : ℕ) (p : List ℕ) : Type 0 where
   lines : ℕ
   numbers : List ℕ
-  four : length numbers ≡ lines * 4
+  four : length numbers ≡ lines * perInstruction
   within : lineStart s i ≤ length s → lineStart s (i + lines) ≤ length s
   body-is : bodyAt s (lineStart s i) (suc i) p
       ≡ record { program = p ++ numbers; steps = stepsAt s (lineStart s (i + lines)) (suc (i + lines)) }
@@ -122,7 +123,7 @@ behind-none s i p e =
           (sym (append-nil p)) (sym (add-zero i));
     }
 
-behind-more : (s : List ℕ) (i : ℕ) (p ns : List ℕ) → length ns ≡ 4 → lineStart s (suc i) ≤ length s
+behind-more : (s : List ℕ) (i : ℕ) (p ns : List ℕ) → length ns ≡ perInstruction → lineStart s (suc i) ≤ length s
     → bodyAt s (lineStart s i) (suc i) p ≡ bodyAt s (lineStart s (suc i)) (suc (suc i)) (p ++ ns)
     → Behind s (suc i) (p ++ ns) → Behind s i p
 behind-more s i p ns four inside e b =
@@ -140,17 +141,17 @@ behind-more s i p ns four inside e b =
 
 -- however four numbers join p, the steps begin behind some lines more
 abbrev More : List ℕ → ℕ → List ℕ → Type 0
-More s i p = (ns : List ℕ) → length ns ≡ 4 → Behind s (suc i) (p ++ ns)
+More s i p = (ns : List ℕ) → length ns ≡ perInstruction → Behind s (suc i) (p ++ ns)
 
-body-behind : (fuel : ℕ) (s : List ℕ) (i : ℕ) (p : List ℕ) → 1024 ≤ length p + fuel → Behind s i p
+body-behind : (fuel : ℕ) (s : List ℕ) (i : ℕ) (p : List ℕ) → programMost ≤ length p + fuel → Behind s i p
 unfolding lineStart
 body-behind zero s i p h =
     behind-none s i p (body-full s p (lineStart s i) (suc i) (omega (arith, h)))
 body-behind (suc fuel) s i p h =
-    by-room (ltb (length p) 1024) refl (λ ns four. body-behind fuel s (suc i) (p ++ ns)
+    by-room (ltb (length p) programMost) refl (λ ns four. body-behind fuel s (suc i) (p ++ ns)
     (omega (arith, h, length-append p ns, four)))
   where
-    by-found : (f : Found) → foundAt s (lineStart s i) ≡ f → length p < 1024 → More s i p → Behind s i p
+    by-found : (f : Found) → foundAt s (lineStart s i) ≡ f → length p < programMost → More s i p → Behind s i p
     by-found Nothing e room more = behind-none s i p (body-stop s p (lineStart s i) (suc i) e)
     by-found (Four code d r imm next) e room more =
         let ns = code ∷ d ∷ r ∷ imm ∷ [] in
@@ -159,9 +160,9 @@ body-behind (suc fuel) s i p h =
         (b .0 ∙ ap (λ (k : ℕ). bodyAt s k (suc (suc i)) (p ++ ns)) (b .1))
         (more ns refl)
 
-    by-room : (t : Bool) → ltb (length p) 1024 ≡ t → More s i p → Behind s i p
-    by-room true e more = by-found (foundAt s (lineStart s i)) refl (ltb-true (length p) 1024 e) more
-    by-room false e more = behind-none s i p (body-full s p (lineStart s i) (suc i) (ltb-false (length p) 1024 e))
+    by-room : (t : Bool) → ltb (length p) programMost ≡ t → More s i p → Behind s i p
+    by-room true e more = by-found (foundAt s (lineStart s i)) refl (ltb-true (length p) programMost e) more
+    by-room false e more = behind-none s i p (body-full s p (lineStart s i) (suc i) (ltb-false (length p) programMost e))
 
 -- a machine opened without sizes
 pub closed-machine : {program w : List ℕ} {said : Answer} {u : Machine} → Opens 0 0 0 0 program w said u
@@ -176,16 +177,16 @@ empty-list [] e = refl
 empty-list (x ∷ l) e = absurd (omega (arith, e))
 
 pub lent-rightly : (text : List ℕ) (whole : Bool) (program memory : List ℕ) → wronglyLent text whole program memory ≡ false
-    → (1024 ≤ length program) × (length memory ≡ wordsOf text)
+    → (programMost ≤ length program) × (length memory ≡ wordsOf text)
 lent-rightly text whole program memory e =
-    go (ltb (length program) 1024) (eqb (length memory) (wordsOf text)) refl refl e
+    go (ltb (length program) programMost) (eqb (length memory) (wordsOf text)) refl refl e
   where
-    go : (s t : Bool) → ltb (length program) 1024 ≡ s → eqb (length memory) (wordsOf text) ≡ t
+    go : (s t : Bool) → ltb (length program) programMost ≡ s → eqb (length memory) (wordsOf text) ≡ t
         → (s || not t || (not whole && leb (length text) most)) ≡ false
-        → (1024 ≤ length program) × (length memory ≡ wordsOf text)
+        → (programMost ≤ length program) × (length memory ≡ wordsOf text)
     go true t few is f = absurd (false≢true (sym f))
     go false false few is f = absurd (false≢true (sym f))
-    go false true few is f = (ltb-false (length program) 1024 few, eqb-true (length memory) (wordsOf text) is)
+    go false true few is f = (ltb-false (length program) programMost few, eqb-true (length memory) (wordsOf text) is)
 
 -- the opening of the script passes its checks
 script-checked : (text : List ℕ) (s : Script) → script (linesOf text) ≡ s → Sized s
@@ -246,7 +247,7 @@ module _ {text : List ℕ} {whole : Bool} {program memory : List ℕ} where
       let s = of (record { program = numbers; steps = stepsAt text cursor line }) in
       let plainly : script (linesOf text) ≡ s = head .script-is ∙ ap of (loads .body-is) in
       let is : scriptOf text ≡ s = script-short text short ∙ plainly in
-      let k = length numbers / 4 in
+      let k = length numbers / perInstruction in
       let zeros : after ≡ replicate words 0 =
       cleared ∙ ap (λ (n : ℕ). replicate n 0) (lent-rightly text whole program memory right .1
       ∙ ap (λ (r : Script). r .words) is) in
@@ -298,7 +299,7 @@ bad-starts text n s none prints =
 module _ (text : List ℕ) (short : length text ≤ most) (banks rows stages words from : ℕ)
     (header : headerOf text ≡ Four banks rows stages words from) where
   abbrev behind : Behind text 1 []
-  behind = body-behind 1024 text 1 [] (omega arith)
+  behind = body-behind programMost text 1 [] (omega arith)
 
   abbrev read : Script
   read =
@@ -327,24 +328,24 @@ module _ (text : List ℕ) (short : length text ≤ most) (banks rows stages wor
       (let e : 1 + behind .lines ≡ suc (behind .lines) = omega arith in e))
 
   open-starts : (s : Script) → s ≡ script (linesOf text)
-      → Starts text (openedPlayer text s (length (s .body .program) / 4)) (s .body .program) (replicate (s .words) 0)
+      → Starts text (openedPlayer text s (length (s .body .program) / perInstruction)) (s .body .program) (replicate (s .words) 0)
   open-starts s same =
       let head = headed text banks rows stages words from header in
       let ns = behind .numbers in
       let k = behind .lines in
-      let lines : length ns / 4 ≡ k = omega (arith, behind .four) in
-      let first : suc (length ns / 4) ≡ 1 + k = omega (arith, lines) in
+      let lines : length ns / perInstruction ≡ k = omega (arith, behind .four) in
+      let first : suc (length ns / perInstruction) ≡ 1 + k = omega (arith, lines) in
       let checked : refusal (openChecks banks rows stages words ns (replicate words 0)) ≡ 0 =
       script-checked text read script-is (head .fit) in
       subst
       (λ (r : Script).
-      Starts text (openedPlayer text r (length (r .body .program) / 4)) (r .body .program) (replicate (r .words) 0))
+      Starts text (openedPlayer text r (length (r .body .program) / perInstruction)) (r .body .program) (replicate (r .words) 0))
       (sym (same ∙ script-is))
       (record {
         used = refl;
         prints = ap
             (λ (j : ℕ).
-            transcript ns (standing (freshMachine banks rows stages words (length ns / 4)) (replicate words 0) 0)
+            transcript ns (standing (freshMachine banks rows stages words (length ns / perInstruction)) (replicate words 0) 0)
             (stepsAt text (lineStart text (suc j)) (suc (suc j))))
             lines
             ∙ ap (λ (X : Plain). transcript ns (start X (replicate words 0)) (read .body .steps))
@@ -357,13 +358,13 @@ module _ (text : List ℕ) (short : length text ≤ most) (banks rows stages wor
               within = subst (λ (j : ℕ). lineStart text j ≤ length text) (sym first)
                   (behind .within (subst (λ (j : ℕ). j ≤ length text) (head .starts) (head .within)));
               used = record {
-                sound = fresh-sound banks rows stages words (length ns / 4) (head .fit);
+                sound = fresh-sound banks rows stages words (length ns / perInstruction) (head .fit);
                 linked = subst (λ (X : Plain). Linked ns X (replicate words 0))
                     (sym (fresh-plain banks rows stages words ns []))
                     (linked-open banks rows stages words ns (replicate words 0) checked);
               };
               counted = zero-le;
-              numbered = let h = line-start-grows text (suc (length ns / 4)) in omega (arith, h);
+              numbered = let h = line-start-grows text (suc (length ns / perInstruction)) in omega (arith, h);
             };
       })
 
@@ -392,9 +393,9 @@ first-starts text = by-length (ltb most (length text)) refl
         let s = scriptOf text in
         let same = script-short text short in
         let fit = script-fits text short banks rows stages words from e s same in
-        shown (openedPlayer text s (length (s .body .program) / 4))
+        shown (openedPlayer text s (length (s .body .program) / perInstruction))
         (player-short text s short refl
-        ∙ ap (λ (t : Bool). cond t (openedPlayer text s (length (s .body .program) / 4)) (idle (Bad 1))) fit)
+        ∙ ap (λ (t : Bool). cond t (openedPlayer text s (length (s .body .program) / perInstruction)) (idle (Bad 1))) fit)
         (open-starts text short banks rows stages words from e s same)
 
     by-length : (t : Bool) → ltb most (length text) ≡ t

@@ -20,7 +20,7 @@ use Rattle.machine_model.specs.Calls.{issueChecks, executeChecks, squashChecks,
 use Rattle.machine_model.specs.Contract.{plain, Sound, Meets}
 use Rattle.theorem.specs.Play.{recorded, commitsIn, plays}
 use Rattle.script_model.specs.Output.{committedLines, commitLines}
-use Rattle.script_model.specs.Playing.{toldBy, countedBy}
+use Rattle.script_model.specs.Playing.{countMost, toldBy, countedBy}
 use Rattle.script_model.proofs.Invariant.{standing}
 
 -- no finish
@@ -44,7 +44,7 @@ Once (finished n) = ⊥
 record Told (said : Answer) (n : ℕ) : Type 0 where
   whole : length (recorded said []) % perCommit ≡ 0
   lines : commitLines (recorded said []) ≡ toldBy said []
-  counted : n < 18446744073709551615 → n + commitsIn said ≡ countedBy said n
+  counted : n < countMost → n + commitsIn said ≡ countedBy said n
 
 once-told : (said : Answer) (n : ℕ) → Once said → Told said n
 unfolding commitLines
@@ -57,7 +57,7 @@ once-told (committed i c r v d) n h =
       whole = refl;
       lines = append-nil (committedLines i c r v d);
       counted = λ few.
-          add-one n ∙ ap (λ (b : Bool). cond b (suc n) n) (sym (lt-ltb n 18446744073709551615 few));
+          add-one n ∙ ap (λ (b : Bool). cond b (suc n) n) (sym (lt-ltb n countMost few));
     }
 once-told (finished k) n h = absurd h
 
@@ -97,7 +97,7 @@ pub record Does (program : List ℕ) (c : Call) (m : Machine) (memory : List ℕ
       ≡ record { state = plain u; memory = after; record′ = numbers; commits = countedBy said n }
 
 pub call-does : {program : List ℕ} {c : Call} {m u : Machine} {memory after list : List ℕ} {said : Answer} (n : ℕ) → Single c
-    → Meets program m c memory said u after list → Sound m → n < 18446744073709551615
+    → Meets program m c memory said u after list → Sound m → n < countMost
     → Does program c m memory n u after said list
 call-does {program} {c} {m} {u} {memory} {after} {list} {said} n single meets sound few =
     let each = answers-once program c (plain m) memory single in

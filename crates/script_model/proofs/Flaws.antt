@@ -16,7 +16,7 @@ use Rattle.text.specs.Fields.{largest}
 use Rattle.text.specs.Lines.{linesOf}
 use Rattle.text.proofs.Trip.{digit-first}
 use Rattle.table.specs.Limits.{sizesFit, banksMost, rowsMost, stagesMost, wordsMost}
-use Rattle.machine_model.specs.Program.{wellFormed}
+use Rattle.machine_model.specs.Program.{perInstruction, instructionsMost, programMost, lastRegister, wellFormed}
 use Rattle.script_model.specs.declared.Item.{Item}
 use Rattle.script_model.specs.declared.Item.the-variants.{Malformed, Sizes, Operation, Issue, Execute, Squash, Commit}
 use Rattle.script_model.specs.declared.Item.the-variants.{Finish}
@@ -248,12 +248,12 @@ steps-number n (line ∷ lines) rest = go (parsedLine line) refl (steps-number (
     go (Finish k) e more = more
 
 -- there is room in the program for one instruction more
-room-same : (room used : ℕ) → used + room * 4 ≡ 1024 → ltb used 1024 ≡ ltb 0 room
-room-same zero used h = le-ltb used 1024 (omega arith) ∙ sym (le-ltb 0 0 (omega arith))
-room-same (suc room) used h = lt-ltb used 1024 (omega arith) ∙ sym (lt-ltb 0 (suc room) (omega arith))
+room-same : (room used : ℕ) → used + room * perInstruction ≡ programMost → ltb used programMost ≡ ltb 0 room
+room-same zero used h = le-ltb used programMost (omega arith) ∙ sym (le-ltb 0 0 (omega arith))
+room-same (suc room) used h = lt-ltb used programMost (omega arith) ∙ sym (lt-ltb 0 (suc room) (omega arith))
 
 unformed-wrong : (letter code d s imm : ℕ) → wellFormed code d s imm ≡ false → isFine (unformed letter code d s imm) ≡ false
-unformed-wrong letter code d s imm h = rw h (go (leb d 7) (leb s 7))
+unformed-wrong letter code d s imm h = rw h (go (leb d lastRegister) (leb s lastRegister))
   where
     go : (t u : Bool)
         → isFine (cond t (cond u (why.Field letter 4 (Beyond imm)) (why.Field letter 3 (Beyond s)))
@@ -271,8 +271,8 @@ module _ (n room : ℕ) (program line : List ℕ) (lines : List (List ℕ)) (res
       ≡ joining program joins (λ (grown : List ℕ). body (suc n) grown lines rest)
       (stepping n (stepOf i) (steps (suc n) lines rest)) .steps .flaw
 
-  operation-number : (letter code d s imm : ℕ) → length program + room * 4 ≡ 1024
-      → ((grown : List ℕ) → length grown + (room - 1) * 4 ≡ 1024
+  operation-number : (letter code d s imm : ℕ) → length program + room * perInstruction ≡ programMost
+      → ((grown : List ℕ) → length grown + (room - 1) * perInstruction ≡ programMost
       → badNumber (flawFrom (suc n) (part.Program (room - 1)) lines rest) ≡ body (suc n) grown lines rest .steps .flaw)
       → SameBy (Operation code d s imm) (ofOperation (part.Program room) letter code d s imm)
       (numbersOf program (Operation code d s imm))
@@ -291,8 +291,8 @@ module _ (n room : ℕ) (program line : List ℕ) (lines : List (List ℕ)) (res
           (more (program ++ (code ∷ d ∷ s ∷ imm ∷ []))
           (omega (arith, length-append program (code ∷ d ∷ s ∷ imm ∷ []), h, ltb-true 0 room e)))
 
-  line-number : length program + room * 4 ≡ 1024
-      → ((grown : List ℕ) → length grown + (room - 1) * 4 ≡ 1024
+  line-number : length program + room * perInstruction ≡ programMost
+      → ((grown : List ℕ) → length grown + (room - 1) * perInstruction ≡ programMost
       → badNumber (flawFrom (suc n) (part.Program (room - 1)) lines rest) ≡ body (suc n) grown lines rest .steps .flaw)
       → SameBy (parsedLine line) (reasonIn (part.Program room) (parsedLine line) line) (numbersOf program (parsedLine line))
   line-number h more = go (parsedLine line) refl
@@ -307,7 +307,8 @@ module _ (n room : ℕ) (program line : List ℕ) (lines : List (List ℕ)) (res
       go Commit e = steps-number (suc n) lines rest
       go (Finish k) e = steps-number (suc n) lines rest
 
-body-number : (n room : ℕ) (program : List ℕ) (lines : List (List ℕ)) (rest : List ℕ) → length program + room * 4 ≡ 1024
+body-number : (n room : ℕ) (program : List ℕ) (lines : List (List ℕ)) (rest : List ℕ)
+    → length program + room * perInstruction ≡ programMost
     → badNumber (flawFrom n (part.Program room) lines rest) ≡ body n program lines rest .steps .flaw
 unfolding flawFrom steps body
 body-number n room program [] [] h = refl
@@ -367,10 +368,10 @@ script-number (line ∷ lines) rest = go (parsedLine line) refl
         (flawFrom 2 (nextPart part.First i) lines rest)
         (flawAt 1 (reasonIn part.First i line)))
         ≡ headed i (body 2 [] lines rest) .body .steps .flaw
-    go Malformed e = told 1 (noSizes line) (flawFrom 2 (part.Program 256) lines rest) (first-wrong line e)
+    go Malformed e = told 1 (noSizes line) (flawFrom 2 (part.Program instructionsMost) lines rest) (first-wrong line e)
     go (Sizes banks rows stages words) e =
-        sizes-number banks rows stages words (flawFrom 2 (part.Program 256) lines rest) (body 2 [] lines rest)
-        (body-number 2 256 [] lines rest refl)
+        sizes-number banks rows stages words (flawFrom 2 (part.Program instructionsMost) lines rest) (body 2 [] lines rest)
+        (body-number 2 instructionsMost [] lines rest refl)
     go (Operation code d s imm) e = refl
     go Issue e = refl
     go (Execute k) e = refl

@@ -14,7 +14,7 @@ use Rattle.text.specs.declared.Line.{Line}
 use Rattle.text.specs.declared.Line.the-variants.{End, Unended, Whole}
 use Rattle.text.specs.Lines.{feed, lineAt, linesOf}
 use Rattle.text.proofs.Splits.{LineIs, line-is, line-end, line-unended, line-whole}
-use Rattle.table.specs.Limits.{sizesFit}
+use Rattle.table.specs.Limits.{banksMost, rowsMost, stagesMost, wordsMost, sizesFit}
 use Rattle.script_model.specs.declared.Item.{Item}
 use Rattle.script_model.specs.declared.Item.the-variants.{Malformed, Sizes, Operation, Issue, Execute, Squash, Commit}
 use Rattle.script_model.specs.declared.Item.the-variants.{Finish}
@@ -119,14 +119,14 @@ script-unheaded s h = go (lineAt s 0) (line-is s 0 (lineAt s 0) refl) h
 
 -- ---- how many words of memory are asked for
 
-sizes-words : (banks rows stages words : ℕ) → sizesFit banks rows stages words ≡ true → words ≤ 4096
+sizes-words : (banks rows stages words : ℕ) → sizesFit banks rows stages words ≡ true → words ≤ wordsMost
 unfolding sizesFit
 sizes-words banks rows stages words h =
     let some =
-    (eqb banks 1 || eqb banks 2 || eqb banks 4 || eqb banks 8) && (leb 1 rows && leb rows 8)
-    && (leb 1 stages && leb stages 16) in
-    leb-true words 4096 (and-eq-true-iff (leb 1 words) (leb words 4096) .0
-    (and-eq-true-iff some (leb 1 words && leb words 4096) .0 h .1) .1)
+    (eqb banks 1 || eqb banks 2 || eqb banks 4 || eqb banks banksMost) && (leb 1 rows && leb rows rowsMost)
+    && (leb 1 stages && leb stages stagesMost) in
+    leb-true words wordsMost (and-eq-true-iff (leb 1 words) (leb words wordsMost) .0
+    (and-eq-true-iff some (leb 1 words && leb words wordsMost) .0 h .1) .1)
 
 -- of a text by whether it is too long
 abbrev words-by : List ℕ → Bool → ℕ
@@ -142,7 +142,7 @@ pub words-none : (s : List ℕ) → length s ≤ most → headerOf s ≡ Nothing
 words-none s h e = sym (ap (λ (k : Script). k .words) (script-unheaded s e)) ∙ words-short s h
 
 pub words-told : (s : List ℕ) (banks rows stages words at : ℕ) → length s ≤ most
-    → headerOf s ≡ Four banks rows stages words at → (words ≡ wordsOf s) × (words ≤ 4096)
+    → headerOf s ≡ Four banks rows stages words at → (words ≡ wordsOf s) × (words ≤ wordsMost)
 words-told s banks rows stages words at h e =
     let all = headed s banks rows stages words at e in (
       sym (ap (λ (k : Script). k .words) (all .script-is)) ∙ words-short s h,

@@ -6,6 +6,7 @@ use mathlib.Core.Bool.{Bool, true, false}
 use mathlib.Core.List.{List, [], _++_}
 use Prim.Native.Nat.{ℕ, suc, _+_, _-_, _*_, _≤_}
 use lib.ListN.{length, replicate, drop}
+use Rattle.text.specs.Fields.{largest}
 use Rattle.machine_model.specs.declared.Machine.{Machine}
 use Rattle.machine_model.specs.Calls.{finish, perCommit}
 use Rattle.machine_model.specs.Contract.{plain, Sound}
@@ -62,16 +63,23 @@ isPlaying Stepping = true
 isPlaying (Finishing k) = true
 isPlaying (Words a) = true
 
--- What holds of a player from its beginning on. Each line takes a byte at least and asks for at most 4,294,967,295 commits, so
+-- more commits than a line asks for, whose number is at most the largest
+abbrev pub lineShare : ℕ
+lineShare = suc largest
+
+-- What holds of a player from its beginning on. Each line takes a byte at least and asks for fewer commits than its share, so
 -- neither number outgrows 64 bits.
 pub record Playing (text program : List ℕ) (p : Player) (memory : List ℕ) : Type 0 where
   pub fits : isPlaying (p .phase) ≡ true → length text ≤ most
   pub within : p .cursor ≤ length text
   pub used : InUse (p .phase) program (p .machine) memory
-  pub counted : p .commits + due (p .phase) ≤ p .cursor * 4294967296
+  pub counted : p .commits + due (p .phase) ≤ p .cursor * lineShare
   pub numbered : p .line ≤ suc (p .cursor)
 
--- A number that falls with every step: the program's loop ends by it.
+-- A number that falls with every step: the program's loop ends by it. Behind a line the rank rises by less than a line weighs.
+abbrev pub lineWeight : ℕ
+lineWeight = 2 * lineShare
+
 abbrev pub rank : ℕ → Phase → ℕ
 rank words Over = 0
 rank words (Bad n) = 1
@@ -80,4 +88,4 @@ rank words Stepping = 3 + words
 rank words (Finishing k) = 4 + words + k
 
 abbrev pub weight : List ℕ → Player → List ℕ → ℕ
-weight text p memory = (length text - p .cursor) * 8589934592 + rank (length memory) (p .phase)
+weight text p memory = (length text - p .cursor) * lineWeight + rank (length memory) (p .phase)

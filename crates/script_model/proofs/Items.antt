@@ -1,6 +1,6 @@
 -- What a line says, as the reader finds it: the numbers after the letter are the first few of an array, and the bytes are
 -- those of a slice. A letter takes one, three or four numbers, so a line with any other count is malformed, and that the
--- array holds no more than 64 changes nothing. A slice is empty, or its first byte and the slice after it.
+-- array holds no more than its capacity changes nothing. A slice is empty, or its first byte and the slice after it.
 -- Assumes nothing.
 use mathlib.Core.Bool.{Bool, true, false, cond}
 use mathlib.Core.Path.{_≡_, refl, sym, ap, _∙_}
@@ -13,7 +13,7 @@ use lib.ListN.{length, getD, take, drop-of-length-le}
 use lib.Seq.{length-take-le, slice, slice-cons}
 use borrow.Author.Tests.{leb-false, eq-eqb, ne-eqb}
 use Rattle.text.specs.Fields.{largest, fields}
-use Rattle.text.specs.computed.Reader.{fitting}
+use Rattle.text.specs.computed.Reader.{capacity, fitting}
 use Rattle.script_model.specs.declared.Item.{Item}
 use Rattle.script_model.specs.declared.Item.the-variants.{Malformed}
 use Rattle.script_model.specs.Language.{alone, withOne, withThree, withFour, lettered, parsedLine}
@@ -30,15 +30,15 @@ wrong-count b (k ∷ l ∷ m ∷ []) one three four = absurd (three refl)
 wrong-count b (k ∷ l ∷ m ∷ n ∷ []) one three four = absurd (four refl)
 wrong-count b (k ∷ l ∷ m ∷ n ∷ o ∷ ns) one three four = refl
 
--- more than 64 numbers are malformed, read or not
+-- more numbers than the array holds are malformed, read or not
 pub lettered-fitting : (b : ℕ) (f : Option (List ℕ)) → lettered b (fitting f) ≡ lettered b f
 lettered-fitting b none = refl
-lettered-fitting b (some ns) = go (leb (length ns) 64) refl
+lettered-fitting b (some ns) = go (leb (length ns) capacity) refl
   where
-    go : (t : Bool) → leb (length ns) 64 ≡ t → lettered b (cond t (some ns) none) ≡ lettered b (some ns)
+    go : (t : Bool) → leb (length ns) capacity ≡ t → lettered b (cond t (some ns) none) ≡ lettered b (some ns)
     go true e = refl
     go false e =
-        let many : 64 < length ns = leb-false (length ns) 64 e in
+        let many : capacity < length ns = leb-false (length ns) capacity e in
         wrong-count b ns (λ q. omega arith) (λ q. omega arith) (λ q. omega arith)
 
 -- ---- by the numbers in an array, of which the first `count` are the line's
@@ -69,7 +69,7 @@ first-four b (banks ∷ rows ∷ stages ∷ words ∷ vs) h = refl
 pub no-numbers : (b : ℕ) (good : Bool) (count : ℕ) (vs : List ℕ) → good ≡ false → Malformed ≡ heard b good count vs
 no-numbers b good count vs g = rw g
 
-module _ (b : ℕ) (good : Bool) (count : ℕ) (vs : List ℕ) (g : good ≡ true) (long : length vs ≡ 64) where
+module _ (b : ℕ) (good : Bool) (count : ℕ) (vs : List ℕ) (g : good ≡ true) (long : length vs ≡ capacity) where
   pub one-number : count ≡ 1 → withOne b (getD vs 0 0) ≡ heard b good count vs
   one-number e = rw (g, e) (first-one b vs (omega arith))
 
@@ -80,7 +80,7 @@ module _ (b : ℕ) (good : Bool) (count : ℕ) (vs : List ℕ) (g : good ≡ tru
       → withFour b (getD vs 0 0) (getD vs 1 0) (getD vs 2 0) (getD vs 3 0) ≡ heard b good count vs
   four-numbers e = rw (g, e) (first-four b vs (omega arith))
 
-  pub wrong-numbers : count ≤ 64 → (count ≡ 1 → ⊥) → (count ≡ 3 → ⊥) → (count ≡ 4 → ⊥)
+  pub wrong-numbers : count ≤ capacity → (count ≡ 1 → ⊥) → (count ≡ 3 → ⊥) → (count ≡ 4 → ⊥)
       → Malformed ≡ heard b good count vs
   wrong-numbers h one three four =
       rw g

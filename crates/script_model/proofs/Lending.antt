@@ -13,6 +13,7 @@ use lib.Dec.{eqb, leb, ltb}
 use lib.ListN.{length, take, drop}
 use lib.Seq.{sets, drop-append-seam}
 use borrow.Author.Tests.{leb-false}
+use Rattle.machine_model.specs.Program.{programMost}
 use Rattle.script_model.specs.declared.Phase.{Phase}
 use Rattle.script_model.specs.declared.Phase.the-variants.{Over}
 use Rattle.script_model.specs.declared.Player.{Player}
@@ -101,7 +102,7 @@ part-long text false true e = leb-false (length text) most e
 pub part-prints : (text program memory : List ℕ) → wronglyLent text false program memory ≡ false
     → (rest : List ℕ) → printed (text ++ rest) ≡ printed text
 part-prints text program memory right rest =
-    let long = part-long text (ltb (length program) 1024) (eqb (length memory) (wordsOf text)) right in
+    let long = part-long text (ltb (length program) programMost) (eqb (length memory) (wordsOf text)) right in
     long-anyway text rest long ∙ sym (printed-long text long)
 
 pub begins-keeps : {text : List ℕ} {whole : Bool} {program memory : List ℕ} {q : Player} {into after : List ℕ}

@@ -45,7 +45,7 @@ use Rattle.script_model.specs.declared.Phase.{Phase}
 use Rattle.script_model.specs.declared.Phase.the-variants.{Stepping, Finishing}
 use Rattle.script_model.specs.Language.{Steps, before}
 use Rattle.script_model.specs.Output.{committedLines, commitLines, transcript}
-use Rattle.script_model.specs.Playing.{firstLines, toldBy, countedBy, phaseAfter, oneMore}
+use Rattle.script_model.specs.Playing.{countMost, oneMore, firstLines, toldBy, countedBy, phaseAfter}
 use Rattle.script_model.proofs.Invariant.{standing, leftIn, due, Usable, InUse, rank}
 use Rattle.script_model.proofs.Phases.{Goes}
 use Rattle.script_model.proofs.Telling.{told-before}
@@ -331,7 +331,7 @@ module _ (program : List ℕ) (m u : Machine) (n k : ℕ) (memory after list lef
   abbrev phased : Bool → Phase
   phased t = cond t Stepping (Finishing (k - 1))
 
-  by-commits : (t : Bool) → eqb (commitsIn said) 0 ≡ t → Usable program m memory → n < 18446744073709551615
+  by-commits : (t : Bool) → eqb (commitsIn said) 0 ≡ t → Usable program m memory → n < countMost
       → ((more : Steps)
       → transcript program (standing m memory n) (before (whole k) more)
       ≡ toldBy said left ++ leftIn program (phased t) more (standing u after (cond t n (oneMore n))))
@@ -356,7 +356,7 @@ module _ (program : List ℕ) (m u : Machine) (n k : ℕ) (memory after list lef
   by-commits false e usable few =
       let x = answers usable in
       let one : commitsIn said ≡ 0 → ⊥ = eqb-false (commitsIn said) 0 e in
-      let next : suc n ≡ oneMore n = ap (λ (b : Bool). cond b (suc n) n) (sym (lt-ltb n 18446744073709551615 few)) in
+      let next : suc n ≡ oneMore n = ap (λ (b : Bool). cond b (suc n) n) (sym (lt-ltb n countMost few)) in
       let spoken : toldBy said left ≡ firstLines left =
       ap (λ (a : Answer). toldBy a left) (x .1)
       ∙ ap (λ (b : Bool). cond b [] (firstLines left)) (ne-eqb (x .0) 0 (λ z. one (ap commitsIn (x .1) ∙ z))) in (

@@ -12,7 +12,7 @@ use Rattle.text.specs.Lines.{Lines}
 use Rattle.marks.specs.Counting.{every}
 use Rattle.table.specs.Limits.{sizesFit}
 use Rattle.engine.specs.Conditions.{refusal}
-use Rattle.machine_model.specs.Program.{programFits}
+use Rattle.machine_model.specs.Program.{programMost, programFits}
 use Rattle.machine_model.specs.Calls.{openChecks}
 use Rattle.script_model.specs.declared.Item.{Item}
 use Rattle.script_model.specs.declared.Item.the-variants.{Malformed, Sizes, Operation, Issue, Execute, Squash, Commit}
@@ -21,9 +21,9 @@ use Rattle.script_model.specs.Language.{parsedLine, Body, body, Script, 
 use Rattle.script_model.specs.Truth.{Sized}
 use Rattle.script_model.proofs.Fitting.{body-fits}
 
--- whole instructions, each well formed, and at most 1,024 numbers
+-- whole instructions, each well formed, and not too many
 abbrev Within : List ℕ → Type 0
-Within program = (programFits program ≡ true) × (length program ≤ 1024)
+Within program = (programFits program ≡ true) × (length program ≤ programMost)
 
 none-within : Within []
 unfolding programFits every
@@ -60,7 +60,7 @@ script-opens ls fit =
     let w = script-within (ls .whole) (ls .rest) in
     rw (
       fit,
-      le-leb (length (s .body .program)) 1024 (w .1),
+      le-leb (length (s .body .program)) programMost (w .1),
       eq-eqb (length {A = ℕ} (replicate (s .words) 0)) (s .words) (length-replicate (s .words) 0),
       w .0,
     )

@@ -1,5 +1,5 @@
 -- The program's lines, as the loop reads them. Of the lines from `cursor` on, one with an instruction joins the program so
--- far, and at any other, or once the program has 1,024 numbers, the steps begin. Reading is the loop's invariant, in the form
+-- far, and at any other, or once the program is full, the steps begin. Reading is the loop's invariant, in the form
 -- of what remains. It says of the line's number that four numbers were read for each line since the second, so the number
 -- cannot outgrow 64 bits, and there is room for four numbers wherever there is room for one. Assumes nothing.
 use mathlib.Core.Bool.{Bool, true, false, cond, _&&_}
@@ -17,7 +17,7 @@ use Rattle.text.specs.declared.Line.{Line}
 use Rattle.text.specs.declared.Line.the-variants.{End, Unended, Whole}
 use Rattle.text.specs.Lines.{feed, lineAt, Lines, ended, linesOf}
 use Rattle.text.proofs.Splits.{LineIs, line-is, line-end, line-unended, line-whole}
-use Rattle.machine_model.specs.Program.{wellFormed}
+use Rattle.machine_model.specs.Program.{perInstruction, programMost, wellFormed}
 use Rattle.script_model.specs.declared.Item.{Item}
 use Rattle.script_model.specs.declared.Item.the-variants.{Malformed, Sizes, Operation, Issue, Execute, Squash, Commit}
 use Rattle.script_model.specs.declared.Item.the-variants.{Finish}
@@ -33,12 +33,12 @@ never e = absurd (let z : _≡_ {A = ℕ} 0 1 = cc in omega arith)
 
 -- an instruction found joins a program with room for it
 numbers-four : (p : List ℕ) (i : Item) (at code d s imm next : ℕ) → foundIn false i at ≡ Four code d s imm next
-    → length p < 1024
+    → length p < programMost
     → (numbersOf p i ≡ some (code ∷ d ∷ s ∷ imm ∷ [])) × (next ≡ at)
 numbers-four p Malformed at code d s imm next h room = never h
 numbers-four p (Sizes x y z w) at code d s imm next h room = never h
 numbers-four p (Operation x y z w) at code d s imm next h room =
-    rw (lt-ltb (length p) 1024 room) (go (wellFormed x y z w) h)
+    rw (lt-ltb (length p) programMost room) (go (wellFormed x y z w) h)
   where
     go : (t : Bool) → cond t (Four x y z w at) Nothing ≡ Four code d s imm next
         → (cond t (some (x ∷ y ∷ z ∷ w ∷ [])) none ≡ some (code ∷ d ∷ s ∷ imm ∷ [])) × (next ≡ at)
@@ -58,7 +58,7 @@ numbers-four p (Finish k) at code d s imm next h room = never h
 numbers-none : (p : List ℕ) (i : Item) (at : ℕ) → foundIn false i at ≡ Nothing → numbersOf p i ≡ none
 numbers-none p Malformed at h = refl
 numbers-none p (Sizes x y z w) at h = refl
-numbers-none p (Operation x y z w) at h = go (ltb (length p) 1024) (wellFormed x y z w) h
+numbers-none p (Operation x y z w) at h = go (ltb (length p) programMost) (wellFormed x y z w) h
   where
     go : (r t : Bool) → cond t (Four x y z w at) Nothing ≡ Nothing
         → cond (r && t) (some (x ∷ y ∷ z ∷ w ∷ [])) none ≡ none
@@ -72,10 +72,10 @@ numbers-none p Commit at h = refl
 numbers-none p (Finish k) at h = refl
 
 -- to a full program none joins
-numbers-full : (p : List ℕ) (i : Item) → 1024 ≤ length p → numbersOf p i ≡ none
+numbers-full : (p : List ℕ) (i : Item) → programMost ≤ length p → numbersOf p i ≡ none
 numbers-full p Malformed h = refl
 numbers-full p (Sizes x y z w) h = refl
-numbers-full p (Operation x y z w) h = rw (le-ltb (length p) 1024 h)
+numbers-full p (Operation x y z w) h = rw (le-ltb (length p) programMost h)
 numbers-full p Issue h = refl
 numbers-full p (Execute k) h = refl
 numbers-full p (Squash k) h = refl
@@ -110,7 +110,7 @@ unfolding body
 body-stops n p line ls e = ap (joinedBy n p line ls) e
 
 -- at an instruction the next line goes on with the longer program
-pub body-four : (s p : List ℕ) (at n code d r imm next : ℕ) → foundAt s at ≡ Four code d r imm next → length p < 1024
+pub body-four : (s p : List ℕ) (at n code d r imm next : ℕ) → foundAt s at ≡ Four code d r imm next → length p < programMost
     → (bodyAt s at n p ≡ bodyAt s next (suc n) (p ++ (code ∷ d ∷ r ∷ imm ∷ []))) × (next ≡ suc (feed s at)) × (next ≤ length s)
 body-four s p at n code d r imm next h room = go (lineAt s at) (line-is s at (lineAt s at) refl) h
   where
@@ -160,7 +160,7 @@ pub body-stop : (s p : List ℕ) (at n : ℕ) → foundAt s at ≡ Nothing
 body-stop s p at n h =
     body-here s p at n (λ from to e. numbers-none p (parsedLine (slice from to s)) (suc to) (ap (foundBy false s) (sym e) ∙ h))
 
-pub body-full : (s p : List ℕ) (at n : ℕ) → 1024 ≤ length p
+pub body-full : (s p : List ℕ) (at n : ℕ) → programMost ≤ length p
     → bodyAt s at n p ≡ record { program = p; steps = stepsAt s at n }
 body-full s p at n h = body-here s p at n (λ from to e. numbers-full p (parsedLine (slice from to s)) h)
 
@@ -169,15 +169,15 @@ body-full s p at n h = body-here s p at n (λ from to e. numbers-full p (parsedL
 -- what is read from `from` on comes to what is read from `cursor` on after the first `used` numbers
 pub record Reading (s : List ℕ) (from : ℕ) (lent program : List ℕ) (cursor line used : ℕ) : Type 0 where
   pub remains : bodyAt s from 2 [] ≡ bodyAt s cursor line (take used program)
-  pub room : 1024 ≤ length program
-  pub places : used ≤ 1024
+  pub room : programMost ≤ length program
+  pub places : used ≤ programMost
   pub rest : drop used program ≡ drop used lent
-  pub lines : line * 4 ≡ used + 8
+  pub lines : line * perInstruction ≡ used + 2 * perInstruction
   pub starts : from ≡ lineStart s 1 → cursor ≡ lineStart s (line - 1)
   pub within : from ≤ length s → cursor ≤ length s
   pub numbered : line + from ≤ cursor + 2
 
-pub reading-all : (s program : List ℕ) (from : ℕ) → 1024 ≤ length program → Reading s from program program from 2 0
+pub reading-all : (s program : List ℕ) (from : ℕ) → programMost ≤ length program → Reading s from program program from 2 0
 reading-all s program from h =
     record {
       remains = refl;
@@ -211,14 +211,14 @@ next-start s cursor next line counted after is =
     after ∙ ap (λ (k : ℕ). suc (feed s k)) is ∙ ap (lineStart s) (let e : suc (line - 1) ≡ line + 1 - 1 = omega arith in e)
 
 pub reading-goes : (s lent program into : List ℕ) (from cursor line used code d r imm next : ℕ)
-    → Reading s from lent program cursor line used → used < 1024 → foundAt s cursor ≡ Four code d r imm next
+    → Reading s from lent program cursor line used → used < programMost → foundAt s cursor ≡ Four code d r imm next
     → into ≡ sets program used (code ∷ d ∷ r ∷ imm ∷ [])
     → Reading s from lent into next (line + 1) (used + 4)
 reading-goes s lent program into from cursor line used code d r imm next so room found put =
     let ns = code ∷ d ∷ r ∷ imm ∷ [] in
     let read : length (take used program) ≡ used = length-take-le used program (omega (arith, so .room)) in
     let four = body-four s (take used program) cursor line code d r imm next found (omega arith) in
-    let longer : used + 4 ≤ 1024 = omega (arith, so .lines) in
+    let longer : used + 4 ≤ programMost = omega (arith, so .lines) in
     let parts = sets-parts program ns used (omega (arith, so .room)) in
     let taken : take used program ++ ns ≡ take (used + 4) into = sym (parts .0) ∙ ap (take (used + 4)) (sym put) in
     record {
@@ -255,7 +255,7 @@ reading-stops s lent program from cursor line used so nothing =
     reading-done s lent program from cursor line used so (body-stop s (take used program) cursor line nothing)
 
 pub reading-ends : (s lent program : List ℕ) (from cursor line used : ℕ) → Reading s from lent program cursor line used
-    → 1024 ≤ used → Loads s from lent program cursor line used
+    → programMost ≤ used → Loads s from lent program cursor line used
 reading-ends s lent program from cursor line used so full =
     let read : length (take used program) ≡ used = length-take-le used program (omega (arith, so .room, so .places)) in
     reading-done s lent program from cursor line used so (body-full s (take used program) cursor line (omega arith))

@@ -1,9 +1,9 @@
 -- How a player's steps join. A step that reads no line (`goes-on`) and one that takes a line, which turns the phase (`turns-to`)
 -- or asks for a call (`calls`), each lead on (`Stepped`), and so every step does (`step-goes`); what a line asks for is `orders`.
 -- What is left to print is the piece printed and what is left after it, so pieces join by the associativity of ++
--- (`steps-go`). A player keeps what `Playing` says: each line read is a byte at least and adds at most 4,294,967,296 commits to
--- those counted or due. The weight falls: within a line by the rank, and past a line by 8,589,934,592, which is more than any
--- rank can rise (`fills-falls`).
+-- (`steps-go`). A player keeps what `Playing` says: each line read is a byte at least and adds at most its share (`lineShare`)
+-- to the commits counted or due. The weight falls: within a line by the rank, and past a line by `lineWeight`, which is more than
+-- any rank can rise (`fills-falls`).
 -- Assumes nothing.
 use mathlib.Core.Path.{_≡_, refl, sym, ap, ap₂, subst, _∙_}
 use mathlib.Core.Bool.{Bool, true, false, cond, true≢false}
@@ -41,13 +41,14 @@ use Rattle.script_model.specs.Language.{letterCode, withOne, withThree, 
 use Rattle.script_model.specs.Language.{stepOf, Steps, flawed, before, stepping}
 use Rattle.script_model.specs.Language.{steps}
 use Rattle.script_model.specs.Output.{commitLines, badLine, transcript}
-use Rattle.script_model.specs.Playing.{oneMore, askIn, orderBy, orderAt, player, QuietStep, toldBy, countedBy}
-use Rattle.script_model.specs.Playing.{phaseAfter, afterCall, CallStep, LineStep, StepIn, PlayerStep, longest}
+use Rattle.script_model.specs.Playing.{countMost, oneMore, askIn, orderBy, orderAt, player, QuietStep, toldBy}
+use Rattle.script_model.specs.Playing.{countedBy, phaseAfter, afterCall, CallStep, LineStep, StepIn, PlayerStep, longest}
 use Rattle.script_model.specs.Playing.{PlayerSteps, still, onward, Writes, isOver, Fills}
 use Rattle.script_model.specs.computed.Parts.{stepsAt}
 use Rattle.script_model.proofs.Writing.{writes-none, writes-then}
 use Rattle.script_model.proofs.Telling.{told-before}
-use Rattle.script_model.proofs.Invariant.{standing, leftIn, left, due, Usable, InUse, isPlaying, Playing, rank, weight}
+use Rattle.script_model.proofs.Invariant.{standing, leftIn, left, due, Usable, InUse, isPlaying, lineShare, Playing, rank}
+use Rattle.script_model.proofs.Invariant.{lineWeight, weight}
 use Rattle.script_model.proofs.CallOnPlayer.{Single, call-does}
 use Rattle.script_model.proofs.Phases.{Goes}
 use Rattle.script_model.proofs.Limits.{limit-reached, finish-made}
@@ -64,7 +65,7 @@ pub record Stepped (text program : List ℕ) (p : Player) (memory piece : List �
       → (left text program p memory ≡ piece ++ left text program q after) × Playing text program q after
 
 few-commits : {text program : List ℕ} {p : Player} {memory : List ℕ} → Playing text program p memory
-    → isPlaying (p .phase) ≡ true → p .commits < 18446744073709551615
+    → isPlaying (p .phase) ≡ true → p .commits < countMost
 few-commits playing plays = omega (arith, playing .fits plays, playing .within, playing .counted)
 
 -- a step that reads no line
@@ -184,14 +185,14 @@ leftBy program ask.Commit more x = transcript program x (before commit more)
 
 -- What was left to print is what is left where this is asked for; a line is a byte at least, and the weight falls.
 record Orders (text : List ℕ) (cursor line : ℕ) (order : Order) : Type 0 where
-  asks : line < 18446744073709551615 → (program : List ℕ) (m : Machine) (memory : List ℕ) (n : ℕ)
+  asks : line < countMost → (program : List ℕ) (m : Machine) (memory : List ℕ) (n : ℕ)
       → transcript program (standing m memory n) (stepsAt text cursor line)
       ≡ leftBy program (order .ask) (stepsAt text (order .cursor) (order .line)) (standing m memory n)
   within : cursor ≤ length text → order .cursor ≤ length text
-  shared : share (order .ask) + cursor * 4294967296 ≤ order .cursor * 4294967296
+  shared : share (order .ask) + cursor * lineShare ≤ order .cursor * lineShare
   numbered : order .line + cursor ≤ line + order .cursor
-  falls : (words : ℕ) → (length text - order .cursor) * 8589934592 + rank words (turnedTo (order .ask))
-      < (length text - cursor) * 8589934592 + rank words Stepping
+  falls : (words : ℕ) → (length text - order .cursor) * lineWeight + rank words (turnedTo (order .ask))
+      < (length text - cursor) * lineWeight + rank words Stepping
 
 -- what an item asks for is what its step leaves
 asks-step : (program : List ℕ) (m : Machine) (memory : List ℕ) (n : ℕ) (item : Item) (line : ℕ) (more : Steps)
@@ -220,9 +221,9 @@ rank-share words (ask.Execute k) = omega arith
 rank-share words (ask.Squash k) = omega arith
 rank-share words ask.Commit = omega arith
 
--- what this item of line n asks for: no more commits than a number of 32 bits says
+-- what this item of line n asks for: no more commits than its share
 abbrev Few : ℕ → Item → Type 0
-Few n item = share (askIn item n) ≤ 4294967296
+Few n item = share (askIn item n) ≤ lineShare
 
 few-one : (b k n : ℕ) → k ≤ largest → Few n (withOne b k)
 few-one b k n h =
@@ -249,13 +250,13 @@ few-parsed (b ∷ c ∷ bs) n =
     (few-lettered b n (fields largest bs) (λ ns e. written-fields largest bs ns e .1)) (omega arith)
 
 more-most : (n : ℕ) → oneMore n ≤ suc n
-more-most n = either (λ (k : ℕ). k ≤ suc n) (ltb n 18446744073709551615) (omega arith) (omega arith)
+more-most n = either (λ (k : ℕ). k ≤ suc n) (ltb n countMost) (omega arith) (omega arith)
 
-pub more-is : (n : ℕ) → n < 18446744073709551615 → oneMore n ≡ suc n
-more-is n few = ap (λ (b : Bool). cond b (suc n) n) (lt-ltb n 18446744073709551615 few)
+pub more-is : (n : ℕ) → n < countMost → oneMore n ≡ suc n
+more-is n few = ap (λ (b : Bool). cond b (suc n) n) (lt-ltb n countMost few)
 
-pub more-stays : (n : ℕ) → 18446744073709551615 ≤ n → oneMore n ≡ n
-more-stays n full = ap (λ (b : Bool). cond b (suc n) n) (le-ltb n 18446744073709551615 full)
+pub more-stays : (n : ℕ) → countMost ≤ n → oneMore n ≡ n
+more-stays n full = ap (λ (b : Bool). cond b (suc n) n) (le-ltb n countMost full)
 
 orders : (text : List ℕ) (cursor line : ℕ) → Orders text cursor line (orderAt text cursor line)
 orders text cursor line = go (lineAt text cursor) refl
@@ -323,7 +324,7 @@ module _ (text program : List ℕ) (cursor line n used : ℕ) (m : Machine) (mem
   abbrev order : Order
   order = orderAt text cursor line
 
-  numbers-few : Playing text program here memory → line < 18446744073709551615
+  numbers-few : Playing text program here memory → line < countMost
   numbers-few playing = omega (arith, playing .fits refl, playing .within, playing .numbered)
 
   -- where the line makes the player turn to another phase

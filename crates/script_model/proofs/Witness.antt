@@ -7,7 +7,7 @@ use mathlib.Core.Path.{_≡_, refl, sym}
 use mathlib.Core.Bool.{true, false≢true}
 use mathlib.Core.List.{List, [], _∷_, _++_}
 use mathlib.Core.Logic.{inl, inr}
-use Prim.Native.Nat.{ℕ, _<_}
+use Prim.Native.Nat.{ℕ, _-_, _<_}
 use native.Mathlib.Omega.{arith}
 use lib.ListN.{length, take, replicate}
 use lib.Seq.{sets}
@@ -15,13 +15,14 @@ use Rattle.text.specs.Decimal.{digits}
 use Rattle.text.specs.Fields.{bytes}
 use Rattle.text.specs.Lines.{feedIn, linesFrom, linesOf}
 use Rattle.marks.specs.Circle.{firsts}
-use Rattle.table.specs.Limits.{sizesFit}
+use Rattle.table.specs.Limits.{stagesMost, slots, sizesFit}
 use Rattle.table.specs.View.{markFate, tabulate}
 use Rattle.table.specs.computed.Check.{marksBelow, rowFits, lawfulBy}
 use Rattle.engine.specs.Contract.{refused, finished}
 use Rattle.machine_model.specs.declared.Machine.{Machine}
+use Rattle.machine_model.specs.Program.{perInstruction, programMost}
 use Rattle.machine_model.specs.Window.{blankEntry}
-use Rattle.machine_model.specs.Calls.{commit, finish}
+use Rattle.machine_model.specs.Calls.{commit, finish, perCommit}
 use Rattle.machine_model.specs.Contract.{freshMachine, Sound, Meets}
 use Rattle.machine_model.proofs.Opened.{fresh-sound}
 use Rattle.machine_model.proofs.Answering.{refused-meets, accepted-meets, validate-passes}
@@ -31,7 +32,8 @@ use Rattle.script_model.specs.declared.Phase.the-variants.{Over, Steppin
 use Rattle.script_model.specs.declared.Player.{Player}
 use Rattle.script_model.specs.Language.{codeFrom, steps, body, Script, script}
 use Rattle.script_model.specs.Output.{commitLines, closing, printed}
-use Rattle.script_model.specs.Playing.{player, QuietStep, StepIn, PlayerStep, still, onward, Fills, lineStart, Begins}
+use Rattle.script_model.specs.Playing.{player, QuietStep, StepIn, PlayerStep, longest, still, onward, Fills, lineStart}
+use Rattle.script_model.specs.Playing.{Begins}
 use Rattle.script_model.specs.Truth.{scriptPlayed, scriptRecord, Fillings, ready, filled, joined}
 use Rattle.script_model.specs.Message.{ascii}
 use Rattle.script_model.proofs.Invariant.{weight}
@@ -67,14 +69,14 @@ m₁ =
         live = 0;
         next = 1;
         executed = 0;
-        numbers = replicate 16 0;
-        addresses = replicate 64 0;
-        loads = replicate 64 0;
-        stores = replicate 64 0;
-        values = replicate 16 0;
-        taken = replicate 16 0;
+        numbers = replicate stagesMost 0;
+        addresses = replicate slots 0;
+        loads = replicate slots 0;
+        stores = replicate slots 0;
+        values = replicate stagesMost 0;
+        taken = replicate stagesMost 0;
       };
-      window = replicate 16 blankEntry;
+      window = replicate stagesMost blankEntry;
       registers = 0 ∷ 9 ∷ 0 ∷ 0 ∷ 0 ∷ 0 ∷ 0 ∷ 0 ∷ [];
       count = 1;
       next = 1;
@@ -92,11 +94,11 @@ refuses : Meets program m₀ commit (0 ∷ []) (refused 11) m₀ (0 ∷ []) []
 unfolding computing tabulate
 refuses = refused-meets program m₀ commit (0 ∷ []) 11 sound₀ refl
 
-finishes : Meets program m₀ (finish 1 (replicate 5 0)) (0 ∷ []) (finished 1) m₁ (0 ∷ []) (0 ∷ 1 ∷ 1 ∷ 9 ∷ 0 ∷ [])
+finishes : Meets program m₀ (finish 1 (replicate perCommit 0)) (0 ∷ []) (finished 1) m₁ (0 ∷ []) (0 ∷ 1 ∷ 1 ∷ 9 ∷ 0 ∷ [])
 unfolding computing tabulate markFate
 finishes =
-    accepted-meets program m₀ (finish 1 (replicate 5 0)) (0 ∷ []) m₁ (0 ∷ []) _ (finished 1) _ sound₀ refl tt refl refl refl refl
-    sound₁
+    accepted-meets program m₀ (finish 1 (replicate perCommit 0)) (0 ∷ []) m₁ (0 ∷ []) _ (finished 1) _ sound₀ refl tt refl refl
+    refl refl sound₁
 
 -- ---- the steps
 
@@ -146,7 +148,7 @@ last-step = step (inr (omega arith, quiet))
 
 -- the list that the program was read into
 abbrev own : List ℕ
-own = program ++ replicate 1020 0
+own = program ++ replicate (programMost - perInstruction) 0
 
 -- on a buffer of so many bytes, which it leaves with these at its start
 abbrev Filled : ℕ → Player → List ℕ → Player → Type 0
@@ -154,10 +156,10 @@ Filled size p bytes q =
     let out : List ℕ = replicate size 0 in
     Fills text own p (0 ∷ []) out q (0 ∷ []) (sets out 0 bytes) (length bytes)
 
-none-filled : Filled 127 (at Stepping 18 3 0 m₀) [] (at Stepping 18 3 0 m₀)
+none-filled : Filled (longest - 1) (at Stepping 18 3 0 m₀) [] (at Stepping 18 3 0 m₀)
 none-filled = filling-ends (filling-none text program _ _ _) (inr (omega arith)) own refl
 
-first-filled : Filled 128 (at Stepping 18 3 0 m₀) (ascii "0,A,1,9\n") (at (Finishing 0) 24 5 1 m₁)
+first-filled : Filled longest (at Stepping 18 3 0 m₀) (ascii "0,A,1,9\n") (at (Finishing 0) 24 5 1 m₁)
 unfolding ascii
 first-filled =
     let first : List ℕ = ascii "0,A,1,9\n" in
@@ -190,7 +192,7 @@ rest-filled =
 
 -- ---- the theorem
 
-begun : Begins text true (replicate 1024 0) (7 ∷ []) (at Stepping 18 3 0 m₀) own (0 ∷ [])
+begun : Begins text true (replicate programMost 0) (7 ∷ []) (at Stepping 18 3 0 m₀) own (0 ∷ [])
 unfolding ascii linesFrom codeFrom body steps bytes sizesFit feedIn lineStart computing
 begun = record { refuses = λ wrong. absurd (false≢true wrong); begins = λ _. (refl, refl, refl) }
 
@@ -204,7 +206,7 @@ pub written-there : take 8 (printed text) ≡ ascii "0,A,1,9\n"
 unfolding ascii linesFrom codeFrom body steps bytes sizesFit joined
 written-there =
     written-first
-    (pieces-are text true (replicate 1024 0) (7 ∷ []) (at Stepping 18 3 0 m₀) own (0 ∷ []) begun refl
+    (pieces-are text true (replicate programMost 0) (7 ∷ []) (at Stepping 18 3 0 m₀) own (0 ∷ []) begun refl
     ([] ∷ ascii "0,A,1,9\n" ∷ []) (at (Finishing 0) 24 5 1 m₁) (0 ∷ []) two-fillings)
 
 -- and after the third all that the sequential run tells
@@ -212,7 +214,7 @@ pub pieces-there : commitLines (scriptRecord s) ++ closing (scriptPlayed s) (s .
 unfolding ascii linesFrom codeFrom body steps bytes sizesFit joined
 pieces-there =
     sym
-    (pieces-tell text true (replicate 1024 0) (7 ∷ []) (at Stepping 18 3 0 m₀) own (0 ∷ []) begun refl
+    (pieces-tell text true (replicate programMost 0) (7 ∷ []) (at Stepping 18 3 0 m₀) own (0 ∷ []) begun refl
     ([] ∷ ascii "0,A,1,9\n" ∷ ascii "end,done,1\n" ∷ []) (at Over 24 5 1 m₁) (0 ∷ []) (filled two-fillings rest-filled) refl
     (omega arith) refl)
 

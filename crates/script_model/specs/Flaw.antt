@@ -13,7 +13,7 @@ use lib.ListN.{length, getD}
 use Rattle.text.specs.Fields.{largest, Open, empty, value}
 use Rattle.text.specs.Lines.{Lines, linesOf}
 use Rattle.table.specs.Limits.{banksMost, rowsMost, stagesMost, wordsMost}
-use Rattle.machine_model.specs.Program.{wellFormed}
+use Rattle.machine_model.specs.Program.{instructionsMost, lastRegister, wellFormed}
 use Rattle.script_model.specs.declared.Item.{Item}
 use Rattle.script_model.specs.declared.Item.the-variants.{Malformed, Sizes, Operation, Issue, Execute, Squash, Commit}
 use Rattle.script_model.specs.declared.Item.the-variants.{Finish}
@@ -100,12 +100,12 @@ unfit banks rows stages words =
     (why.Field 78 3 (Beyond rows)))
     (why.Field 78 2 (Beyond banks))
 
--- the leftmost register above 7
+-- the leftmost register that is none
 abbrev pub unformed : ℕ → ℕ → ℕ → ℕ → ℕ → Reason
 unformed letter code d s imm =
     cond (wellFormed code d s imm) why.Fine
-    (cond (leb d 7)
-    (cond (leb s 7) (why.Field letter 4 (Beyond imm)) (why.Field letter 3 (Beyond s)))
+    (cond (leb d lastRegister)
+    (cond (leb s lastRegister) (why.Field letter 4 (Beyond imm)) (why.Field letter 3 (Beyond s)))
     (why.Field letter 2 (Beyond d)))
 
 -- what is wrong with each kind of line in each part
@@ -143,12 +143,12 @@ reasonIn part (Finish k) line = ofStep part (getD line 0 0)
 
 -- the part of the line after an instruction, and after a step
 abbrev pub afterOperation : Part → Part
-afterOperation First = Program 256
+afterOperation First = Program instructionsMost
 afterOperation (Program room) = Program (room - 1)
 afterOperation Steps = Steps
 
 abbrev pub afterOther : Part → Part
-afterOther First = Program 256
+afterOther First = Program instructionsMost
 afterOther (Program room) = Steps
 afterOther Steps = Steps
 

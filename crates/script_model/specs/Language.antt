@@ -9,7 +9,7 @@ use lib.ListN.{length, getD, replicate}
 use Rattle.text.specs.Fields.{largest, fields}
 use Rattle.text.specs.Lines.{Lines}
 use Rattle.table.specs.Limits.{sizesFit}
-use Rattle.machine_model.specs.Program.{wellFormed}
+use Rattle.machine_model.specs.Program.{programMost, wellFormed}
 use Rattle.machine_model.specs.Calls.{Call, issue, execute, squash, commit, finish, perCommit}
 use Rattle.script_model.specs.declared.Item.{Item}
 use Rattle.script_model.specs.declared.Item.the-variants.{Malformed, Sizes, Operation, Issue, Execute, Squash, Commit}
@@ -115,7 +115,7 @@ abbrev pub numbersOf : List ℕ → Item → Option (List ℕ)
 numbersOf program Malformed = none
 numbersOf program (Sizes banks rows stages words) = none
 numbersOf program (Operation code d s imm) =
-    cond (ltb (length program) 1024 && wellFormed code d s imm) (some (code ∷ d ∷ s ∷ imm ∷ [])) none
+    cond (ltb (length program) programMost && wellFormed code d s imm) (some (code ∷ d ∷ s ∷ imm ∷ [])) none
 numbersOf program Issue = none
 numbersOf program (Execute k) = none
 numbersOf program (Squash k) = none

@@ -14,6 +14,7 @@ use Rattle.text.specs.Lines.{feed, lineAt, linesOf}
 use Rattle.table.specs.Limits.{sizesFit}
 use Rattle.engine.specs.Contract.{refused, named, executed, done, committed, finished}
 use Rattle.machine_model.specs.declared.Machine.{Machine}
+use Rattle.machine_model.specs.Program.{perInstruction, programMost}
 use Rattle.machine_model.specs.Calls.{Call, issue, execute, squash, commit, finish, Answer, perCommit}
 use Rattle.machine_model.specs.Contract.{plain, Meets, freshMachine}
 use Rattle.theorem.specs.Play.{commitsIn}
@@ -31,9 +32,13 @@ use Rattle.script_model.specs.Output.{committedLines, wordLine, ending, 
 
 -- ---- lines
 
--- one more in 64 bits; the largest number stays
+-- lines and commits are counted in 64 bits: the largest count
+abbrev pub countMost : ℕ
+countMost = 18446744073709551615
+
+-- one more; the largest count stays
 abbrev pub oneMore : ℕ → ℕ
-oneMore n = cond (ltb n 18446744073709551615) (suc n) n
+oneMore n = cond (ltb n countMost) (suc n) n
 
 -- what this item of line n asks for; any item that is no step makes a bad line
 abbrev pub askIn : Item → ℕ → Ask
@@ -197,11 +202,11 @@ scriptOf text = cond (ltb most (length text)) unread (script (linesOf text))
 abbrev pub wordsOf : List ℕ → ℕ
 wordsOf text = scriptOf text .words
 
--- The lent program has fewer than 1,024 places, the lent memory is not of W words, or what was lent of the text may not be all of
--- it and could still be a script.
+-- The lent program has no room for the longest program, the lent memory is not of W words, or what was lent of the text may not
+-- be all of it and could still be a script.
 abbrev pub wronglyLent : List ℕ → Bool → List ℕ → List ℕ → Bool
 wronglyLent text whole program memory =
-    ltb (length program) 1024 || not (eqb (length memory) (wordsOf text)) || (not whole && leb (length text) most)
+    ltb (length program) programMost || not (eqb (length memory) (wordsOf text)) || (not whole && leb (length text) most)
 
 -- where line k begins, the first of which is line 0: behind the line feed of the line before
 unfoldable pub lineStart : List ℕ → ℕ → ℕ
@@ -223,8 +228,8 @@ abbrev pub firstPlayer : List ℕ → Player
 firstPlayer text =
     let s = scriptOf text in
     cond (ltb most (length text)) (idle (Bad 0))
-    (cond (sizesFit (s .banks) (s .rows) (s .stages) (s .words)) (openedPlayer text s (length (s .body .program) / 4))
-    (idle (Bad 1)))
+    (cond (sizesFit (s .banks) (s .rows) (s .stages) (s .words))
+    (openedPlayer text s (length (s .body .program) / perInstruction)) (idle (Bad 1)))
 
 -- A call of `begin`, where `whole` says that the text lent is all of the input. Lent wrongly, nothing is changed and the player
 -- is over. Otherwise the script's program stands at the start of the lent one and memory is zeros.

@@ -8,6 +8,9 @@ pub const MOST: usize = 65536;
 
 pub const LINE: usize = 128;
 
+// The largest count of lines and of commits.
+pub const COUNT: u64 = 18446744073709551615;
+
 // The letters of instructions by their codes; 0 is no code.
 pub const LETTERS: [u8; 7] = [0, b'A', b'P', b'L', b'S', b'B', b'H'];
 
@@ -94,7 +97,7 @@ pub enum Part {
 }
 
 // What is wrong with a field: nothing, it is empty, it has an extra leading zero, this byte is no digit, it is above
-// 4294967295, or its number is outside the field's limits.
+// the largest number, or its number is outside the field's limits.
 pub enum Defect {
     Sound,
     Missing,

@@ -1,4 +1,5 @@
 // Reading a script: what a line says, the sizes of the first line, and the program after it.
+use machine_model::PER_INSTRUCTION;
 use machine_model::PROGRAM;
 use script_model::Found;
 use script_model::Item;
@@ -13,7 +14,9 @@ ghost use Prim.Native.Nat.{_+_, _≤_, _<_};
 ghost use lib.ListN.{length};
 ghost use lib.Seq.{slice};
 ghost use Rattle.text.specs.Lines.{lineAt};
-ghost use Rattle.text.specs.computed.Reader.{parsedFields};
+ghost use Rattle.text.specs.computed.Reader.{capacity, parsedFields};
+ghost use Rattle.table.specs.Limits.{wordsMost};
+ghost use Rattle.machine_model.specs.Program.{programMost};
 ghost use Rattle.script_model.specs.declared.Found.the-variants.{Nothing};
 ghost use Rattle.script_model.specs.declared.Item.the-variants.{Malformed};
 ghost use Rattle.script_model.specs.Language.{letterCode, alone, withOne, withThree, withFour, lettered, parsedLine};
@@ -105,7 +108,7 @@ fn say_four(b: u8, banks: u32, rows: u32, stages: u32, words: u32) -> Item
 
 // A letter and these fields.
 fn say_fields(b: u8, n: Numbers) -> Item
-    requires { ⌜ n .count ≤ 64 ⌝ }
+    requires { ⌜ n .count ≤ capacity ⌝ }
     ensures { λ r. ⌜ r ≡ lettered b (parsedFields n) ⌝ }
 {
     let k = n.count;
@@ -208,7 +211,7 @@ fn find_operation(s: &[u8], at: usize) -> Found
 // How many words of memory the script asks for; 0 where its first line is bad.
 pub fn words_of(s: &[u8]) -> usize
     ensures { λ r. ⌜ r ≡ wordsOf (now (s .entry)) ⌝ }
-    ensures { λ r. ⌜ r ≤ 4096 ⌝ }
+    ensures { λ r. ⌜ r ≤ wordsMost ⌝ }
 {
     if MOST < s.len() {
         return 0;
@@ -222,7 +225,7 @@ pub fn words_of(s: &[u8]) -> usize
 
 // Reads the instructions from `from` on, where line 2 begins.
 pub fn read_program(s: &[u8], from: usize, program: &mut [u32]) -> Loaded
-    requires { ⌜ 1024 ≤ length (now program) ⌝ }
+    requires { ⌜ programMost ≤ length (now program) ⌝ }
     ensures { λ r. ⌜ Loads (now (s .entry)) from (now (program .entry)) (now (program .exit)) (r .cursor) (r .line) (r .used) ⌝ }
 {
     let mut cursor = from;
@@ -236,7 +239,7 @@ pub fn read_program(s: &[u8], from: usize, program: &mut [u32]) -> Loaded
             }
             Found::Four(code, d, r, imm, next) => {
                 machine_isa::put_four(program, used, code, d, r, imm);
-                used += 4;
+                used += PER_INSTRUCTION;
                 line += 1;
                 cursor = next;
             }

@@ -3,6 +3,7 @@ use machine_model::Entry;
 use machine_model::FinishAnswer;
 use machine_model::Machine;
 use script_model::Ask;
+use script_model::COUNT;
 use script_model::Ending;
 use script_model::Item;
 use script_model::Order;
@@ -22,7 +23,7 @@ ghost use Rattle.script_model.specs.Playing.{oneMore, askIn, orderAt, wordLineA
 pub fn one_more(n: u64) -> u64
     ensures { λ r. ⌜ r ≡ oneMore n ⌝ }
 {
-    if n < 18446744073709551615 {
+    if n < COUNT {
         return n + 1;
     }
     n

@@ -1,6 +1,8 @@
 // Plays scripts and compares what they print. The arguments are pairs of files: a script, and what it must print (at most 4,000
 // bytes). A script that prints something else is shown with both outputs.
 use libc::STDOUT_FILENO;
+use machine_model::PROGRAM;
+use table::WORDS;
 ghost use Prim.Native.Nat.{_≤_};
 ghost use lib.ListN.{length};
 ghost use Rattle.io.specs.Counts.{Counts};
@@ -61,8 +63,8 @@ fn play_pair(i: usize, j: usize) -> u64
     let n = read_named(i, &mut text);
     let mut wanted = io::buffer();
     let m = read_named(j, &mut wanted);
-    let mut program = [0u32; 1024];
-    let mut memory = [0u32; 4096];
+    let mut program = [0u32; PROGRAM];
+    let mut memory = [0u32; WORDS];
     let mut out = io::buffer();
     let words = script::words_of(&text[..n]);
     let end = play(&text[..n], &mut program, &mut memory[0..words], &mut out);

@@ -7,6 +7,7 @@ use native.Mathlib.Nat.{sub-zero}
 use native.Mathlib.Omega.{arith}
 use lib.ListN.{length}
 use borrow.Author.Needs.{needs}
+use Rattle.machine_model.specs.Program.{programMost}
 use Rattle.script_model.specs.Playing.{wronglyLent}
 use Rattle.script_model.proofs.Beginnings.{lent-rightly, begins-over, begins-long, begins-headless, begins-open}
 use Rattle.script.proofs.begin.Statement.{statement}
@@ -18,7 +19,7 @@ right-at : (c : tie.Else1)
     wronglyLent (a .s .now) (a .whole) (a .program .now) (a .memory .now) ≡ false
 right-at c = sym (c .before .wrongly-lent .ensures) ∙ c .if1 .left
 
-room-at : (c : tie.Else1) → 1024 ≤ length (c .before .before .before .before .before .before .before .args .program .now)
+room-at : (c : tie.Else1) → programMost ≤ length (c .before .before .before .before .before .before .before .args .program .now)
 room-at c =
     let a = c .before .before .before .before .before .before .before .args in
     lent-rightly (a .s .now) (a .whole) (a .program .now) (a .memory .now) (right-at c) .0

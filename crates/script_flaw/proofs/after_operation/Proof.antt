@@ -9,11 +9,13 @@ use Rattle.script_flaw.proofs.after_operation.Tie as tie
 returns : tie.Need-returns
 returns c = rw (c .before .before .part .given .1)
 
+returns-2 : tie.Need-returns-2
+returns-2 c = rw (c .enum-told .given .1)
+
 returns-3 : tie.Need-returns-3
 returns-3 c = rw (c .before .before .part .given .1) (ap Program (omega arith))
 
 pub after-operation-spec : {M : Type 1} → statement M
 after-operation-spec =
     tie.close
-    (tie.spec (search needs) (search needs) (search needs) returns (search needs) (λ c. search needs) returns-3
-    (λ c. search needs))
+    (tie.spec (search needs) (search needs) (search needs) returns (search needs) returns-2 returns-3 (λ c. search needs))

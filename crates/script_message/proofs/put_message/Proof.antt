@@ -4,7 +4,7 @@ use mathlib.Core.Path.{sym, _∙_}
 use native.Mathlib.Omega.{arith}
 use lib.ListN.{length}
 use borrow.Author.Tests.{lt-ltb, le-ltb}
-use Rattle.script_model.specs.Message.{ascii}
+use Rattle.script_model.specs.Message.{ascii, messageRoom}
 use Rattle.script_model.proofs.Writing.{writes-then, writes-none}
 use borrow.Author.Needs.{needs}
 use Rattle.script_message.proofs.put_message.Statement.{statement}
@@ -18,7 +18,7 @@ returns c =
 returns-2 : tie.Need-returns-2
 returns-2 c =
     let a = c .before .before .before .before .args in (
-      rw (sym (c .before .before .is-fine .ensures) ∙ c .before .if1 .left, lt-ltb (length (a .out .now)) 256 (c .if2 .taken))
+      rw (sym (c .before .before .is-fine .ensures) ∙ c .before .if1 .left, lt-ltb (length (a .out .now)) messageRoom (c .if2 .taken))
           (writes-none (a .out .now) 0),
       omega arith,
     )
@@ -40,7 +40,7 @@ returns-3 c =
     let a = room .before .before .before .before .args in (
       rw (
         sym (room .before .before .is-fine .ensures) ∙ room .before .if1 .left,
-        le-ltb (length (a .out .now)) 256 (room .if2 .left),
+        le-ltb (length (a .out .now)) messageRoom (room .if2 .left),
       )
           (writes-then (writes-then (writes-then (writes-then (p0 .0) (p1 .0)) (p2 .0)) (p3 .0)) (p4 .0)),
       omega (arith, p0 .1, p1 .1, p2 .1, p3 .1, p4 .1, room .if2 .left),

@@ -10,7 +10,7 @@ use Rattle.text.specs.declared.Line.{Line}
 use Rattle.text.specs.declared.Line.the-variants.{End, Unended, Whole}
 use Rattle.text.specs.Lines.{lineAt, linesOf}
 use Rattle.table.specs.Limits.{sizesFit}
-use Rattle.machine_model.specs.Program.{wellFormed}
+use Rattle.machine_model.specs.Program.{perInstruction, programMost, wellFormed}
 use Rattle.script_model.specs.declared.Item.{Item}
 use Rattle.script_model.specs.declared.Item.the-variants.{Malformed, Sizes, Operation, Issue, Execute, Squash, Commit}
 use Rattle.script_model.specs.declared.Item.the-variants.{Finish}
@@ -57,9 +57,9 @@ bodyAt s at n program = let ls = linesOf (drop at s) in body n program (ls .whol
 -- steps begin at `cursor` with this number.
 pub record Loads (s : List ℕ) (from : ℕ) (program into : List ℕ) (cursor line used : ℕ) : Type 0 where
   pub body-is : bodyAt s from 2 [] ≡ record { program = take used into; steps = stepsAt s cursor line }
-  pub places : used ≤ 1024
+  pub places : used ≤ programMost
   pub rest : into ≡ take used into ++ drop used program
-  pub lines : line * 4 ≡ used + 8
+  pub lines : line * perInstruction ≡ used + 2 * perInstruction
   pub starts : from ≡ lineStart s 1 → cursor ≡ lineStart s (line - 1)
   pub within : from ≤ length s → cursor ≤ length s
   pub numbered : line + from ≤ cursor + 2

@@ -6,6 +6,7 @@ use Prim.Native.Nat.{_+_, _-_, _≤_}
 use native.Mathlib.Omega.{arith}
 use lib.ListN.{length}
 use borrow.Author.Needs.{needs}
+use Rattle.machine_model.specs.Program.{perInstruction, programMost}
 use Rattle.script_model.proofs.Programs.{Reading, reading-all, reading-goes, reading-stops, reading-ends}
 use Rattle.script_reading.proofs.read_program.Statement.{statement}
 use Rattle.script_reading.proofs.read_program.Tie as tie
@@ -15,12 +16,12 @@ Inv-loop s from program₀ cursor₀ line₀ used₀ program cursor line used =
     (length program ≡ length program₀) × Reading s from program₀ program cursor line used
 
 abbrev μ-loop : tie.MeasureT-loop
-μ-loop s from program₀ cursor₀ line₀ used₀ program cursor line used = 1024 - used
+μ-loop s from program₀ cursor₀ line₀ used₀ program cursor line used = programMost - used
 
 -- four places are left wherever one is
 room-at : (c : tie.In-loop Inv-loop μ-loop)
     → let l = c .before .loop in
-    l .used + 4 ≤ length (l .program)
+    l .used + perInstruction ≤ length (l .program)
 room-at c =
     let l = c .before .loop in
     omega (arith, c .loop-test .taken, l .inv .1 .lines, l .inv .1 .room)

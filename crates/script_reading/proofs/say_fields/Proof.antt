@@ -8,6 +8,7 @@ use lib.Dec.{eqb}
 use lib.ListN.{length, getD}
 use borrow.Author.Needs.{needs}
 use borrow.Author.Tests.{eqb-true, eqb-false}
+use Rattle.text.specs.computed.Reader.{capacity}
 use Rattle.script_model.specs.declared.Item.{Item}
 use Rattle.script_model.specs.declared.Item.the-variants.{Malformed}
 use Rattle.script_model.specs.Language.{withOne, withThree, withFour}
@@ -22,7 +23,7 @@ chosen b vs one three four =
     (cond three (withThree b (getD vs 0 0) (getD vs 1 0) (getD vs 2 0))
     (cond four (withFour b (getD vs 0 0) (getD vs 1 0) (getD vs 2 0) (getD vs 3 0)) Malformed))
 
-said : (b : ℕ) (good : Bool) (count : ℕ) (vs : List ℕ) → length vs ≡ 64 → count ≤ 64
+said : (b : ℕ) (good : Bool) (count : ℕ) (vs : List ℕ) → length vs ≡ capacity → count ≤ capacity
     → chosen b vs (good && eqb count 1) (good && eqb count 3) (good && eqb count 4) ≡ heard b good count vs
 said b false count vs long h = no-numbers b false count vs refl
 said b true count vs long h = go (eqb count 1) (eqb count 3) (eqb count 4) refl refl refl

@@ -6,6 +6,7 @@ use Prim.Native.Nat.{_<_}
 use native.Mathlib.Omega.{arith}
 use lib.ListN.{length, length-map}
 use borrow.Author.Needs.{needs}
+use Rattle.table.specs.Limits.{stagesMost}
 use Rattle.machine_model.specs.Contract.{plain}
 use Rattle.script_model.specs.declared.Ending.the-variants.{Open, Fault}
 use Rattle.script_model.specs.Output.{ending}
@@ -18,7 +19,7 @@ live-at : (c : tie.Else1) → 0 < c .before .before .args .m .table .live
 live-at c = search needs
 
 -- the window's length
-window-length : (c : tie.Start) → length (c .args .m .window) ≡ 16
+window-length : (c : tie.Start) → length (c .args .m .window) ≡ stagesMost
 window-length c = simp length-map at (c .good .0 .1 .1 .1 .0 .1 .0 .1)
 
 returns : tie.Need-returns
