@@ -1,16 +1,18 @@
 -- A script for each reason, and its message, computed. A script too long to write out stands in the last two rows by its flaw.
+-- Behind them, that the largest number is written as it is.
 -- Assumes nothing.
 use mathlib.Core.Path.{_≡_, refl}
 use mathlib.Core.List.{List, [], _∷_}
 use Prim.Native.String.{String, _++_ as _&_}
-use Rattle.text.specs.Decimal.{digits}
-use Rattle.text.specs.Fields.{bytes}
+use Rattle.text.specs.Decimal.{digits, decimal}
+use Rattle.text.specs.Fields.{largest, fieldsText, bytes}
 use Rattle.text.specs.Lines.{linesFrom}
+use Rattle.text.proofs.Trip.{written-fields}
 use Rattle.script_model.specs.declared.Reason.the-variants.{TooLong, Full}
 use Rattle.script_model.specs.declared.Flaw.{Flaw}
 use Rattle.script_model.specs.Language.{codeFrom}
 use Rattle.script_model.specs.Flaw.{commas, noNumber, flawAt, flawFrom, flawOf}
-use Rattle.script_model.specs.Message.{ascii, messageText}
+use Rattle.script_model.specs.Message.{ascii, largestText, messageText}
 
 -- what is found, and the message that it should have
 record Row : Type 0 where
@@ -79,3 +81,8 @@ messages-are =
     refl also refl also refl also refl also refl also refl also refl also refl also refl also refl also
     refl also refl also refl also refl also refl also refl also refl also refl also refl also refl also
     refl also refl also refl also tt
+
+-- "4294967295" reads as the largest number, and what reads as a number is its decimal
+pub largest-written : largestText ≡ decimal largest
+unfolding ascii bytes fieldsText
+largest-written = written-fields largest largestText (largest ∷ []) refl .0

@@ -1,20 +1,24 @@
 -- The message that says why a script is bad: `arb: line N: `, what is wrong, found and expected, and a line feed.
--- proofs/MessageExamples.antt has a script for each reason with its message.
+-- Limits are written from their names, so that a message tells the limit that there is. proofs/MessageExamples.antt has a script
+-- for each reason with its message.
 -- Assumes nothing.
 use mathlib.Core.Bool.{cond, _&&_}
 use mathlib.Core.List.{List, _++_, [] as nothing, _∷_ as _then_}
-use Prim.Native.Nat.{ℕ}
+use Prim.Native.Nat.{ℕ, suc}
 use Prim.Native.Char.{code}
 use Prim.Native.String.{String, [], _∷_}
 use lib.Dec.{eqb, leb, ltb}
 use lib.ListN.{length}
 use Rattle.text.specs.Decimal.{decimal}
+use Rattle.table.specs.Limits.{banksMost, rowsMost, stagesMost, wordsMost}
+use Rattle.machine_model.specs.Program.{instructionsMost, lastRegister}
 use Rattle.script_model.specs.declared.Defect.{Defect}
 use Rattle.script_model.specs.declared.Defect.the-variants.{Sound, Missing, Zero, Stray, Large, Beyond}
 use Rattle.script_model.specs.declared.Reason.{Reason}
 use Rattle.script_model.specs.declared.Reason.the-variants.{Fine, TooLong, NoInput, Blank, Unended, CarriageReturn, NoSizes}
 use Rattle.script_model.specs.declared.Reason.the-variants.{SizesAgain, Letter, Glued, Count, Field, Full, Late}
 use Rattle.script_model.specs.declared.Flaw.{Flaw}
+use Rattle.script_model.specs.Output.{most}
 use Rattle.script_model.specs.Flaw.{arity, isFine}
 
 -- the bytes of a text of ASCII characters
@@ -43,14 +47,25 @@ nameText b k =
     cond (eqb (arity b) 5) (ofFour k (ascii "banks") (ascii "rows") (ascii "stages") (ascii "words"))
     (cond (eqb (arity b) 4) (ofFour k (ascii "d") (ascii "s") (ascii "imm") (ascii "imm")) (ascii "k"))
 
--- the limits of its number
+-- the limits of its number: one of the numbers of banks, one from 1 up to a limit, or a register
+abbrev pub banksText : List ℕ
+banksText = ascii "1, 2, 4 or " ++ decimal banksMost
+
+abbrev pub upTo : ℕ → List ℕ
+upTo n = ascii "1 to " ++ decimal n
+
+abbrev pub registerText : List ℕ
+registerText = ascii "a register from 0 to " ++ decimal lastRegister
+
 abbrev pub limitText : ℕ → ℕ → List ℕ
-limitText b k =
-    cond (eqb (arity b) 5) (ofFour k (ascii "1, 2, 4 or 8") (ascii "1 to 8") (ascii "1 to 16") (ascii "1 to 4096"))
-    (ascii "a register from 0 to 7")
+limitText b k = cond (eqb (arity b) 5) (ofFour k banksText (upTo rowsMost) (upTo stagesMost) (upTo wordsMost)) registerText
+
+-- the decimal of `largest` (`largest-written`, proofs/MessageExamples.antt), which takes too long to compute
+abbrev pub largestText : List ℕ
+largestText = ascii "4294967295"
 
 abbrev pub numberText : List ℕ
-numberText = ascii "a number from 0 to 4294967295 without extra leading zeros"
+numberText = ascii "a number from 0 to " ++ largestText ++ ascii " without extra leading zeros"
 
 -- what a field is, and what it should be
 abbrev pub foundText : Defect → List ℕ
@@ -58,7 +73,7 @@ foundText Sound = nothing
 foundText Missing = ascii "nothing"
 foundText Zero = ascii "an extra leading zero"
 foundText (Stray b) = byteText b
-foundText Large = ascii "a number above 4294967295"
+foundText Large = ascii "a number above " ++ largestText
 foundText (Beyond v) = decimal v
 
 abbrev pub expectedText : ℕ → ℕ → Defect → List ℕ
@@ -81,7 +96,7 @@ countText b n =
 
 abbrev pub reasonText : Reason → List ℕ
 reasonText Fine = nothing
-reasonText TooLong = ascii "found over 65536 bytes of input, expected at most 65536"
+reasonText TooLong = ascii "found over " ++ decimal most ++ ascii " bytes of input, expected at most " ++ decimal most
 reasonText NoInput = ascii "found no input, expected 'N,banks,rows,stages,words'"
 reasonText Blank = ascii "found an empty line, expected a letter"
 reasonText Unended = ascii "found the end of input, expected a line feed first"
@@ -92,7 +107,8 @@ reasonText (Letter b) = ascii "found " ++ byteText b ++ ascii ", expected A, P, 
 reasonText (Glued b c) = ascii "found " ++ byteText c ++ ascii " behind the letter, expected " ++ formText b
 reasonText (Count b n) = countText b n
 reasonText (Field b k d) = fieldText b k d
-reasonText Full = ascii "found a 257th instruction, expected at most 256"
+reasonText Full =
+    ascii "found a " ++ decimal (suc instructionsMost) ++ ascii "th instruction, expected at most " ++ decimal instructionsMost
 reasonText Late = ascii "found an instruction after a step, expected a step"
 
 abbrev pub messageText : Flaw → List ℕ

@@ -2,6 +2,7 @@
 -- Assumes nothing.
 use mathlib.Core.Path.{ap}
 use native.Mathlib.Omega.{arith}
+use Rattle.text.specs.Decimal.{digits}
 use Rattle.script_model.specs.Message.{ascii, reasonText}
 use Rattle.script_model.proofs.Writing.{writes-then, writes-none}
 use Rattle.script_model.proofs.Messages.{writes-as, writes-in}
@@ -20,7 +21,7 @@ glued c =
     )
 
 pub put-reason-spec : {M : Type 1} → statement M
-unfolding ascii
+unfolding ascii digits
 put-reason-spec =
     tie.close
     (tie.spec (search needs) (search needs) (search needs) (search needs) (search needs) (search needs) (search needs)

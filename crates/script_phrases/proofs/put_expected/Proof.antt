@@ -1,6 +1,7 @@
--- `script_phrases::put_expected` meets its contract: one of the limits, or any number.
+-- `script_phrases::put_expected` meets its contract: one of the limits, whose texts are computed from their names, or any number.
 -- Assumes nothing.
 use native.Mathlib.Omega.{arith}
+use Rattle.text.specs.Decimal.{digits}
 use Rattle.script_model.specs.Message.{ascii}
 use Rattle.script_model.proofs.Messages.{writes-as}
 use borrow.Author.Needs.{needs}
@@ -8,7 +9,7 @@ use Rattle.script_phrases.proofs.put_expected.Statement.{statement}
 use Rattle.script_phrases.proofs.put_expected.Tie as tie
 
 returns : tie.Need-returns
-unfolding ascii
+unfolding ascii digits
 returns c =
     let p = c .before .before .put .ensures in
     let five = c .before .before .before in
