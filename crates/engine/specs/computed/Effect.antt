@@ -13,18 +13,18 @@ use Rattle.engine.specs.declared.Action.the-variants.{Compute, LoadAt, S
 use Rattle.engine.specs.Part.{wordOf, whole}
 use Rattle.engine.specs.declared.Effect.{Effect}
 
--- the number of the word that an action goes to; any, 0, where it goes to none
+-- the number of the word that an action takes; any, 0, where it takes none
 abbrev pub wordAddress : Action → ℕ
 wordAddress (Compute v) = 0
 wordAddress (LoadAt a) = a
-wordAddress (StoreAt a v) = a
+wordAddress (StoreAt a v) = 0
 wordAddress (PartAt part b v) = wordOf b
 
 -- what stands there below the table: the memory's word
 abbrev pub wordBelow : List ℕ → Action → ℕ
 wordBelow memory act = getD memory (wordAddress act) 0
 
--- what an action comes to at position p of a table with these parts, where `below` stands below the table at its word
+-- what an action comes to at position p of a table with these parts, where the word that it takes is `below` under the table
 abbrev pub effectOf : ℕ → ℕ → ℕ → ℕ → ℕ → List ℕ → List ℕ → List ℕ → List ℕ → List ℕ → ℕ → ℕ → Action → Effect
 effectOf banks rows stages oldest live addresses loads stores values taken p below (Compute v) =
     record { load = false; store = false; row = 0; word = 0; left = live; value = v; address = 0; distance = 0; taken = 0 }
