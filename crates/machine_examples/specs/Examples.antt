@@ -188,8 +188,7 @@ openings =
     ∷ sized 1 0 1 1 (refused 1) ∷ sized 1 9 1 1 (refused 1)
     ∷ sized 1 1 0 1 (refused 1) ∷ sized 1 1 17 1 (refused 1)
     ∷ sized 1 1 1 0 (refused 1) ∷ sized 1 1 1 4097 (refused 1)
-    -- 1,024 numbers pass; 1,025, 1,026 and 1,028 are refusal 1, also where they are no multiple of 4
-    ∷ reads (replicate 1024 1) done
+    -- 1,025, 1,026 and 1,028 numbers are refusal 1, also where they are no multiple of 4
     ∷ reads (replicate 1025 1) (refused 1) ∷ reads (replicate 1026 1) (refused 1) ∷ reads (replicate 1028 1) (refused 1)
     -- memory length is not W
     ∷ opens 1 4 4 8 script (replicate 7 0) (refused 3) ∷ opens 1 4 4 8 script (replicate 9 0) (refused 3)
@@ -210,6 +209,10 @@ openings =
     ∷ opens 1 1 1 1 (replicate 1028 0) (0 ∷ []) (refused 1)
     ∷ opens 1 1 1 1 (A 8 0 0) [] (refused 3)
     ∷ []
+
+-- 1,024 numbers pass
+unfoldable pub longest : Example
+longest = reads (replicate 1024 1) done
 
 -- ---- refusals of the later calls
 unfoldable pub refusals : List Example
@@ -716,6 +719,9 @@ damaged =
     ∷ asks commit (committed 3 1 1 5 0) ∷ asks commit (committed 2 1 1 5 0) ∷ []))
     ∷ []
 
--- the whole table
+-- the whole table, the longest program first
+abbrev pub shorter : List Example
+shorter = openings ++ refusals ++ unlikes ++ runs ++ parts ++ distances ++ sameWords ++ numberings ++ damaged
+
 abbrev pub examples : List Example
-examples = openings ++ refusals ++ unlikes ++ runs ++ parts ++ distances ++ sameWords ++ numberings ++ damaged
+examples = longest ∷ shorter
