@@ -1,5 +1,6 @@
 -- Opening: how the contract `Opens` is met. A fresh machine's table is a fresh one, with no live reference, so nothing is to
--- agree, its list of entries is empty, and the table keeps its rules where the sizes fit. Assumes nothing.
+-- agree, its list of entries is empty, and the table keeps its rules where the sizes fit. The limits of a program are 01's.
+-- Assumes nothing.
 use mathlib.Core.Bool.{true}
 use mathlib.Core.List.{List}
 use mathlib.Core.Path.{_≡_, refl, sym, ap, _∙_}
@@ -10,7 +11,7 @@ use Rattle.table.specs.View.{tabulate}
 use Rattle.engine.specs.Contract.{refused, done}
 use Rattle.engine.specs.Conditions.{refusal}
 use Rattle.engine.proofs.Opening.{fresh-rules}
-use Rattle.machine_model.specs.Program.{perInstruction}
+use Rattle.machine_model.specs.Program.{perInstruction, instructionsMost, programMost, registersMost}
 use Rattle.machine_model.specs.Calls.{Opening, banked, buffered, openChecks, opened}
 use Rattle.machine_model.specs.Contract.{freshMachine, plain, Sound, Opens}
 
@@ -40,3 +41,8 @@ module _ (o : Opening) (program w : List ℕ) where
         opens = λ _. (refl, refl);
         state = λ _. (fresh-sound o (length program / perInstruction) fit, fresh-plain o program);
       }
+
+-- 01's numbers: "a program has 0 to 256 instructions, four 32-bit numbers each", "a program of more than 1,024 numbers", "eight
+-- registers"
+pub program-limits : (instructionsMost ≡ 256) × (perInstruction ≡ 4) × (programMost ≡ 1024) × (registersMost ≡ 8)
+program-limits = (refl, refl, refl, refl)
