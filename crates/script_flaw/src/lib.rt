@@ -20,6 +20,7 @@ ghost use Prim.Native.Nat.{_+_, _≤_, _<_};
 ghost use lib.ListN.{length, getD};
 ghost use lib.Seq.{slice};
 ghost use Rattle.text.specs.Fields.{empty};
+ghost use Rattle.machine_model.specs.Calls.{banked};
 ghost use Rattle.script_model.specs.declared.Defect.the-variants.{Beyond};
 ghost use Rattle.script_model.specs.declared.Reason.the-variants.{Fine, Field};
 ghost use Rattle.script_model.specs.Flaw.{arity, commas, digitTook, took, noNumber, malformed, noSizes, unfit, unformed};
@@ -220,7 +221,7 @@ fn leftmost(
 
 // The leftmost of the sizes outside its limits.
 fn find_unfit(banks: u32, rows: u32, stages: u32, words: u32) -> Reason
-    ensures { λ r. ⌜ r ≡ unfit banks rows stages words ⌝ }
+    ensures { λ r. ⌜ r ≡ unfit (banked banks rows stages words) ⌝ }
 {
     leftmost(
         b'N',
@@ -237,7 +238,7 @@ fn find_unfit(banks: u32, rows: u32, stages: u32, words: u32) -> Reason
 
 // What is wrong with a line of sizes at its place.
 fn of_sizes(part: Part, banks: u32, rows: u32, stages: u32, words: u32) -> Reason
-    ensures { λ r. ⌜ r ≡ ofSizes part banks rows stages words ⌝ }
+    ensures { λ r. ⌜ r ≡ ofSizes part (banked banks rows stages words) ⌝ }
 {
     match part {
         Part::First => find_unfit(banks, rows, stages, words),

@@ -1,6 +1,6 @@
 -- What `begin` hands back meets its contract, by the way it goes: lent wrongly it is over (begins-over); a text that is too long
--- or has a bad first line prints one bad line (begins-long, begins-headless); otherwise the machine was opened on the script's
--- sizes, its program and zeros (begins-open). And what it hands back is the beginning of the script: all of its output is left
+-- or has a bad first line prints one bad line (begins-long, begins-headless); otherwise the machine was opened as the first line
+-- asks, with the script's program and zeros (begins-open). And what it hands back is the beginning of the script: all of its output is left
 -- to print, and the player may go on (begins-left). For that the steps of a script begin behind as many lines as its program
 -- has instructions (body-behind), and the opening passes its checks (Openings), so the machine is sound and linked. Assumes
 -- nothing.
@@ -19,24 +19,25 @@ use Rattle.table.specs.Limits.{sizesFit}
 use Rattle.engine.specs.Conditions.{refusal}
 use Rattle.machine_model.specs.declared.Machine.{Machine}
 use Rattle.machine_model.specs.Program.{perInstruction, programMost}
-use Rattle.machine_model.specs.Calls.{Plain, Answer, openChecks}
-use Rattle.machine_model.specs.Contract.{Opens, freshMachine}
+use Rattle.machine_model.specs.Calls.{Opening, banked, buffered, Plain, Answer, openChecks}
+use Rattle.machine_model.specs.Contract.{freshMachine, tabled, Opens}
 use Rattle.machine_model.proofs.Opened.{fresh-sound, fresh-plain}
 use Rattle.theorem.specs.Play.{play, start}
-use Rattle.theorem.specs.computed.Linked.{Linked}
+use Rattle.theorem.proofs.Owing.{Linked}
+use Rattle.theorem.proofs.Buffered.{buffer-owes}
 use Rattle.theorem.proofs.Linking.{linked-open}
 use Rattle.script_model.specs.declared.Found.{Found}
 use Rattle.script_model.specs.declared.Found.the-variants.{Nothing, Four}
 use Rattle.script_model.specs.declared.Phase.the-variants.{Over, Bad, Stepping}
 use Rattle.script_model.specs.declared.Player.{Player}
-use Rattle.script_model.specs.Language.{Body, Script, unread, script}
+use Rattle.script_model.specs.Language.{Body, Script, wordsAsked, unread, script}
 use Rattle.script_model.specs.Output.{commitLines, badLine, transcript, output, most, printed}
 use Rattle.script_model.specs.Playing.{player, scriptOf, wordsOf, wronglyLent, lineStart, idle, openedPlayer, firstPlayer}
 use Rattle.script_model.specs.Playing.{Begins}
-use Rattle.script_model.specs.Truth.{Sized}
+use Rattle.script_model.specs.Truth.{Sized, zeros}
 use Rattle.script_model.specs.computed.Parts.{foundAt, headerOf, stepsAt, bodyAt, Loads}
 use Rattle.script_model.proofs.Invariant.{standing, left, Playing}
-use Rattle.script_model.proofs.Heads.{headed, script-unheaded}
+use Rattle.script_model.proofs.Heads.{Headed, headed, script-unheaded}
 use Rattle.script_model.proofs.Programs.{body-four, body-stop, body-full}
 use Rattle.script_model.proofs.Openings.{script-opens}
 
@@ -70,8 +71,7 @@ script-short text short = ap (λ (t : Bool). cond t unread (script (linesOf text
 abbrev playerBy : List ℕ → Bool → Script → Player
 playerBy text long s =
     cond long (idle (Bad 0))
-    (cond (sizesFit (s .banks) (s .rows) (s .stages) (s .words))
-    (openedPlayer text s (length (s .body .program) / perInstruction)) (idle (Bad 1)))
+    (cond (buffered .fits (s .opening)) (openedPlayer text s (length (s .body .program) / perInstruction)) (idle (Bad 1)))
 
 player-long : (text : List ℕ) → most < length text → firstPlayer text ≡ idle (Bad 0)
 player-long text long = ap (λ (t : Bool). playerBy text t (scriptOf text)) (lt-ltb most (length text) long)
@@ -165,8 +165,8 @@ body-behind (suc fuel) s i p h =
     by-room false e more = behind-none s i p (body-full s p (lineStart s i) (suc i) (ltb-false (length p) programMost e))
 
 -- a machine opened without sizes
-pub closed-machine : {program w : List ℕ} {said : Answer} {u : Machine} → Opens 0 0 0 0 program w said u
-    → u ≡ freshMachine 0 0 0 0 0
+pub closed-machine : {program w : List ℕ} {said : Answer} {u : Machine} → Opens (banked 0 0 0 0) program w said u
+    → u ≡ tabled .unopened
 unfolding sizesFit
 closed-machine opens = opens .refuses 1 (λ z. omega (arith, z)) refl .1
 
@@ -190,12 +190,9 @@ lent-rightly text whole program memory e =
 
 -- the opening of the script passes its checks
 script-checked : (text : List ℕ) (s : Script) → script (linesOf text) ≡ s → Sized s
-    → refusal (openChecks (s .banks) (s .rows) (s .stages) (s .words) (s .body .program) (replicate (s .words) 0)) ≡ 0
+    → refusal (openChecks (s .opening) (s .body .program) (zeros s)) ≡ 0
 script-checked text s is fit =
-    subst
-    (λ (r : Script).
-    refusal (openChecks (r .banks) (r .rows) (r .stages) (r .words) (r .body .program) (replicate (r .words) 0)) ≡ 0)
-    is
+    subst (λ (r : Script). refusal (openChecks (r .opening) (r .body .program) (zeros r)) ≡ 0) is
     (script-opens (linesOf text) (subst Sized (sym is) fit))
 
 -- ---- the ways
@@ -212,8 +209,8 @@ module _ {text : List ℕ} {whole : Bool} {program memory : List ℕ} where
       let stays : program ≡ scriptOf text .body .program ++ drop (length (scriptOf text .body .program)) program =
       ap (λ (s : Script). s .body .program ++ drop (length (s .body .program)) program) (sym none) in
       let clear : memory ≡ replicate (wordsOf text) 0 =
-      empty-list memory (lent-rightly text whole program memory right .1 ∙ ap (λ (s : Script). s .words) none)
-      ∙ ap (λ (s : Script). replicate (s .words) 0) (sym none) in
+      empty-list memory (lent-rightly text whole program memory right .1 ∙ ap (λ (s : Script). wordsAsked (s .opening)) none)
+      ∙ ap zeros (sym none) in
       record { refuses = λ wrong. absurd (false≢true (sym right ∙ wrong)); begins = λ _. (starts, stays, clear) }
 
   pub begins-long : {q : Player} → wronglyLent text whole program memory ≡ false → most < length text → q ≡ idle (Bad 0)
@@ -226,36 +223,32 @@ module _ {text : List ℕ} {whole : Bool} {program memory : List ℕ} where
       begins-unread 1 right (script-headless text short none) (player-headless text short none) is
 
   -- the player of a script whose machine was opened as u
-  pub begins-open : {banks rows stages words from cursor line used count : ℕ} {into after : List ℕ} {said : Answer}
-      {u : Machine}
+  pub begins-open : {o : Opening} {from cursor line used count : ℕ} {into after : List ℕ} {said : Answer} {u : Machine}
       → wronglyLent text whole program memory ≡ false
       → length text ≤ most
-      → headerOf text ≡ Four banks rows stages words from
+      → Headed text o from
       → Loads text from program into cursor line used
       → used ≤ length into
       → after ≡ replicate (length memory) 0
       → count ≡ used
-      → Opens banks rows stages words (take count into) after said u
+      → Opens o (take count into) after said u
       → Begins text whole program memory (player Stepping cursor line 0 used u) into after
-  begins-open {banks} {rows} {stages} {words} {from} {cursor} {line} {used} {into = into} {after} {said} {u} right short header
-      loads room cleared all opens =
-      let head = headed text banks rows stages words from header in
+  begins-open {o} {from} {cursor} {line} {used} {into = into} {after} {said} {u} right short head loads room cleared all opens =
       let numbers = take used into in
       let long : length numbers ≡ used = length-take-le used into room in
-      let of : Body → Script =
-      λ b. record { banks = banks; rows = rows; stages = stages; words = words; body = b } in
+      let of : Body → Script = λ b. record { opening = o; body = b } in
       let s = of (record { program = numbers; steps = stepsAt text cursor line }) in
       let plainly : script (linesOf text) ≡ s = head .script-is ∙ ap of (loads .body-is) in
       let is : scriptOf text ≡ s = script-short text short ∙ plainly in
       let k = length numbers / perInstruction in
-      let zeros : after ≡ replicate words 0 =
+      let clears : after ≡ zeros s =
       cleared ∙ ap (λ (n : ℕ). replicate n 0) (lent-rightly text whole program memory right .1
-      ∙ ap (λ (r : Script). r .words) is) in
-      let checked : refusal (openChecks banks rows stages words numbers after) ≡ 0 =
-      ap (λ (m : List ℕ). refusal (openChecks banks rows stages words numbers m)) zeros
+      ∙ ap (λ (r : Script). wordsAsked (r .opening)) is) in
+      let checked : refusal (openChecks o numbers after) ≡ 0 =
+      ap (λ (m : List ℕ). refusal (openChecks o numbers m)) clears
       ∙ script-checked text s plainly (head .fit) in
-      let made : u ≡ freshMachine banks rows stages words k =
-      subst (λ (n : ℕ). Opens banks rows stages words (take n into) after said u) all opens .opens checked .1 in
+      let made : u ≡ freshMachine o k =
+      subst (λ (n : ℕ). Opens o (take n into) after said u) all opens .opens checked .1 in
       let place : cursor ≡ lineStart text (suc k) =
       loads .starts (head .starts)
       ∙ ap (lineStart text) (let e : line - 1 ≡ suc k = omega (arith, loads .lines, long) in e) in
@@ -268,7 +261,7 @@ module _ {text : List ℕ} {whole : Bool} {program memory : List ℕ} where
       let behind : into ≡ scriptOf text .body .program ++ drop (length (scriptOf text .body .program)) program =
       loads .rest ∙ ap (λ (n : ℕ). numbers ++ drop n program) (sym long)
       ∙ ap (λ (r : Script). r .body .program ++ drop (length (r .body .program)) program) (sym is) in
-      let clear : after ≡ replicate (wordsOf text) 0 = zeros ∙ ap (λ (r : Script). replicate (r .words) 0) (sym is) in
+      let clear : after ≡ replicate (wordsOf text) 0 = clears ∙ ap zeros (sym is) in
       record { refuses = λ wrong. absurd (false≢true (sym right ∙ wrong)); begins = λ _. (first, behind, clear) }
 
 -- ---- all is left to print
@@ -280,7 +273,7 @@ record Starts (text : List ℕ) (q : Player) (numbers memory : List ℕ) : Type 
   playing : Playing text numbers q memory
 
 bad-starts : (text : List ℕ) (n : ℕ) (s : Script) → s ≡ unread → printed text ≡ badLine n
-    → Starts text (idle (Bad n)) (s .body .program) (replicate (s .words) 0)
+    → Starts text (idle (Bad n)) (s .body .program) (zeros s)
 bad-starts text n s none prints =
     record {
       used = ap (λ (r : Script). length (r .body .program)) (sym none);
@@ -295,19 +288,15 @@ bad-starts text n s none prints =
           };
     }
 
--- the player of a script with these sizes
-module _ (text : List ℕ) (short : length text ≤ most) (banks rows stages words from : ℕ)
-    (header : headerOf text ≡ Four banks rows stages words from) where
+-- the player of a script with this opening
+module _ (text : List ℕ) (short : length text ≤ most) (o : Opening) (from : ℕ) (head : Headed text o from) where
   abbrev behind : Behind text 1 []
   behind = body-behind programMost text 1 [] (omega arith)
 
   abbrev read : Script
   read =
       record {
-        banks = banks;
-        rows = rows;
-        stages = stages;
-        words = words;
+        opening = o;
         body =
             record {
               program = behind .numbers;
@@ -317,9 +306,8 @@ module _ (text : List ℕ) (short : length text ≤ most) (banks rows stages wor
 
   script-is : script (linesOf text) ≡ read
   script-is =
-      let head = headed text banks rows stages words from header in
       head .script-is
-      ∙ ap (λ (b : Body). let s : Script = record { banks = banks; rows = rows; stages = stages; words = words; body = b } in s)
+      ∙ ap (λ (b : Body). let s : Script = record { opening = o; body = b } in s)
       (ap (λ (k : ℕ). bodyAt text k 2 []) (head .starts) ∙ behind .body-is
       ∙ ap
       (λ (k : ℕ).
@@ -328,28 +316,26 @@ module _ (text : List ℕ) (short : length text ≤ most) (banks rows stages wor
       (let e : 1 + behind .lines ≡ suc (behind .lines) = omega arith in e))
 
   open-starts : (s : Script) → s ≡ script (linesOf text)
-      → Starts text (openedPlayer text s (length (s .body .program) / perInstruction)) (s .body .program) (replicate (s .words) 0)
+      → Starts text (openedPlayer text s (length (s .body .program) / perInstruction)) (s .body .program) (zeros s)
   open-starts s same =
-      let head = headed text banks rows stages words from header in
       let ns = behind .numbers in
       let k = behind .lines in
       let lines : length ns / perInstruction ≡ k = omega (arith, behind .four) in
       let first : suc (length ns / perInstruction) ≡ 1 + k = omega (arith, lines) in
-      let checked : refusal (openChecks banks rows stages words ns (replicate words 0)) ≡ 0 =
+      let checked : refusal (openChecks o ns (zeros read)) ≡ 0 =
       script-checked text read script-is (head .fit) in
       subst
       (λ (r : Script).
-      Starts text (openedPlayer text r (length (r .body .program) / perInstruction)) (r .body .program) (replicate (r .words) 0))
+      Starts text (openedPlayer text r (length (r .body .program) / perInstruction)) (r .body .program) (zeros r))
       (sym (same ∙ script-is))
       (record {
         used = refl;
         prints = ap
             (λ (j : ℕ).
-            transcript ns (standing (freshMachine banks rows stages words (length ns / perInstruction)) (replicate words 0) 0)
+            transcript ns (standing (freshMachine o (length ns / perInstruction)) (zeros read) 0)
             (stepsAt text (lineStart text (suc j)) (suc (suc j))))
             lines
-            ∙ ap (λ (X : Plain). transcript ns (start X (replicate words 0)) (read .body .steps))
-            (fresh-plain banks rows stages words ns [])
+            ∙ ap (λ (X : Plain). transcript ns (start X (zeros read)) (read .body .steps)) (fresh-plain o ns)
             ∙ ap output (sym script-is)
             ∙ sym (printed-short text short);
         playing =
@@ -358,10 +344,9 @@ module _ (text : List ℕ) (short : length text ≤ most) (banks rows stages wor
               within = subst (λ (j : ℕ). lineStart text j ≤ length text) (sym first)
                   (behind .within (subst (λ (j : ℕ). j ≤ length text) (head .starts) (head .within)));
               used = record {
-                sound = fresh-sound banks rows stages words (length ns / perInstruction) (head .fit);
-                linked = subst (λ (X : Plain). Linked ns X (replicate words 0))
-                    (sym (fresh-plain banks rows stages words ns []))
-                    (linked-open banks rows stages words ns (replicate words 0) checked);
+                sound = fresh-sound o (length ns / perInstruction) (head .fit);
+                linked = subst (λ (X : Plain). Linked buffer-owes ns X (zeros read)) (sym (fresh-plain o ns))
+                    (linked-open buffer-owes o ns (zeros read) checked);
               };
               counted = zero-le;
               numbered = let h = line-start-grows text (suc (length ns / perInstruction)) in omega (arith, h);
@@ -369,10 +354,8 @@ module _ (text : List ℕ) (short : length text ≤ most) (banks rows stages wor
       })
 
   -- and its first line is good
-  script-fits : (s : Script) → s ≡ script (linesOf text)
-      → sizesFit (s .banks) (s .rows) (s .stages) (s .words) ≡ true
-  script-fits s same =
-      subst Sized (sym (same ∙ script-is)) (headed text banks rows stages words from header .fit)
+  script-fits : (s : Script) → s ≡ script (linesOf text) → Sized s
+  script-fits s same = subst Sized (sym (same ∙ script-is)) (head .fit)
 
 first-starts : (text : List ℕ) → Starts text (firstPlayer text) (scriptOf text .body .program) (replicate (wordsOf text) 0)
 first-starts text = by-length (ltb most (length text)) refl
@@ -392,11 +375,12 @@ first-starts text = by-length (ltb most (length text)) refl
     by-header short (Four banks rows stages words from) e =
         let s = scriptOf text in
         let same = script-short text short in
-        let fit = script-fits text short banks rows stages words from e s same in
+        let o = banked banks rows stages words in
+        let fit = script-fits text short o from (headed text e) s same in
         shown (openedPlayer text s (length (s .body .program) / perInstruction))
         (player-short text s short refl
         ∙ ap (λ (t : Bool). cond t (openedPlayer text s (length (s .body .program) / perInstruction)) (idle (Bad 1))) fit)
-        (open-starts text short banks rows stages words from e s same)
+        (open-starts text short o from (headed text e) s same)
 
     by-length : (t : Bool) → ltb most (length text) ≡ t
         → Starts text (firstPlayer text) (scriptOf text .body .program) (replicate (wordsOf text) 0)

@@ -16,7 +16,7 @@ use Rattle.engine.specs.Contract.{refused, named, executed, done, committed, fi
 use Rattle.machine_model.specs.declared.Machine.{Machine}
 use Rattle.machine_model.specs.Over
 use Rattle.machine_model.specs.Calls.{Plain, Call, issue, execute, squash, commit, finish, Answer, Result, perCommit, respond}
-use Rattle.machine_model.specs.Calls.{issueChecks, executeChecks, squashChecks, commitChecks}
+use Rattle.machine_model.specs.Calls.{buffered, issueChecks, executeChecks, squashChecks, commitChecks}
 use Rattle.machine_model.specs.Contract.{plain, Sound, Meets}
 use Rattle.theorem.specs.Play.{recorded, commitsIn, plays}
 use Rattle.script_model.specs.Output.{committedLines, commitLines}
@@ -93,7 +93,7 @@ pub record Does (program : List ℕ) (c : Call) (m : Machine) (memory : List ℕ
   pub numbers : List ℕ
   pub whole : length numbers % perCommit ≡ 0
   pub lines : commitLines numbers ≡ toldBy said list
-  pub does : plays program (standing m memory n) c
+  pub does : plays buffered program (standing m memory n) c
       ≡ record { state = plain u; memory = after; record′ = numbers; commits = countedBy said n }
 
 pub call-does : {program : List ℕ} {c : Call} {m u : Machine} {memory after list : List ℕ} {said : Answer} (n : ℕ) → Single c

@@ -24,7 +24,7 @@ use Rattle.machine_model.specs.Calls.{perCommit, respond, finishes}
 use Rattle.theorem.specs.Play.{play}
 use Rattle.theorem.proofs.Cases.{computing}
 use Rattle.script_model.specs.declared.Item.the-variants.{Operation}
-use Rattle.script_model.specs.Language.{codeFrom, parsedLine, steps, body, Script, script}
+use Rattle.script_model.specs.Language.{codeFrom, parsedLine, steps, body, Script, wordsAsked, script}
 use Rattle.script_model.specs.Output.{commitLine, committedLines, commitLines, wordLines, ending, endLine, printed}
 use Rattle.script_model.specs.Message.{ascii}
 use Rattle.script_model.specs.Truth.{scriptPlayed, scriptRun, distancesOf, woven, scriptRecord, ScriptTruth}
@@ -106,7 +106,7 @@ finished = script (linesOf other)
 -- a script of this program, on eight words, that commits it all
 abbrev Commits : Script → Type 0
 Commits s =
-    (s .body .program ≡ 1 ∷ 1 ∷ 0 ∷ 5 ∷ 4 ∷ 1 ∷ 0 ∷ 3 ∷ 3 ∷ 2 ∷ 0 ∷ 3 ∷ []) × (s .words ≡ 8) × (scriptPlayed s .commits ≡ 3)
+    (s .body .program ≡ 1 ∷ 1 ∷ 0 ∷ 5 ∷ 4 ∷ 1 ∷ 0 ∷ 3 ∷ 3 ∷ 2 ∷ 0 ∷ 3 ∷ []) × (wordsAsked (s .opening) ≡ 8) × (scriptPlayed s .commits ≡ 3)
 
 sample-reads : Commits sampled
 unfolding linesFrom codeFrom body steps bytes sizesFit

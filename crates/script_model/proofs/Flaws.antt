@@ -16,7 +16,9 @@ use Rattle.text.specs.Fields.{largest}
 use Rattle.text.specs.Lines.{linesOf}
 use Rattle.text.proofs.Trip.{digit-first}
 use Rattle.table.specs.Limits.{sizesFit, banksMost, rowsMost, stagesMost, wordsMost}
+use Rattle.table.specs.Reference.{State}
 use Rattle.machine_model.specs.Program.{perInstruction, instructionsMost, programMost, lastRegister, wellFormed}
+use Rattle.machine_model.specs.Calls.{Opening, banked, buffered}
 use Rattle.script_model.specs.declared.Item.{Item}
 use Rattle.script_model.specs.declared.Item.the-variants.{Malformed, Sizes, Operation, Issue, Execute, Squash, Commit}
 use Rattle.script_model.specs.declared.Item.the-variants.{Finish}
@@ -29,7 +31,7 @@ use Rattle.script_model.specs.declared.Reason.the-variants as why
 use Rattle.script_model.specs.declared.Flaw.{Flaw}
 use Rattle.script_model.specs.Language.{letterCode, lettered, parsedLine}
 use Rattle.script_model.specs.Language.{stepOf, Steps, stepping, steps}
-use Rattle.script_model.specs.Language.{numbersOf, joining, Body, body, unread, headed, scriptBy, script}
+use Rattle.script_model.specs.Language.{numbersOf, joining, Body, body, openingOf, unread, headed, scriptBy, script}
 use Rattle.theorem.specs.Play.{Played, play}
 use Rattle.script_model.specs.Output.{commitLines, badLine, closing, scriptOpening, output, most, printed}
 use Rattle.script_model.specs.Flaw.{arity, commas, commaTook, digitTook, took, following, noNumber, behind, malformed}
@@ -327,33 +329,38 @@ first-wrong (b ∷ bs) e = go (eqb b 78)
     go true = malformed-wrong (b ∷ bs) e
     go false = refl
 
-module _ (banks rows stages words : ℕ) (more : Flaw) (b : Body) (same : badNumber more ≡ b .steps .flaw) where
-  abbrev sizedBy : Bool → Bool → Bool → Bool → Reason
-  sizedBy t u v w =
-      cond t
-      (cond u
-      (cond v (cond w why.Fine (why.Field 78 5 (Beyond words))) (why.Field 78 4 (Beyond stages)))
-      (why.Field 78 3 (Beyond rows)))
-      (why.Field 78 2 (Beyond banks))
+-- there is a reason exactly where an opening is not within its limits
+unfit-fine : (o : Opening) → isFine (unfit o) ≡ buffered .fits o
+unfolding sizesFit
+unfit-fine (banked banks rows stages words) =
+    go (eqb banks 1 || eqb banks 2 || eqb banks 4 || eqb banks banksMost)
+    (leb 1 rows && leb rows rowsMost)
+    (leb 1 stages && leb stages stagesMost)
+    (leb 1 words && leb words wordsMost)
+  where
+    go : (t u v w : Bool)
+        → isFine
+        (cond t
+        (cond u
+        (cond v (cond w why.Fine (why.Field 78 5 (Beyond words))) (why.Field 78 4 (Beyond stages)))
+        (why.Field 78 3 (Beyond rows)))
+        (why.Field 78 2 (Beyond banks)))
+        ≡ (t && u && v && w)
+    go true true true true = refl
+    go true true true false = refl
+    go true true false w = refl
+    go true false v w = refl
+    go false u v w = refl
 
-  sizes-number : badNumber (cond (isFine (unfit banks rows stages words)) more (flawAt 1 (unfit banks rows stages words)))
-      ≡ headed (Sizes banks rows stages words) b .body .steps .flaw
-  unfolding sizesFit
-  sizes-number =
-      go (eqb banks 1 || eqb banks 2 || eqb banks 4 || eqb banks banksMost)
-      (leb 1 rows && leb rows rowsMost)
-      (leb 1 stages && leb stages stagesMost)
-      (leb 1 words && leb words wordsMost)
-    where
-      go : (t u v w : Bool)
-          → badNumber (cond (isFine (sizedBy t u v w)) more (flawAt 1 (sizedBy t u v w)))
-          ≡ cond (t && u && v && w) (record { banks = banks; rows = rows; stages = stages; words = words; body = b }) unread
-          .body .steps .flaw
-      go true true true true = same
-      go true true true false = refl
-      go true true false w = refl
-      go true false v w = refl
-      go false u v w = refl
+opening-number : (o : Opening) (more : Flaw) (b : Body) → badNumber more ≡ b .steps .flaw
+    → badNumber (cond (isFine (unfit o)) more (flawAt 1 (unfit o))) ≡ headed (some o) b .body .steps .flaw
+opening-number o more b same = go (buffered .fits o) (unfit-fine o)
+  where
+    go : (t : Bool) → isFine (unfit o) ≡ t
+        → badNumber (cond (isFine (unfit o)) more (flawAt 1 (unfit o)))
+        ≡ cond t (record { opening = o; body = b }) unread .body .steps .flaw
+    go true e = rw e same
+    go false e = told 1 (unfit o) more e
 
 script-number : (lines : List (List ℕ)) (rest : List ℕ)
     → badNumber (flawFrom 1 part.First lines rest) ≡ scriptBy lines rest .body .steps .flaw
@@ -367,10 +374,10 @@ script-number (line ∷ lines) rest = go (parsedLine line) refl
         (cond (isFine (reasonIn part.First i line))
         (flawFrom 2 (nextPart part.First i) lines rest)
         (flawAt 1 (reasonIn part.First i line)))
-        ≡ headed i (body 2 [] lines rest) .body .steps .flaw
+        ≡ headed (openingOf i) (body 2 [] lines rest) .body .steps .flaw
     go Malformed e = told 1 (noSizes line) (flawFrom 2 (part.Program instructionsMost) lines rest) (first-wrong line e)
     go (Sizes banks rows stages words) e =
-        sizes-number banks rows stages words (flawFrom 2 (part.Program instructionsMost) lines rest) (body 2 [] lines rest)
+        opening-number (banked banks rows stages words) (flawFrom 2 (part.Program instructionsMost) lines rest) (body 2 [] lines rest)
         (body-number 2 instructionsMost [] lines rest refl)
     go (Operation code d s imm) e = refl
     go Issue e = refl
@@ -393,14 +400,14 @@ flaw-number text = go (ltb most (length text))
 
 -- After the commits a text prints its bad line with the number of its flaw, and the closing lines where it has none.
 pub flaw-printed : (text : List ℕ)
-    → (y : Played) × (printed text ≡ commitLines (y .record′) ++ closing y (badNumber (flawOf text)))
+    → (y : Played State) × (printed text ≡ commitLines (y .record′) ++ closing y (badNumber (flawOf text)))
 unfolding printed commitLines
 flaw-printed text = go (ltb most (length text)) (flaw-number text)
   where
     go : (t : Bool) → badNumber (flawOf text) ≡ cond t (some 0) (script (linesOf text) .body .steps .flaw)
-        → (y : Played)
+        → (y : Played State)
         × (cond t (badLine 0) (output (script (linesOf text))) ≡ commitLines (y .record′) ++ closing y (badNumber (flawOf text)))
     go true e = (scriptOpening (script (linesOf text)), rw e)
     go false e =
         let s = script (linesOf text) in
-        (play (s .body .program) (scriptOpening s) (s .body .steps .calls), rw e)
+        (play buffered (s .body .program) (scriptOpening s) (s .body .steps .calls), rw e)

@@ -7,11 +7,13 @@ use mathlib.Core.List.{List, [], _++_}
 use Prim.Native.Nat.{ℕ, suc, _+_, _-_, _*_, _≤_}
 use lib.ListN.{length, replicate, drop}
 use Rattle.text.specs.Fields.{largest}
+use Rattle.table.specs.Reference.{State}
 use Rattle.machine_model.specs.declared.Machine.{Machine}
 use Rattle.machine_model.specs.Calls.{finish, perCommit}
 use Rattle.machine_model.specs.Contract.{plain, Sound}
 use Rattle.theorem.specs.Play.{Played}
-use Rattle.theorem.specs.computed.Linked.{Linked}
+use Rattle.theorem.proofs.Owing.{Linked}
+use Rattle.theorem.proofs.Buffered.{buffer-owes}
 use Rattle.script_model.specs.declared.Phase.{Phase}
 use Rattle.script_model.specs.declared.Phase.the-variants.{Over, Bad, Stepping, Finishing, Words}
 use Rattle.script_model.specs.declared.Player.{Player}
@@ -20,11 +22,11 @@ use Rattle.script_model.specs.Output.{wordLines, ending, endLine, badLin
 use Rattle.script_model.specs.computed.Parts.{stepsAt}
 
 -- a machine, its memory and the number of commits so far, with nothing recorded from here on
-abbrev pub standing : Machine → List ℕ → ℕ → Played
+abbrev pub standing : Machine → List ℕ → ℕ → Played State
 standing m memory commits = record { state = plain m; memory = memory; record′ = []; commits = commits }
 
 -- what is left to print in a phase, where these steps are still to be read
-abbrev pub leftIn : List ℕ → Phase → Steps → Played → List ℕ
+abbrev pub leftIn : List ℕ → Phase → Steps → Played State → List ℕ
 leftIn program Over more x = []
 leftIn program (Bad n) more x = badLine n
 leftIn program Stepping more x = transcript program x more
@@ -46,7 +48,7 @@ due (Words a) = 0
 -- a machine in use is sound, and stands where calls of this program lead
 pub record Usable (program : List ℕ) (m : Machine) (memory : List ℕ) : Type 0 where
   pub sound : Sound m
-  pub linked : Linked program (plain m) memory
+  pub linked : Linked buffer-owes program (plain m) memory
 
 abbrev pub InUse : Phase → List ℕ → Machine → List ℕ → Type 0
 InUse Over program m memory = Unit {0}

@@ -15,6 +15,7 @@ use lib.ListN.{length, drop, replicate, length-replicate}
 use lib.Dec.{eqb, ltb}
 use lib.Seq.{take-at}
 use borrow.Author.Tests.{le-ltb, lt-ltb, ltb-true, ltb-false, eq-eqb, ne-eqb, eqb-true, eqb-false}
+use Rattle.table.specs.Reference.{State}
 use Rattle.engine.specs.Contract.{refused, named, executed, done, committed, finished}
 use Rattle.engine.specs.Conditions.{refusal}
 use Rattle.engine.proofs.Meeting.{judged-accepted}
@@ -38,7 +39,8 @@ use Rattle.machine_model.specs.Calls.{continueOn, drainStopped, finishes, drain
 use Rattle.machine_model.specs.Contract.{plain, Meets}
 use Rattle.machine_model.proofs.Finishes.{finishes-limit, finishes-short}
 use Rattle.theorem.specs.Play.{recorded, commitsIn, Played}
-use Rattle.theorem.specs.computed.Linked.{Linked}
+use Rattle.theorem.proofs.Owing.{Linked}
+use Rattle.theorem.proofs.Buffered.{buffer-owes}
 use Rattle.theorem.proofs.Links.{lent-passes}
 use Rattle.theorem.proofs.Finishing.{respond-links}
 use Rattle.script_model.specs.declared.Phase.{Phase}
@@ -123,17 +125,17 @@ all-counted program (suc j) places X w =
     by-places false e rest = by-turn (ltb-false places perCommit e) (turn program j X w) rest
 
 -- a linked state is not refused
-response : (program : List ℕ) (X : Plain) (w : List ℕ) → Linked program X w → (k : ℕ) (list : List ℕ)
+response : (program : List ℕ) (X : Plain) (w : List ℕ) → Linked buffer-owes program X w → (k : ℕ) (list : List ℕ)
     → respond program (finish k list) X w ≡ drained list (finishes program k (length list) X w)
 unfolding Over.respond
 response program X w linked k list =
     judged-accepted (refusal (finishChecks program X w)) X w list (drained list (finishes program k (length list) X w))
-    (lent-passes program X w linked [])
+    (lent-passes buffer-owes program X w linked [])
 
 -- ---- what is told
 
 -- nothing recorded yet
-abbrev at : Plain → List ℕ → ℕ → Played
+abbrev at : Plain → List ℕ → ℕ → Played State
 at X w n = record { state = X; memory = w; record′ = []; commits = n }
 
 -- a finish as a script has it: with room for all of its commits
@@ -144,7 +146,7 @@ whole k = finish k (replicate (k * perCommit) 0)
 abbrev telling : List ℕ → ℕ → Steps → Drain → List ℕ
 telling program n more W = commitLines (W .numbers) ++ transcript program (at (W .state) (W .memory) (n + W .commits)) more
 
-whole-told : (program : List ℕ) (X : Plain) (w : List ℕ) → Linked program X w → (k n : ℕ) (more : Steps)
+whole-told : (program : List ℕ) (X : Plain) (w : List ℕ) → Linked buffer-owes program X w → (k n : ℕ) (more : Steps)
     → transcript program (at X w n) (before (whole k) more) ≡ telling program n more (finishes program k (k * perCommit) X w)
 whole-told program X w linked k n more =
     let list : List ℕ = replicate (k * perCommit) 0 in
@@ -153,7 +155,7 @@ whole-told program X w linked k n more =
     told-before program (at X w n) (whole k) more (W .numbers) (W .state) (W .memory) (n + W .commits)
     (ap
     (λ (r : Result).
-    let x : Played =
+    let x : Played State =
     record {
       state = r .state;
       memory = r .memory;
@@ -164,7 +166,7 @@ whole-told program X w linked k n more =
     (response program X w linked k list)
     ∙ ap
     (λ (l : List ℕ).
-    let x : Played = record { state = W .state; memory = W .memory; record′ = l; commits = n + W .commits } in
+    let x : Played State = record { state = W .state; memory = W .memory; record′ = l; commits = n + W .commits } in
     x)
     (take-at (W .numbers) (drop (length (W .numbers)) list) (W .commits * perCommit) h))
     (omega arith)
@@ -189,7 +191,7 @@ telling-onward program n more i c r v d W =
     (let q : n + suc (W .commits) ≡ suc n + W .commits = omega arith in q)
 
 -- a limit of 0 does nothing
-pub told-nothing : (program : List ℕ) (X : Plain) (w : List ℕ) → Linked program X w → (n : ℕ) (more : Steps)
+pub told-nothing : (program : List ℕ) (X : Plain) (w : List ℕ) → Linked buffer-owes program X w → (n : ℕ) (more : Steps)
     → transcript program (at X w n) (before (whole 0) more) ≡ transcript program (at X w n) more
 told-nothing program X w linked n more =
     whole-told program X w linked 0 n more
@@ -197,7 +199,7 @@ told-nothing program X w linked n more =
     ∙ telling-stopped program n more X w
 
 -- a finish with a list of one commit, by its first turn
-module _ (program : List ℕ) (X : Plain) (w : List ℕ) (linked : Linked program X w) (j : ℕ) (list : List ℕ)
+module _ (program : List ℕ) (X : Plain) (w : List ℕ) (linked : Linked buffer-owes program X w) (j : ℕ) (list : List ℕ)
     (room : length list ≡ perCommit) (n : ℕ) (more : Steps) where
   abbrev short : Result
   short = respond program (finish (suc j) list) X w
@@ -248,9 +250,9 @@ module _ (program : List ℕ) (X : Plain) (w : List ℕ) (linked : Linked progra
       go (stops Y e) = absurd (h (ap (λ (r : Result). commitsIn (r .answer)) (stops-short Y e)))
       go (goes i c r v d Z z e) =
           let is = goes-short i c r v d Z z e in
-          let again : Linked program Z z =
-          subst (λ (r : Result). Linked program (r .state) (r .memory)) is
-          (respond-links program (finish (suc j) list) X w linked .linked) in
+          let again : Linked buffer-owes program Z z =
+          subst (λ (r : Result). Linked buffer-owes program (r .state) (r .memory)) is
+          (respond-links buffer-owes program (finish (suc j) list) X w linked .linked) in
           subst One (sym is)
           (first-told (afterCommit i c r v d (finishes program j (suc j * perCommit - perCommit) Z z))
           (e (suc j * perCommit) (omega arith))
@@ -261,7 +263,7 @@ module _ (program : List ℕ) (X : Plain) (w : List ℕ) (linked : Linked progra
           ∙ sym (whole-told program Z z again j (suc n) more)))
 
 -- The same by the limit k. No commit was made:
-pub told-none : (program : List ℕ) (X : Plain) (w : List ℕ) → Linked program X w → (k : ℕ) → (k ≡ 0 → ⊥)
+pub told-none : (program : List ℕ) (X : Plain) (w : List ℕ) → Linked buffer-owes program X w → (k : ℕ) → (k ≡ 0 → ⊥)
     → (list : List ℕ) → length list ≡ perCommit → (n : ℕ) (more : Steps)
     → let r = respond program (finish k list) X w in
     commitsIn (r .answer) ≡ 0
@@ -270,7 +272,7 @@ told-none program X w linked zero some list room n more h = absurd (some refl)
 told-none program X w linked (suc j) some list room n more h = none-told program X w linked j list room n more h
 
 -- or one:
-pub told-one : (program : List ℕ) (X : Plain) (w : List ℕ) → Linked program X w → (k : ℕ) → (k ≡ 0 → ⊥)
+pub told-one : (program : List ℕ) (X : Plain) (w : List ℕ) → Linked buffer-owes program X w → (k : ℕ) → (k ≡ 0 → ⊥)
     → (list : List ℕ) → length list ≡ perCommit → (n : ℕ) (more : Steps)
     → let r = respond program (finish k list) X w in
     (commitsIn (r .answer) ≡ 0 → ⊥)
@@ -314,9 +316,9 @@ module _ (program : List ℕ) (m u : Machine) (n k : ℕ) (memory after list lef
   used usable =
       record {
         sound = meets .lawful (usable .sound);
-        linked = subst (λ (X : Plain). Linked program X after) (sym (meets .state (usable .sound)))
-            (subst (λ (w : List ℕ). Linked program (made .state) w) (sym (meets .memory (usable .sound)))
-            (respond-links program (finish k list) (plain m) memory (usable .linked) .linked));
+        linked = subst (λ (X : Plain). Linked buffer-owes program X after) (sym (meets .state (usable .sound)))
+            (subst (λ (w : List ℕ). Linked buffer-owes program (made .state) w) (sym (meets .memory (usable .sound)))
+            (respond-links buffer-owes program (finish k list) (plain m) memory (usable .linked) .linked));
       }
 
   -- it answers how many commits were made

@@ -5,8 +5,8 @@
 --
 -- At the beginning all is left and nothing is written. A fill moves a piece from the front of what is left to the end
 -- of what is written: the piece is the first `end` bytes of the buffer, as it was set there from place 0. A player
--- that is over has nothing left. That a player gets there is a law of StepContract: a call with a buffer of 128 bytes or
--- more on a player that is not over lowers `weight` (`fills-falls`). Assumes nothing.
+-- that is over has nothing left. That a player gets there is a law of StepContract: a call with room for a step on a
+-- player that is not over lowers `weight` (`fills-falls`). Assumes nothing.
 use mathlib.Core.Path.{_≡_, refl, sym, ap, ap₂, subst, _∙_}
 use mathlib.Core.Bool.{Bool, true, false, false≢true}
 use mathlib.Core.List.{List, [], _∷_, _++_, append-nil, append-assoc}
@@ -14,6 +14,7 @@ use Prim.Native.Nat.{ℕ, _+_, _≤_}
 use native.Mathlib.Omega.{arith}
 use lib.ListN.{length, take, drop}
 use lib.Seq.{sets, sets-eq, take-append-seam}
+use Rattle.table.specs.Reference.{State}
 use Rattle.theorem.specs.Play.{Played}
 use Rattle.script_model.specs.declared.Phase.{Phase}
 use Rattle.script_model.specs.declared.Phase.the-variants.{Over, Bad, Stepping, Finishing, Words}
@@ -41,7 +42,7 @@ front out piece into n e w h =
     ap₂ (λ (k : ℕ) (l : List ℕ). take k l) long (w ∙ sets-eq piece out 0 room)
     ∙ take-append-seam piece (drop (0 + length piece) out)
 
-over-left : (program : List ℕ) (phase : Phase) (more : Steps) (x : Played) → isOver phase ≡ true
+over-left : (program : List ℕ) (phase : Phase) (more : Steps) (x : Played State) → isOver phase ≡ true
     → leftIn program phase more x ≡ []
 over-left program Over more x e = refl
 over-left program (Bad n) more x e = absurd (false≢true e)

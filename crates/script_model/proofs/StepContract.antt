@@ -22,11 +22,13 @@ use Rattle.text.specs.Fields.{largest, fields}
 use Rattle.text.specs.Lines.{Lines, lineAt}
 use Rattle.text.proofs.Splits.{line-is, line-end, line-unended, line-whole}
 use Rattle.text.proofs.Trip.{Within, written-fields}
+use Rattle.table.specs.Reference.{State}
 use Rattle.machine_model.specs.declared.Machine.{Machine}
 use Rattle.machine_model.specs.Calls.{Call, issue, execute, squash, commit, Answer, perCommit}
 use Rattle.machine_model.specs.Contract.{plain}
 use Rattle.theorem.specs.Play.{Played, commitsIn, play}
-use Rattle.theorem.specs.computed.Linked.{Linked}
+use Rattle.theorem.proofs.Owing.{Linked}
+use Rattle.theorem.proofs.Buffered.{buffer-owes}
 use Rattle.theorem.proofs.Finishing.{either, respond-links}
 use Rattle.script_model.specs.declared.Item.{Item}
 use Rattle.script_model.specs.declared.Item.the-variants.{Malformed, Sizes, Operation, Issue, Execute, Squash, Commit}
@@ -176,7 +178,7 @@ share (ask.Squash k) = 1
 share ask.Commit = 1
 
 -- what is left to print where this is asked for, with these steps after it
-abbrev leftBy : List ℕ → Ask → Steps → Played → List ℕ
+abbrev leftBy : List ℕ → Ask → Steps → Played State → List ℕ
 leftBy program (ask.Turn h) more x = leftIn program h more x
 leftBy program ask.Issue more x = transcript program x (before issue more)
 leftBy program (ask.Execute k) more x = transcript program x (before (execute k) more)
@@ -354,7 +356,7 @@ module _ (text program : List ℕ) (cursor line n used : ℕ) (m : Machine) (mem
 
   -- where it asks for call c, which was made
   calls : (c : Call) (a : Ask) → Single c
-      → ((more : Steps) (x : Played) → leftBy program a more x ≡ transcript program x (before c more))
+      → ((more : Steps) (x : Played State) → leftBy program a more x ≡ transcript program x (before c more))
       → turnedTo a ≡ Stepping → share a ≡ 1 → ((said : Answer) → phaseAfter c said ≡ Stepping) → order .ask ≡ a
       → {piece : List ℕ} {q : Player} {after : List ℕ}
       → CallStep program c (player Stepping (order .cursor) (order .line) n used m) memory piece q after
@@ -395,8 +397,8 @@ module _ (text program : List ℕ) (cursor line n used : ℕ) (m : Machine) (mem
                 used =
                     record {
                       sound = s .meets .lawful (playing .used .sound);
-                      linked = subst (λ (z : Played). Linked program (z .state) (z .memory)) (d .does)
-                          (respond-links program c (plain m) memory (playing .used .linked) .linked);
+                      linked = subst (λ (z : Played State). Linked buffer-owes program (z .state) (z .memory)) (d .does)
+                          (respond-links buffer-owes program c (plain m) memory (playing .used .linked) .linked);
                     };
                 counted = omega (arith, playing .counted, o .shared, ap share is, one, counted-most said);
                 numbered = omega (arith, playing .numbered, o .numbered);

@@ -13,6 +13,7 @@ use mathlib.Core.List.{List, _++_}
 use Prim.Native.Nat.{ℕ, _≤_}
 use lib.ListN.{length}
 use Rattle.text.specs.Lines.{linesOf}
+use Rattle.theorem.proofs.Buffered.{buffer-owes}
 use Rattle.theorem.proofs.Record.{record-theorem}
 use Rattle.script_model.specs.declared.Player.{Player}
 use Rattle.script_model.specs.Language.{script}
@@ -30,7 +31,7 @@ pub script-truth : (text : List ℕ) → length text ≤ most → Sized (script 
 script-truth text short sized =
     let s = script (linesOf text) in
     let opens = script-opens (linesOf text) sized in
-    let t = record-theorem (s .banks) (s .rows) (s .stages) (s .words) (s .body .program) (zeros s) opens
+    let t = record-theorem buffer-owes (s .opening) (s .body .program) (zeros s) opens
     (s .body .steps .calls) in
     let w = weaves (scriptPlayed s .record′) (scriptPlayed s .commits) (t .record-grows) in
     let same : scriptPlayed s .record′ ≡ scriptRecord s =

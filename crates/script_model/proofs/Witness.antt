@@ -22,7 +22,7 @@ use Rattle.engine.specs.Contract.{refused, finished}
 use Rattle.machine_model.specs.declared.Machine.{Machine}
 use Rattle.machine_model.specs.Program.{perInstruction, programMost}
 use Rattle.machine_model.specs.Window.{blankEntry}
-use Rattle.machine_model.specs.Calls.{commit, finish, perCommit}
+use Rattle.machine_model.specs.Calls.{commit, finish, perCommit, banked}
 use Rattle.machine_model.specs.Contract.{freshMachine, Sound, Meets}
 use Rattle.machine_model.proofs.Opened.{fresh-sound}
 use Rattle.machine_model.proofs.Answering.{refused-meets, accepted-meets, validate-passes}
@@ -55,7 +55,7 @@ program = 1 ∷ 1 ∷ 0 ∷ 9 ∷ []
 
 -- the machine opened, and after the finish
 abbrev m₀ : Machine
-m₀ = freshMachine 1 1 1 1 1
+m₀ = freshMachine (banked 1 1 1 1) 1
 
 abbrev m₁ : Machine
 m₁ =
@@ -84,7 +84,7 @@ m₁ =
 
 sound₀ : Sound m₀
 unfolding sizesFit
-sound₀ = fresh-sound 1 1 1 1 1 refl
+sound₀ = fresh-sound (banked 1 1 1 1) 1 refl
 
 sound₁ : Sound m₁
 unfolding computing sizesFit firsts markFate tabulate marksBelow rowFits lawfulBy

@@ -14,6 +14,7 @@ use Rattle.text.specs.Fields.{largest, Open, empty, value}
 use Rattle.text.specs.Lines.{Lines, linesOf}
 use Rattle.table.specs.Limits.{banksMost, rowsMost, stagesMost, wordsMost}
 use Rattle.machine_model.specs.Program.{instructionsMost, lastRegister, wellFormed}
+use Rattle.machine_model.specs.Calls.{Opening, banked}
 use Rattle.script_model.specs.declared.Item.{Item}
 use Rattle.script_model.specs.declared.Item.the-variants.{Malformed, Sizes, Operation, Issue, Execute, Squash, Commit}
 use Rattle.script_model.specs.declared.Item.the-variants.{Finish}
@@ -89,9 +90,9 @@ abbrev pub noSizes : List ℕ → Reason
 noSizes [] = why.Blank
 noSizes (b ∷ bs) = cond (eqb b 78) (malformed (b ∷ bs)) (why.NoSizes b)
 
--- the leftmost of the sizes outside its limits
-abbrev pub unfit : ℕ → ℕ → ℕ → ℕ → Reason
-unfit banks rows stages words =
+-- the leftmost of an opening's sizes outside its limits
+abbrev pub unfit : Opening → Reason
+unfit (banked banks rows stages words) =
     cond (eqb banks 1 || eqb banks 2 || eqb banks 4 || eqb banks banksMost)
     (cond (leb 1 rows && leb rows rowsMost)
     (cond (leb 1 stages && leb stages stagesMost)
@@ -114,10 +115,10 @@ ofMalformed First line = noSizes line
 ofMalformed (Program room) line = malformed line
 ofMalformed Steps line = malformed line
 
-abbrev pub ofSizes : Part → ℕ → ℕ → ℕ → ℕ → Reason
-ofSizes First banks rows stages words = unfit banks rows stages words
-ofSizes (Program room) banks rows stages words = why.SizesAgain
-ofSizes Steps banks rows stages words = why.SizesAgain
+abbrev pub ofSizes : Part → Opening → Reason
+ofSizes First o = unfit o
+ofSizes (Program room) o = why.SizesAgain
+ofSizes Steps o = why.SizesAgain
 
 abbrev pub ofOperation : Part → ℕ → ℕ → ℕ → ℕ → ℕ → Reason
 ofOperation First letter code d s imm = why.NoSizes letter
@@ -131,7 +132,7 @@ ofStep Steps letter = why.Fine
 
 abbrev pub reasonIn : Part → Item → List ℕ → Reason
 reasonIn part Malformed line = ofMalformed part line
-reasonIn part (Sizes banks rows stages words) line = ofSizes part banks rows stages words
+reasonIn part (Sizes banks rows stages words) line = ofSizes part (banked banks rows stages words)
 reasonIn part (Operation code d s imm) line = ofOperation part (getD line 0 0) code d s imm
 reasonIn part Issue line = ofStep part (getD line 0 0)
 reasonIn part (Execute k) line = ofStep part (getD line 0 0)

@@ -1,4 +1,5 @@
--- The script language: what a line says, and what the lines together ask for.
+-- The script language: what a line says, and what the lines together ask for. The first line gives the machine's opening, one
+-- datum, whose sizes only the reason of a bad first line looks at (specs/Flaw.antt).
 -- Assumes nothing.
 use mathlib.Core.Bool.{cond, _&&_}
 use mathlib.Core.List.{List, [], _∷_, _++_}
@@ -8,9 +9,8 @@ use lib.Dec.{eqb, ltb}
 use lib.ListN.{length, getD, replicate}
 use Rattle.text.specs.Fields.{largest, fields}
 use Rattle.text.specs.Lines.{Lines}
-use Rattle.table.specs.Limits.{sizesFit}
 use Rattle.machine_model.specs.Program.{programMost, wellFormed}
-use Rattle.machine_model.specs.Calls.{Call, issue, execute, squash, commit, finish, perCommit}
+use Rattle.machine_model.specs.Calls.{Opening, banked, buffered, Call, issue, execute, squash, commit, finish, perCommit}
 use Rattle.script_model.specs.declared.Item.{Item}
 use Rattle.script_model.specs.declared.Item.the-variants.{Malformed, Sizes, Operation, Issue, Execute, Squash, Commit}
 use Rattle.script_model.specs.declared.Item.the-variants.{Finish}
@@ -134,33 +134,36 @@ body n program (line ∷ lines) rest =
     (steps n (line ∷ lines) rest)
 
 pub record Script : Type 0 where
-  pub banks : ℕ
-  pub rows : ℕ
-  pub stages : ℕ
-  pub words : ℕ
+  pub opening : Opening
   pub body : Body
 
--- the first line is bad
-abbrev pub unread : Script
-unread = record { banks = 0; rows = 0; stages = 0; words = 0; body = record { program = []; steps = flawed 1 } }
+-- the opening that a line gives: that of sizes
+abbrev pub openingOf : Item → Option Opening
+openingOf Malformed = none
+openingOf (Sizes banks rows stages words) = some (banked banks rows stages words)
+openingOf (Operation code d s imm) = none
+openingOf Issue = none
+openingOf (Execute k) = none
+openingOf (Squash k) = none
+openingOf Commit = none
+openingOf (Finish k) = none
 
--- first comes the line of sizes within their limits
-abbrev pub headed : Item → Body → Script
-headed Malformed b = unread
-headed (Sizes banks rows stages words) b =
-    cond (sizesFit banks rows stages words)
-    (record { banks = banks; rows = rows; stages = stages; words = words; body = b })
-    unread
-headed (Operation code d s imm) b = unread
-headed Issue b = unread
-headed (Execute k) b = unread
-headed (Squash k) b = unread
-headed Commit b = unread
-headed (Finish k) b = unread
+-- the words of memory that an opening asks for
+abbrev pub wordsAsked : Opening → ℕ
+wordsAsked o = buffered .words (buffered .opening o)
+
+-- the first line is bad, and nothing is opened
+abbrev pub unread : Script
+unread = record { opening = banked 0 0 0 0; body = record { program = []; steps = flawed 1 } }
+
+-- first comes the line of an opening within its limits
+abbrev pub headed : Option Opening → Body → Script
+headed none b = unread
+headed (some o) b = cond (buffered .fits o) (record { opening = o; body = b }) unread
 
 abbrev pub scriptBy : List (List ℕ) → List ℕ → Script
 scriptBy [] rest = unread
-scriptBy (line ∷ lines) rest = headed (parsedLine line) (body 2 [] lines rest)
+scriptBy (line ∷ lines) rest = headed (openingOf (parsedLine line)) (body 2 [] lines rest)
 
 abbrev pub script : Lines → Script
 script ls = scriptBy (ls .whole) (ls .rest)

@@ -8,14 +8,15 @@ use lib.Dec.{eqb, ltb}
 use lib.ListN.{length, replicate}
 use Rattle.text.specs.Decimal.{decimal}
 use Rattle.text.specs.Lines.{linesOf}
+use Rattle.table.specs.Reference.{State}
 use Rattle.engine.specs.Conditions.{faults}
 use Rattle.machine_model.specs.declared.Entry.{Entry}
 use Rattle.machine_model.specs.Window.{entryAt, reference, misaligned}
-use Rattle.machine_model.specs.Calls.{Plain, programDone, opened}
+use Rattle.machine_model.specs.Calls.{Plain, programDone, buffered, opened}
 use Rattle.theorem.specs.Play.{Played, play, start}
 use Rattle.script_model.specs.declared.Ending.{Ending}
 use Rattle.script_model.specs.declared.Ending.the-variants.{Open, Done, Fault}
-use Rattle.script_model.specs.Language.{letter, Steps, Script, script}
+use Rattle.script_model.specs.Language.{letter, Steps, Script, wordsAsked, script}
 
 -- a number and the byte after it: a comma (44) or the line feed (10)
 abbrev pub numberField : ℕ → ℕ → List ℕ
@@ -61,7 +62,7 @@ faulted words e = faults words (reference e) || misaligned e
 
 -- `done` when all is committed, `fault` when the oldest has executed where the run faults, else `open`
 abbrev pub ending : Plain → Ending
-ending X = cond (programDone X) Done (cond (faulted (X .buffer .words) (entryAt (X .entries) 0)) Fault Open)
+ending X = cond (programDone X) Done (cond (faulted (buffered .words (X .buffer)) (entryAt (X .entries) 0)) Fault Open)
 
 abbrev pub fate : Ending → List ℕ
 fate Open = 111 ∷ 112 ∷ 101 ∷ 110 ∷ []
@@ -77,20 +78,19 @@ abbrev pub badLine : ℕ → List ℕ
 badLine n = (98 ∷ 97 ∷ 100 ∷ 44 ∷ []) ++ numberField n 10
 
 -- the closing lines, or the bad line in their place
-abbrev pub closing : Played → Option ℕ → List ℕ
+abbrev pub closing : Played State → Option ℕ → List ℕ
 closing x none = wordLines 0 (x .memory) ++ endLine (ending (x .state)) (x .commits)
 closing x (some n) = badLine n
 
 -- the commits of the steps played from x on, then the closing lines
-abbrev pub transcript : List ℕ → Played → Steps → List ℕ
+abbrev pub transcript : List ℕ → Played State → Steps → List ℕ
 transcript program x s =
-    let y = play program x (s .calls) in
+    let y = play buffered program x (s .calls) in
     commitLines (y .record′) ++ closing y (s .flaw)
 
 -- the opening: memory starts as zeros
-abbrev pub scriptOpening : Script → Played
-scriptOpening s =
-    start (opened (s .banks) (s .rows) (s .stages) (s .words) (s .body .program)) (replicate (s .words) 0)
+abbrev pub scriptOpening : Script → Played State
+scriptOpening s = start (opened (s .opening) (s .body .program)) (replicate (wordsAsked (s .opening)) 0)
 
 abbrev pub output : Script → List ℕ
 output s = transcript (s .body .program) (scriptOpening s) (s .body .steps)

@@ -11,12 +11,11 @@ use lib.Seq.{sets, slice}
 use Rattle.text.specs.declared.Line.{Line}
 use Rattle.text.specs.declared.Line.the-variants.{End, Unended, Whole}
 use Rattle.text.specs.Lines.{feed, lineAt, linesOf}
-use Rattle.table.specs.Limits.{sizesFit}
 use Rattle.engine.specs.Contract.{refused, named, executed, done, committed, finished}
 use Rattle.machine_model.specs.declared.Machine.{Machine}
 use Rattle.machine_model.specs.Program.{perInstruction, programMost}
-use Rattle.machine_model.specs.Calls.{Call, issue, execute, squash, commit, finish, Answer, perCommit}
-use Rattle.machine_model.specs.Contract.{plain, Meets, freshMachine}
+use Rattle.machine_model.specs.Calls.{Call, issue, execute, squash, commit, finish, Answer, perCommit, buffered}
+use Rattle.machine_model.specs.Contract.{plain, Meets, freshMachine, tabled}
 use Rattle.theorem.specs.Play.{commitsIn}
 use Rattle.script_model.specs.declared.Item.{Item}
 use Rattle.script_model.specs.declared.Item.the-variants.{Malformed, Sizes, Operation, Issue, Execute, Squash, Commit}
@@ -27,7 +26,7 @@ use Rattle.script_model.specs.declared.Ask.{Ask}
 use Rattle.script_model.specs.declared.Ask.the-variants as ask
 use Rattle.script_model.specs.declared.Order.{Order}
 use Rattle.script_model.specs.declared.Player.{Player}
-use Rattle.script_model.specs.Language.{parsedLine, Script, unread, script}
+use Rattle.script_model.specs.Language.{parsedLine, Script, wordsAsked, unread, script}
 use Rattle.script_model.specs.Output.{committedLines, wordLine, ending, endLine, badLine, most}
 
 -- ---- lines
@@ -200,7 +199,7 @@ scriptOf text = cond (ltb most (length text)) unread (script (linesOf text))
 
 -- the W of the first line; 0 where there is none
 abbrev pub wordsOf : List ℕ → ℕ
-wordsOf text = scriptOf text .words
+wordsOf text = wordsAsked (scriptOf text .opening)
 
 -- The lent program has no room for the longest program, the lent memory is not of W words, or what was lent of the text may not
 -- be all of it and could still be a script.
@@ -215,21 +214,20 @@ lineStart text (suc k) = suc (feed text (lineStart text k))
 
 -- a player without a machine
 abbrev pub idle : Phase → Player
-idle phase = player phase 0 1 0 0 (freshMachine 0 0 0 0 0)
+idle phase = player phase 0 1 0 0 (tabled .unopened)
 
 -- the player of script s, behind the first line and its k instructions
 abbrev pub openedPlayer : List ℕ → Script → ℕ → Player
 openedPlayer text s k =
     player Stepping (lineStart text (suc k)) (suc (suc k)) 0 (length (s .body .program))
-    (freshMachine (s .banks) (s .rows) (s .stages) (s .words) k)
+    (freshMachine (s .opening) k)
 
 -- the player of a text: input that is too long is bad in line 0, and a bad first line in line 1
 abbrev pub firstPlayer : List ℕ → Player
 firstPlayer text =
     let s = scriptOf text in
     cond (ltb most (length text)) (idle (Bad 0))
-    (cond (sizesFit (s .banks) (s .rows) (s .stages) (s .words))
-    (openedPlayer text s (length (s .body .program) / perInstruction)) (idle (Bad 1)))
+    (cond (buffered .fits (s .opening)) (openedPlayer text s (length (s .body .program) / perInstruction)) (idle (Bad 1)))
 
 -- A call of `begin`, where `whole` says that the text lent is all of the input. Lent wrongly, nothing is changed and the player
 -- is over. Otherwise the script's program stands at the start of the lent one and memory is zeros.

@@ -7,28 +7,28 @@ use mathlib.Core.List.{List, [], _∷_, _++_}
 use mathlib.Core.Option.{none}
 use Prim.Native.Nat.{ℕ, _*_}
 use lib.ListN.{length, take, replicate}
-use Rattle.table.specs.Limits.{sizesFit}
+use Rattle.table.specs.Reference.{State}
 use Rattle.engine.specs.Conditions.{refusal}
-use Rattle.machine_model.specs.Calls.{openChecks}
+use Rattle.machine_model.specs.Calls.{buffered, openChecks}
 use Rattle.theorem.specs.Sequential.{Run, runAfter}
 use Rattle.theorem.specs.Play.{Played, play}
 use Rattle.theorem.specs.Truth.{Truth}
 use Rattle.script_model.specs.declared.Player.{Player}
-use Rattle.script_model.specs.Language.{Script}
+use Rattle.script_model.specs.Language.{Script, wordsAsked}
 use Rattle.script_model.specs.Output.{commitLines, wordLines, ending, endLine, closing, scriptOpening, printed}
 use Rattle.script_model.specs.Playing.{isOver, Fills}
 
--- the sizes of a good first line
+-- the opening of a good first line
 abbrev pub Sized : Script → Type 0
-Sized s = sizesFit (s .banks) (s .rows) (s .stages) (s .words) ≡ true
+Sized s = buffered .fits (s .opening) ≡ true
 
 -- the memory that a script opens with
 abbrev pub zeros : Script → List ℕ
-zeros s = replicate (s .words) 0
+zeros s = replicate (wordsAsked (s .opening)) 0
 
 -- what the calls of a script's steps come to
-abbrev pub scriptPlayed : Script → Played
-scriptPlayed s = play (s .body .program) (scriptOpening s) (s .body .steps .calls)
+abbrev pub scriptPlayed : Script → Played State
+scriptPlayed s = play buffered (s .body .program) (scriptOpening s) (s .body .steps .calls)
 
 -- the sequential run, after as many steps
 abbrev pub scriptRun : Script → Run
@@ -61,9 +61,9 @@ scriptRecord s = woven (scriptRun s .record′) (distancesOf (scriptPlayed s .re
 -- non-zero words of the run's memory and the end line with the number of commits, or the bad line in their place.
 pub record ScriptTruth (text : List ℕ) (s : Script) : Type 0 where
   -- no condition that refuses an opening holds
-  pub opens : refusal (openChecks (s .banks) (s .rows) (s .stages) (s .words) (s .body .program) (zeros s)) ≡ 0
+  pub opens : refusal (openChecks (s .opening) (s .body .program) (zeros s)) ≡ 0
   -- the record theorem of the machine, of these calls
-  pub truth : Truth (s .body .program) (zeros s) (scriptPlayed s)
+  pub truth : Truth buffered (s .body .program) (zeros s) (scriptPlayed s)
   pub prints : printed text ≡ commitLines (scriptRecord s) ++ closing (scriptPlayed s) (s .body .steps .flaw)
   -- the closing lines where no line is bad
   pub closes : closing (scriptPlayed s) none

@@ -9,6 +9,7 @@ use lib.ListN.{length}
 use borrow.Author.Needs.{needs}
 use Rattle.machine_model.specs.Program.{programMost}
 use Rattle.script_model.specs.Playing.{wronglyLent}
+use Rattle.script_model.proofs.Heads.{headed}
 use Rattle.script_model.proofs.Beginnings.{lent-rightly, begins-over, begins-long, begins-headless, begins-open}
 use Rattle.script.proofs.begin.Statement.{statement}
 use Rattle.script.proofs.begin.Tie as tie
@@ -59,7 +60,8 @@ returns-4 c =
     let header = told .before .before in
     let short = header .before in
     let room = room-at (short .before) in
-    begins-open (right-at (short .before)) (short .if2 .left) (sym (header .read-header .ensures) ∙ told .header .given .1)
+    begins-open (right-at (short .before)) (short .if2 .left)
+    (headed _ (sym (header .read-header .ensures) ∙ told .header .given .1))
     (loaded .read-program .ensures) (omega arith) (cleared .clear .ensures) (sub-zero _) (c .before .«open» .ensures)
 
 pub begin-spec : {M : Type 1} → statement M

@@ -9,8 +9,8 @@ use lib.Seq.{slice}
 use Rattle.text.specs.declared.Line.{Line}
 use Rattle.text.specs.declared.Line.the-variants.{End, Unended, Whole}
 use Rattle.text.specs.Lines.{lineAt, linesOf}
-use Rattle.table.specs.Limits.{sizesFit}
 use Rattle.machine_model.specs.Program.{perInstruction, programMost, wellFormed}
+use Rattle.machine_model.specs.Calls.{banked, buffered}
 use Rattle.script_model.specs.declared.Item.{Item}
 use Rattle.script_model.specs.declared.Item.the-variants.{Malformed, Sizes, Operation, Issue, Execute, Squash, Commit}
 use Rattle.script_model.specs.declared.Item.the-variants.{Finish}
@@ -24,7 +24,7 @@ use Rattle.script_model.specs.Playing.{lineStart}
 abbrev pub foundIn : Bool → Item → ℕ → Found
 foundIn first Malformed at = found.Nothing
 foundIn first (Sizes banks rows stages words) at =
-    cond (first && sizesFit banks rows stages words) (found.Four banks rows stages words at) found.Nothing
+    cond (first && buffered .fits (banked banks rows stages words)) (found.Four banks rows stages words at) found.Nothing
 foundIn first (Operation code d s imm) at = cond (not first && wellFormed code d s imm) (found.Four code d s imm at) found.Nothing
 foundIn first Issue at = found.Nothing
 foundIn first (Execute k) at = found.Nothing

@@ -1,9 +1,9 @@
 -- `script_reading::words_of` meets its contract: script_model/proofs/Heads.antt says how many words are asked for, and
--- that the limits keep them to 4,096. Assumes nothing.
+-- that the limits bound them. Assumes nothing.
 use mathlib.Core.Path.{sym, _∙_}
 use native.Mathlib.Omega.{arith}
 use borrow.Author.Needs.{needs}
-use Rattle.script_model.proofs.Heads.{words-long, words-none, words-told}
+use Rattle.script_model.proofs.Heads.{headed, words-long, words-none, words-told}
 use Rattle.script_reading.proofs.words_of.Statement.{statement}
 use Rattle.script_reading.proofs.words_of.Tie as tie
 
@@ -18,7 +18,8 @@ returns-2 c =
 returns-3 : tie.Need-returns-3
 returns-3 c =
     let told = sym (c .before .before .before .read-header .ensures) ∙ c .before .header .given .1 in
-    words-told (c .before .before .before .before .before .before .args .s .now) _ _ _ _ _ (omega arith) told
+    let s = c .before .before .before .before .before .before .args .s .now in
+    words-told s (omega arith) (headed s told)
 
 pub words-of-spec : {M : Type 1} → statement M
 words-of-spec =
