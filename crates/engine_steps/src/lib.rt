@@ -23,7 +23,7 @@ ghost use Rattle.engine.specs.Opening.{fresh};
 ghost use Rattle.engine.specs.Execution.{written};
 ghost use Rattle.engine.specs.Part.{whole};
 ghost use Rattle.engine.specs.computed.Steps.{within, cutMarks, marking, keeping};
-ghost use Rattle.engine.specs.computed.Effect.{wordAddress, wordBelow, effectOf, answered};
+ghost use Rattle.engine.specs.computed.Effect.{addressIn, isPart, wordAddress, wordBelow, effectOf, answered};
 
 // A table with these sizes and nothing in it.
 pub fn empty(banks: usize, rows: usize, stages: usize, words: usize) -> Table
@@ -73,18 +73,40 @@ fn merge(part: Part, b: u32, w: u32, v: u32) -> u32
     }
 }
 
-// The number of the word that the action takes; any, 0, where it takes none. Tests in turn: a match is a jump by table, which
-// would cost a call of the machine more than the read.
+// The action's address as it stands in it, of a part's store the byte number; any, 0, where it has none.
+fn address_in(action: Action) -> u32
+    ensures { λ r. ⌜ r ≡ addressIn action ⌝ }
+{
+    match action {
+        Action::Compute(_) => 0,
+        Action::LoadAt(a) => a,
+        Action::StoreAt(a, _) => a,
+        Action::PartAt(_, b, _) => b,
+    }
+}
+
+// Whether it is a store of a part.
+fn is_part(action: Action) -> bool
+    ensures { λ r. ⌜ r ≡ isPart action ⌝ }
+{
+    match action {
+        Action::Compute(_) => false,
+        Action::LoadAt(_) => false,
+        Action::StoreAt(_, _) => false,
+        Action::PartAt(_, _, _) => true,
+    }
+}
+
+// The number of the word that the action goes to. One test on the number that every action has: a match with an arm for each
+// would be one jump more that depends on what is executed.
 pub fn word_address(action: Action) -> u32
     ensures { λ r. ⌜ r ≡ wordAddress action ⌝ }
 {
-    if let Action::LoadAt(a) = action {
-        return a;
+    let n = address_in(action);
+    if is_part(action) {
+        return n / 4;
     }
-    if let Action::PartAt(_, b, _) = action {
-        return b / 4;
-    }
-    0
+    n
 }
 
 // The memory's word there: what stands below the table.

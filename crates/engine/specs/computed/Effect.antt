@@ -13,18 +13,29 @@ use Rattle.engine.specs.declared.Action.the-variants.{Compute, LoadAt, S
 use Rattle.engine.specs.Part.{wordOf, whole}
 use Rattle.engine.specs.declared.Effect.{Effect}
 
--- the number of the word that an action takes; any, 0, where it takes none
+-- the address in an action, of a part's store the byte number; any, 0, where there is none
+abbrev pub addressIn : Action → ℕ
+addressIn (Compute v) = 0
+addressIn (LoadAt a) = a
+addressIn (StoreAt a v) = a
+addressIn (PartAt part b v) = b
+
+-- it is a store of a part
+abbrev pub isPart : Action → Bool
+isPart (Compute v) = false
+isPart (LoadAt a) = false
+isPart (StoreAt a v) = false
+isPart (PartAt part b v) = true
+
+-- the number of the word that it goes to
 abbrev pub wordAddress : Action → ℕ
-wordAddress (Compute v) = 0
-wordAddress (LoadAt a) = a
-wordAddress (StoreAt a v) = 0
-wordAddress (PartAt part b v) = wordOf b
+wordAddress act = cond (isPart act) (wordOf (addressIn act)) (addressIn act)
 
 -- what stands there below the table: the memory's word
 abbrev pub wordBelow : List ℕ → Action → ℕ
 wordBelow memory act = getD memory (wordAddress act) 0
 
--- what an action comes to at position p of a table with these parts, where the word that it takes is `below` under the table
+-- what an action comes to at position p of a table with these parts, where `below` stands below the table at its word
 abbrev pub effectOf : ℕ → ℕ → ℕ → ℕ → ℕ → List ℕ → List ℕ → List ℕ → List ℕ → List ℕ → ℕ → ℕ → Action → Effect
 effectOf banks rows stages oldest live addresses loads stores values taken p below (Compute v) =
     record { load = false; store = false; row = 0; word = 0; left = live; value = v; address = 0; distance = 0; taken = 0 }
