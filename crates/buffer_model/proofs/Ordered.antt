@@ -1,6 +1,7 @@
--- "Checks go from the smallest number up. A call is refused when a condition in its rows holds, and only then": of every call
--- through its contract, 2 among its conditions (decides), and of an opening (opening-goes). The numbers of each call's conditions
--- rise, from above 2 on in all but the opening, so that the engine's law of such a call gives it.
+-- "A call is refused when a condition in its rows holds, and only then", with the first in the order of the numbers: of every
+-- call through its contract, 2 among its conditions (decides), and of an opening (opening-goes). The conditions of each call are
+-- in that order, behind 2 in all but the opening, so that the engine's law of such a call gives it. "Checks go from the smallest
+-- number up": the first is the smallest, by the engine's law of what goes by conditions (its proofs/Smallest.antt).
 -- Assumes nothing.
 use mathlib.Core.Bool.{true}
 use mathlib.Core.List.{List, []}
@@ -21,14 +22,14 @@ use Rattle.buffer_model.specs.Calls.{Call, issue, execute, squash, commi
 use Rattle.buffer_model.specs.Contract.{Meets, Opens}
 use Rattle.buffer_model.proofs.MeetingContract.{accepts}
 
--- the numbers of a call's conditions rise, and the first of them is above 2
+-- the conditions of a call are in the order of the numbers, behind 2
 call-rises : (c : Call) (P : State) (memory : List ℕ) → risingFrom 2 (checksOf c P memory) ≡ true
 call-rises issue P memory = refl
 call-rises (execute τ act) P memory = refl
 call-rises (squash τ) P memory = refl
 call-rises commit P memory = refl
 
--- It is refused with k exactly if k is the smallest number of a condition that holds, 2 among them (that the table breaks its
+-- It is refused with k exactly if k is the first number of a condition that holds, 2 among them (that the table breaks its
 -- rules); otherwise it comes to what its definition says.
 pub decides : (t : Table) (c : Call) (m : List ℕ) {said : Answer} {u : Table} {v : List ℕ} → Meets t c m said u v
     → Decides Rules view t (checksOf c (view t) m) (acceptedResult c (view t) m) said u v []
@@ -37,7 +38,7 @@ decides t c m meets =
     meets-decides Rules view t m [] (checksOf c (view t) m) (acceptedResult c (view t) m)
     (tested (lawful t) (lawful-rules t) (lawful-broken t)) (call-rises c (view t) m) (accepts c (view t) m) meets
 
--- an opening: its conditions are those of the list, whose numbers rise
+-- an opening: its conditions are those of the list, in the order of the numbers
 pub opening-goes : (banks rows stages words : ℕ) (m : List ℕ) {said : Answer} {u : Table} → Opens banks rows stages words m said u
     → GoesBy (λ (k : ℕ). holds k (openChecks banks rows stages words m) ≡ true) said
 opening-goes banks rows stages words m {said} opens =

@@ -1,5 +1,5 @@
 -- 01's sentences of an execution's answer, through the contract: the engine's laws of them (its proofs/Outcomes.antt) at the
--- position that the ticket names. It answers 10 exactly where none of its smaller conditions holds and the plain list has no row
+-- position that the ticket names. It answers 10 exactly where none of the conditions before holds and the plain list has no row
 -- for its address (ten-answered, answers-ten). One that is not refused names a squashed reference exactly where the list requires
 -- a squash, the one there (ticket-there), and the references before it stay (squash-comes, squash-only, squash-none). So an
 -- execution without memory and a load of an address with a row squash nothing. A load of an address of W or more takes 0 where
@@ -29,7 +29,7 @@ use Rattle.engine.specs.declared.Action.{Action}
 use Rattle.engine.specs.declared.Action.the-variants.{Compute, LoadAt}
 use Rattle.engine.specs.Conditions.{Check}
 use Rattle.engine.specs.Contract.{refused, executed}
-use Rattle.engine.proofs.Deciding.{Holds, NoneBelow}
+use Rattle.engine.proofs.Deciding.{Holds, NoneBefore}
 use Rattle.engine.proofs.Outcomes
 use Rattle.engine.proofs.Outcomes.{Executing, Execution, execution}
 use Rattle.buffer_model.specs.Answers.{Answer}
@@ -72,7 +72,7 @@ module _ (t : Table) (τ : Ticket) (act : Action) (m : List ℕ) where
 
   -- none of its conditions with a number below k holds, 2 among them
   abbrev pub Unrefused : ℕ → Type 0
-  Unrefused = NoneBelow (Holds Rules t checks)
+  Unrefused = NoneBefore (Holds Rules t checks)
 
   module _ {said : Answer} {u : Table} {v : List ℕ} (meets : Meets t (execute τ act) m said u v) where
     pub ten-answered : said ≡ refused 10 → Unrefused 10 × ((a : ℕ) × (touches a fate ≡ true) × Stalled (view t) p a)

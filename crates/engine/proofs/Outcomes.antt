@@ -22,7 +22,7 @@ use Rattle.engine.specs.Conditions.{Check}
 use Rattle.engine.specs.Contract.{Answer, refused, Result}
 use Rattle.engine.proofs.Meeting.{Accepts}
 use Rattle.engine.proofs.Refusing.{conditionOf}
-use Rattle.engine.proofs.Deciding.{NoneBelow, Holds, Decides, unmet-below, answered, answers}
+use Rattle.engine.proofs.Deciding.{NoneBefore, Holds, Decides, unmet-before, answered, answers}
 
 -- the conditions of such an execution: the memory's length, that the reference is live, and that no row is to be had
 pub record Executing (checks : List Check) (w : List ℕ) (Q : State) (p : ℕ) (f : Fate) : Type 0 where
@@ -43,15 +43,15 @@ module _ {S P N : Type 0} {Lawful : S → Type 0} {view : S → P} {t : S} {chec
     {u : S} {v kept : List ℕ} (decided : Decides Lawful view t checks r said u v kept)
     {w : List ℕ} {Q : State} {p : ℕ} {f : Fate} (does : Executing checks w Q p f) where
   pub ten-answered : said ≡ refused 10
-      → NoneBelow (Holds Lawful t checks) 10 × ((a : ℕ) × (touches a f ≡ true) × Stalled Q p a)
+      → NoneBefore (Holds Lawful t checks) 10 × ((a : ℕ) × (touches a f ≡ true) × Stalled Q p a)
   ten-answered e =
       let met = answered decided 10 (omega arith) e in (
         met .0,
-        stalls-only Q p f (does .seven (unmet-below decided 10 (met .0) 7 (omega arith)))
+        stalls-only Q p f (does .seven (unmet-before decided 10 (met .0) 7 (omega arith)))
             (eqb-true (survivors Q p f) 0 (sym (does .ten) ∙ met .1)),
       )
 
-  pub answers-ten : NoneBelow (Holds Lawful t checks) 10 → (a : ℕ) → touches a f ≡ true → Stalled Q p a → said ≡ refused 10
+  pub answers-ten : NoneBefore (Holds Lawful t checks) 10 → (a : ℕ) → touches a f ≡ true → Stalled Q p a → said ≡ refused 10
   answers-ten low a access stall =
       answers decided 10 low (does .ten ∙ eq-eqb (survivors Q p f) 0 (stalls Q p a f access stall))
 
