@@ -18,7 +18,7 @@ use Rattle.lookup.proofs.Eviction.{Stalled}
 use Rattle.engine.specs.Conditions.{Check}
 use Rattle.engine.specs.Contract.{refused}
 use Rattle.engine.proofs.Meeting.{Accepts}
-use Rattle.engine.proofs.Deciding.{Holds, NoneBelow, Decides, unmet-below, answered, answers}
+use Rattle.engine.proofs.Deciding.{Holds, NoneBefore, Decides, unmet-before, answered, answers}
 use Rattle.engine.proofs.Outcomes
 use Rattle.engine.proofs.Outcomes.{Executing}
 use Rattle.machine_model.specs.declared.Instruction.{Instruction}
@@ -51,7 +51,7 @@ module _ (program : List ℕ) (m : Machine) (p : ℕ) (w : List ℕ) where
 
   -- none of its conditions with a number below k holds, 2 among them
   abbrev pub Unrefused : ℕ → Type 0
-  Unrefused = NoneBelow (Holds Sound m checks)
+  Unrefused = NoneBefore (Holds Sound m checks)
 
   -- the instruction that executes
   abbrev own : Instruction
@@ -77,7 +77,7 @@ module _ (program : List ℕ) (m : Machine) (p : ℕ) (w : List ℕ) where
 
     -- where 7 does not hold the position is live
     inside : Unrefused 9 → p ≤ length (plain m .entries)
-    inside low = le-of-lt (leb-false (length (plain m .entries)) p (unmet-below decided 9 low 7 (omega arith)))
+    inside low = le-of-lt (leb-false (length (plain m .entries)) p (unmet-before decided 9 low 7 (omega arith)))
 
     -- "an operand's writer has not executed": it answers 9 exactly where no smaller condition holds and, for a register that the
     -- instruction needs, the nearest older live writer waits
@@ -96,7 +96,7 @@ module _ (program : List ℕ) (m : Machine) (p : ℕ) (w : List ℕ) where
         × (touches a (referenceAt (plain m) w p f) ≡ true) × Stalled (plain m .buffer) p a)
     ten-answered e =
         let low = answered decided 10 (omega arith) e .0 in
-        let told = told-fate (evaluated (plain m) w p) (unmet-below decided 10 low 9 (omega arith)) in
+        let told = told-fate (evaluated (plain m) w p) (unmet-before decided 10 low 9 (omega arith)) in
         let stall = Outcomes.ten-answered decided (does (told .0) (told .1)) e .1 in
         (low, (told .0, stall .0, told .1, stall .1, stall .2))
 
