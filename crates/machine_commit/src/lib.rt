@@ -38,50 +38,25 @@ pub fn commit(mut m: Machine, program: &[u32], memory: &mut [u32]) -> CommitResu
     let live = m.table.live;
     let oldest = m.table.oldest;
     let stages = m.table.stages;
-    if live == 0 {
-        return CommitResult {
-            answer: CommitAnswer::Refused(11),
-            machine: m,
-        };
-    }
     let e = window[oldest];
-    if machine_isa::is_waiting(e) {
+    let refusal = machine_steps::commit_refusal(e, live, m.table.words);
+    if refusal != 0 {
         return CommitResult {
-            answer: CommitAnswer::Refused(12),
+            answer: CommitAnswer::Refused(refusal),
             machine: m,
         };
     }
-    let mark = machine_steps::oldest_mark(e, engine_steps::at_stage(&m.table.values, oldest));
-    if engine_steps::mark_faults(mark, m.table.words) {
-        return CommitResult {
-            answer: CommitAnswer::Refused(13),
-            machine: m,
-        };
-    }
-    if machine_isa::is_misaligned(e) {
-        return CommitResult {
-            answer: CommitAnswer::Refused(14),
-            machine: m,
-        };
-    }
-    engine_steps::write_back(memory, mark);
-    let i = e.instruction;
-    let v = machine_isa::value_of(e);
+    let word = engine_steps::at_stage(&m.table.values, oldest);
+    engine_steps::write_back(memory, machine_steps::oldest_mark(e, word));
     let first = marks::stage_at(oldest, stages, 1);
     let stay = marks::first_stages(first, stages, live - 1);
     m.table.oldest = first;
     m.table.live = live - 1;
     engine_steps::keep(&mut m.table.loads, banks, stay);
     engine_steps::keep(&mut m.table.stores, banks, stay);
-    machine_steps::write_register(&mut m.registers, i, v);
+    machine_steps::write_register(&mut m.registers, e);
     CommitResult {
-        answer: CommitAnswer::Committed(
-            e.index,
-            machine_isa::code_of(i),
-            machine_isa::target_of(e),
-            v,
-            machine_isa::distance_of(e),
-        ),
+        answer: machine_steps::commit_answer(e),
         machine: m,
     }
 }

@@ -1,10 +1,7 @@
 // The call `execute`, which requires nothing; its contract is `Meets` of crates/machine_model/specs/Contract.antt.
-use machine_model::Entry;
 use machine_model::ExecuteAnswer;
 use machine_model::ExecuteResult;
-use machine_model::Fate;
 use machine_model::Machine;
-use machine_model::Wanted;
 ghost use mathlib.Core.List.{[]};
 ghost use Rattle.machine_model.specs.Calls.{execute};
 ghost use Rattle.machine_model.specs.Contract.{executeSays, Meets};
@@ -42,29 +39,17 @@ pub fn execute(mut m: Machine, program: &[u32], p: usize, memory: &[u32]) -> Exe
     let oldest = m.table.oldest;
     let stages = m.table.stages;
     let executed = m.table.executed;
-    if p >= live {
-        return ExecuteResult {
-            answer: ExecuteAnswer::Refused(7),
-            machine: m,
-        };
-    }
-    let s = marks::stage_at(oldest, stages, p);
-    let e = window[s];
-    if !machine_isa::is_waiting(e) {
-        return ExecuteResult {
-            answer: ExecuteAnswer::Refused(8),
-            machine: m,
-        };
-    }
-    let instruction = e.instruction;
     let registers = m.registers;
-    let wanted = machine_window::wanted_at(window, registers, oldest, stages, instruction, p);
-    let Wanted::Ready(action) = wanted else {
+    let asked = machine_window::asked_at(window, registers, oldest, stages, live, p);
+    if asked.why != 0 {
         return ExecuteResult {
-            answer: ExecuteAnswer::Refused(9),
+            answer: ExecuteAnswer::Refused(asked.why),
             machine: m,
         };
-    };
+    }
+    let s = asked.stage;
+    let e = asked.entry;
+    let action = asked.action;
     let effect = engine_steps::effect_of(
         banks,
         m.table.rows,
@@ -104,20 +89,11 @@ pub fn execute(mut m: Machine, program: &[u32], p: usize, memory: &[u32]) -> Exe
     engine_steps::add_mark(&mut m.table.stores, effect.store, r, s);
     engine_steps::set_value(&mut m.table.values, effect.store, s, v);
     engine_steps::set_value(&mut m.table.taken, effect.load, s, effect.taken);
-    m.window[s] = Entry {
-        instruction,
-        index: e.index,
-        fate: Fate::Executed(v, a),
-        distance: effect.distance,
-    };
+    m.window[s] = machine_steps::entry_executed(e, v, a, effect.distance);
     let f = window[marks::stage_at(oldest, stages, left)];
     m.next = machine_steps::next_after(f.index, live, left, m.next);
     ExecuteResult {
-        answer: ExecuteAnswer::Executed(
-            engine_steps::answered(effect.load, effect.store, v),
-            effect.distance,
-            machine_steps::squashed_at(live, left),
-        ),
+        answer: machine_steps::execute_answer(effect, live),
         machine: m,
     }
 }

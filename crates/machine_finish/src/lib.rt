@@ -1,6 +1,4 @@
 // The call `finish`, which requires nothing; its contract is `Meets` of crates/machine_model/specs/Contract.antt.
-use machine_model::Entry;
-use machine_model::Fate;
 use machine_model::FinishAnswer;
 use machine_model::FinishResult;
 use machine_model::Machine;
@@ -70,16 +68,11 @@ pub fn finish(
             m.table.next = std::num::wrapping_add_u32(number, 1);
             m.table.executed = 0;
             engine_steps::set_number(&mut m.table.numbers, oldest, number);
-            m.window[oldest] = Entry {
-                instruction: machine_isa::instruction_at(program, next as usize),
-                index: next,
-                fate: Fate::Waiting,
-                distance: 0,
-            };
+            m.window[oldest] = machine_steps::entry_issued(program, next);
             m.next = next + 1;
         }
         let e = m.window[oldest];
-        if machine_isa::is_waiting(e) {
+        if machine_isa::is_pending(e) {
             let banks = m.table.banks;
             let live = m.table.live;
             let executed = m.table.executed;
@@ -121,52 +114,28 @@ pub fn finish(
             engine_steps::set_value(&mut m.table.values, effect.store, oldest, v);
             engine_steps::set_value(&mut m.table.taken, effect.load, oldest, effect.taken);
             let f = m.window[marks::stage_at(oldest, stages, left)];
-            m.window[oldest] = Entry {
-                instruction,
-                index: e.index,
-                fate: Fate::Executed(v, a),
-                distance: effect.distance,
-            };
+            m.window[oldest] = machine_steps::entry_executed(e, v, a, effect.distance);
             m.next = machine_steps::next_after(f.index, live, left, m.next);
         }
         let banks = m.table.banks;
         let live = m.table.live;
         let done = m.window[oldest];
-        let mark = machine_steps::oldest_mark(
-            done,
-            engine_steps::at_stage(&m.table.values, oldest),
-        );
-        if engine_steps::mark_faults(mark, m.table.words) {
+        if machine_steps::commit_refusal(done, live, m.table.words) != 0 {
             return FinishResult {
                 answer: FinishAnswer::Finished(n),
                 machine: m,
             };
         }
-        if machine_isa::is_misaligned(done) {
-            return FinishResult {
-                answer: FinishAnswer::Finished(n),
-                machine: m,
-            };
-        }
-        engine_steps::write_back(memory, mark);
-        let i = done.instruction;
-        let v = machine_isa::value_of(done);
+        let word = engine_steps::at_stage(&m.table.values, oldest);
+        engine_steps::write_back(memory, machine_steps::oldest_mark(done, word));
         let first = marks::stage_at(oldest, stages, 1);
         let stay = marks::first_stages(first, stages, live - 1);
         m.table.oldest = first;
         m.table.live = live - 1;
         engine_steps::keep(&mut m.table.loads, banks, stay);
         engine_steps::keep(&mut m.table.stores, banks, stay);
-        machine_steps::write_register(&mut m.registers, i, v);
-        machine_isa::put_commit(
-            list,
-            n * PER_COMMIT,
-            done.index,
-            machine_isa::code_of(i),
-            machine_isa::target_of(done),
-            v,
-            machine_isa::distance_of(done),
-        );
+        machine_steps::write_register(&mut m.registers, done);
+        machine_steps::list_commit(list, n, done);
         n += 1;
     }
     FinishResult {

@@ -292,8 +292,8 @@ pub fn action_of(i: Instruction, x: u32, y: u32) -> Action
     }
 }
 
-// Whether an entry waits.
-pub fn is_waiting(e: Entry) -> bool
+// Whether an entry has not executed yet.
+pub fn is_pending(e: Entry) -> bool
     ensures { λ r. ⌜ r ≡ pending (e .fate) ⌝ }
 {
     let fate = e.fate;

@@ -8,6 +8,7 @@ use machine_model::Instruction;
 use machine_model::IssueAnswer;
 use machine_model::IssueResult;
 use machine_model::Machine;
+use machine_model::PER_INSTRUCTION;
 use machine_model::PROGRAM;
 use machine_model::REGISTERS;
 use table::STAGES;
@@ -72,7 +73,7 @@ pub fn open(
         answer: DoneAnswer::Done,
         machine: empty(
             engine_steps::empty(banks, rows, stages, words),
-            (program.len() / 4) as u32,
+            (program.len() / PER_INSTRUCTION) as u32,
         ),
     }
 }
@@ -110,15 +111,10 @@ pub fn issue(mut m: Machine, program: &[u32]) -> IssueResult
     let executed = m.table.executed;
     let number = m.table.next;
     let next = m.next;
-    if live == stages {
+    let refusal = machine_steps::issue_refusal(live == stages, m.count, next);
+    if refusal != 0 {
         return IssueResult {
-            answer: IssueAnswer::Refused(5),
-            machine: m,
-        };
-    }
-    if m.count <= next {
-        return IssueResult {
-            answer: IssueAnswer::Refused(6),
+            answer: IssueAnswer::Refused(refusal),
             machine: m,
         };
     }
@@ -127,12 +123,7 @@ pub fn issue(mut m: Machine, program: &[u32]) -> IssueResult
     m.table.next = std::num::wrapping_add_u32(number, 1);
     m.table.executed = executed & marks::first_stages(oldest, stages, live);
     engine_steps::set_number(&mut m.table.numbers, s, number);
-    m.window[s] = Entry {
-        instruction: machine_isa::instruction_at(program, next as usize),
-        index: next,
-        fate: Fate::Waiting,
-        distance: 0,
-    };
+    m.window[s] = machine_steps::entry_issued(program, next);
     m.next = next + 1;
     IssueResult {
         answer: IssueAnswer::Issued(live),

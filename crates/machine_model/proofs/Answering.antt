@@ -3,27 +3,27 @@
 -- first of the conditions 2, 3 and 4 that holds: 0 says that none does (validate-passes), and any other number is the call's
 -- refusal (check-turns), because each call's own checks begin with those of the validation. The validation looks at the window
 -- by stage, the definition at the list of entries; they see the same entries (fits-same). Assumes nothing.
-use mathlib.Core.Bool.{Bool, true, false, cond, not, _&&_, and-eq-true-iff}
+use mathlib.Core.Bool.{Bool, true, false, not, _&&_, and-eq-true-iff}
 use mathlib.Core.List.{List, [], _∷_}
 use mathlib.Core.Path.{_≡_, refl, sym, ap, _∙_}
 use Prim.Native.Nat.{ℕ, _*_, _<_}
-use native.Mathlib.Omega.{arith}
 use lib.Dec.{eqb}
 use lib.ListN.{length}
-use borrow.Author.Tests.{eqb-true, eqb-false, eq-eqb}
+use borrow.Author.Tests.{eqb-true, eqb-false, not-false}
 use Rattle.marks.specs.Counting.{every}
 use Rattle.marks.proofs.Counts.{every-at, every-same}
 use Rattle.table.specs.computed.Check.{lawful}
 use Rattle.engine.specs.Contract.{refused}
-use Rattle.engine.specs.Conditions.{Check, when, refusal, wrongLength}
+use Rattle.engine.specs.Conditions.{when, refusal}
+use Rattle.engine.proofs.Refusing.{passes}
 use Rattle.engine.proofs.Meeting
 use Rattle.engine.proofs.Meeting.{turned, Accepts}
 use Rattle.machine_model.specs.declared.Machine.{Machine}
-use Rattle.machine_model.specs.Program.{programFits}
+use Rattle.machine_model.specs.Program.{perInstruction, programFits}
 use Rattle.machine_model.specs.Window.{entryAt}
 use Rattle.machine_model.specs.Over
 use Rattle.machine_model.specs.Calls.{Call, issue, execute, squash, commit, finish, lentTo, Answer, Result}
-use Rattle.machine_model.specs.Calls.{matchesProgram, fitsProgram, programCheck, respond}
+use Rattle.machine_model.specs.Calls.{matchesProgram, fitsProgram, respond}
 use Rattle.machine_model.specs.Contract.{entryOf, plain, Sound, Meets}
 use Rattle.machine_model.proofs.Sounding.{agreeing, fitting, validateOf, length-entries, entry-at}
 use Rattle.machine_model.proofs.Sounding.{tests-sound, broken-tests}
@@ -49,7 +49,7 @@ module _ (program : List ℕ) (m : Machine) (c : Call) (w : List ℕ) where
 fits-same : (program : List ℕ) (m : Machine) → fitsProgram program (plain m) ≡ fitting program m
 fits-same program m =
     let likeAt : ℕ → Bool = λ p. matchesProgram program (m .count) (entryAt (plain m .entries) p) in
-    ap (λ (b : Bool). programFits program && eqb (length program) (4 * m .count) && b)
+    ap (λ (b : Bool). programFits program && eqb (length program) (perInstruction * m .count) && b)
     (ap (every likeAt) (length-entries m)
     ∙ every-same likeAt (λ (p : ℕ). matchesProgram program (m .count) (entryOf m p)) (m .table .live)
     (λ p h. ap (matchesProgram program (m .count)) (entry-at m p h)))
@@ -61,34 +61,34 @@ pub record Passed (m : Machine) (program : List ℕ) (lent : ℕ) : Type 0 where
   pub sound : Sound m
   pub words : lent ≡ m .table .words
   pub fits : programFits program ≡ true
-  pub counted : length program ≡ 4 * m .count
+  pub counted : length program ≡ perInstruction * m .count
   pub alike : (p : ℕ) → p < m .table .live → matchesProgram program (m .count) (entryOf m p) ≡ true
-  pub checks : (checks : List Check) → refusal (programCheck program (plain m) ∷ checks) ≡ refusal checks
+  pub opened : fitsProgram program (plain m) ≡ true
 
 -- none of three conditions holds where no number comes of them
 none-holds : (a b c : Bool) → refusal (when (not a) 2 ∷ when (not b) 3 ∷ when (not c) 4 ∷ []) ≡ 0
     → (a ≡ true) × (b ≡ true) × (c ≡ true)
-none-holds true true true h = (refl, refl, refl)
-none-holds true true false h = absurd (omega arith)
-none-holds true false c h = absurd (omega arith)
-none-holds false b c h = absurd (omega arith)
+none-holds a b c h =
+    let two = passes (not a) 1 _ h in
+    let three = passes (not b) 2 _ (two .1) in
+    (not-false a (two .0), not-false b (three .0), not-false c (passes (not c) 3 _ (three .1) .0))
 
 pub validate-passes : (m : Machine) (program : List ℕ) (lent : ℕ) → validateOf m program lent ≡ 0 → Passed m program lent
 validate-passes m program lent h =
     let likeAt : ℕ → Bool = λ p. matchesProgram program (m .count) (entryOf m p) in
-    let opened : Bool = programFits program && eqb (length program) (4 * m .count) in
+    let opened : Bool = programFits program && eqb (length program) (perInstruction * m .count) in
     let tests =
     none-holds (lawful (m .table) && agreeing m (m .table .live)) (eqb lent (m .table .words)) (fitting program m) h in
     let like-tests = and-eq-true-iff opened (every likeAt (m .table .live)) .0 (tests .2) in
-    let program-tests = and-eq-true-iff (programFits program) (eqb (length program) (4 * m .count)) .0 (like-tests .0) in
+    let program-tests =
+    and-eq-true-iff (programFits program) (eqb (length program) (perInstruction * m .count)) .0 (like-tests .0) in
     record {
       sound = tests-sound m (tests .0);
       words = eqb-true lent (m .table .words) (tests .1);
       fits = program-tests .0;
-      counted = eqb-true (length program) (4 * m .count) (program-tests .1);
+      counted = eqb-true (length program) (perInstruction * m .count) (program-tests .1);
       alike = every-at likeAt (m .table .live) (like-tests .1);
-      checks = λ checks.
-          ap (λ (b : Bool). cond (not b) 4 (refusal checks)) (fits-same program m ∙ tests .2);
+      opened = fits-same program m ∙ tests .2;
     }
 
 -- the same of the number that the code found
@@ -98,14 +98,6 @@ module _ (m : Machine) (program : List ℕ) (lent : ℕ) {why : ℕ} (found : wh
 
   pub check-passes : Passed m program lent
   check-passes = validate-passes m program lent check-none
-
--- a passed machine passes both checks of a call that is lent memory
-pub passed-lent : (m : Machine) (program w : List ℕ) → Passed m program (length w) → (checks : List Check)
-    → refusal (wrongLength (m .table .words) w ∷ programCheck program (plain m) ∷ checks) ≡ refusal checks
-passed-lent m program w passed checks =
-    ap (λ (b : Bool). cond (not b) 3 (refusal (programCheck program (plain m) ∷ checks)))
-    (eq-eqb (length w) (m .table .words) (passed .words))
-    ∙ passed .checks checks
 
 -- the length that the validation of a call is asked about: of one that is lent no memory, the right one
 abbrev pub lengthFor : Machine → Call → List ℕ → ℕ

@@ -7,15 +7,16 @@ use mathlib.Core.List.{List, [], _∷_, _++_}
 use mathlib.Core.Path.{_≡_, refl, sym, ap, ap₂, subst, _∙_}
 use Prim.Native.Nat.{ℕ, _+_, _*_, _≤_, _<_}
 use native.Mathlib.Omega.{arith}
-use lib.Dec.{eqb, leb, ltb}
+use lib.Dec.{eqb, ltb}
 use lib.ListN.{length, take, drop, set, length-append, length-take, length-drop, length-set, List·getD-append}
 use lib.Seq.{getD-at, getD-take, getD-drop, getD-set-same, getD-set-other}
-use borrow.Author.Tests.{ltb-true, ltb-false, lt-ltb, leb-false, eq-eqb, eqb-true, eqb-false}
+use borrow.Author.Tests.{ltb-true, ltb-false, lt-ltb, eq-eqb, eqb-true, eqb-false}
 use Rattle.marks.proofs.Counts.{every-from}
 use Rattle.table.specs.computed.Check.{lawful}
-use Rattle.machine_model.specs.Program.{dOf, sOf, immOf, same, programFits, instructionAt, codeOf}
+use Rattle.machine_model.specs.Program.{perInstruction, dOf, sOf, immOf, same, programFits, instructionAt, codeOf}
 use Rattle.engine.specs.Contract.{refused, judged}
 use Rattle.engine.specs.Conditions.{when, refusal}
+use Rattle.engine.proofs.Refusing.{passes}
 use Rattle.machine_model.specs.declared.Instruction.{Instruction}
 use Rattle.machine_model.specs.declared.Entry.{Entry}
 use Rattle.machine_model.specs.declared.Machine.{Machine}
@@ -49,6 +50,7 @@ use Rattle.machine_model.specs.Calls.{
 use Rattle.machine_model.specs.Contract.{entryOf, plain, Sound, Meets}
 use Rattle.machine_model.proofs.Sounding.{agreeing, validateOf, length-entries, entry-at, sound-tests}
 use Rattle.machine_model.proofs.Answering.{Passed, validate-passes}
+use Rattle.machine_model.proofs.Refusals.{issue-free}
 
 -- ---- a test that every entry of a list passes
 
@@ -91,7 +93,7 @@ module _ (g : Entry → Bool) (es : List Entry) (all : All g es) where
 -- a memory of the length lent fits, the program is as long as the opened one, and each entry is its instruction
 record Fitting (program : List ℕ) (lent : ℕ) (X : Plain) : Type 0 where
   words : lent ≡ X .buffer .words
-  counted : length program ≡ 4 * X .count
+  counted : length program ≡ perInstruction * X .count
   alike : All (matchesProgram program (X .count)) (X .entries)
 
 passed-fits : (m : Machine) (program : List ℕ) (lent : ℕ) → Passed m program lent → Fitting program lent (plain m)
@@ -115,7 +117,7 @@ fits-passes u program lent fits sound fit =
     none-refuses (lawful (u .table) && agreeing u (u .table .live)) (eqb lent (u .table .words)) _
     (sound-tests u sound)
     (eq-eqb lent (u .table .words) (fit .words))
-    (ap₂ _&&_ (ap₂ _&&_ fits (eq-eqb (length program) (4 * u .count) (fit .counted)))
+    (ap₂ _&&_ (ap₂ _&&_ fits (eq-eqb (length program) (perInstruction * u .count) (fit .counted)))
     (every-from likeAt (u .table .live)
     (λ p h. ap (matchesProgram program (u .count)) (sym (entry-at u p h)) ∙ fit .alike p (omega (arith, length-entries u)))))
 
@@ -130,13 +132,6 @@ same-self i =
     ap₂ _&&_
     (ap₂ _&&_ (ap₂ _&&_ (eq-eqb (codeOf i) (codeOf i) refl) (eq-eqb (dOf i) (dOf i) refl)) (eq-eqb (sOf i) (sOf i) refl))
     (eq-eqb (immOf i) (immOf i) refl)
-
--- the last of issue's conditions
-last-passes : (a b c : Bool) → refusal (when a 4 ∷ when b 5 ∷ when c 6 ∷ []) ≡ 0 → c ≡ false
-last-passes true b c h = absurd (omega arith)
-last-passes false true c h = absurd (omega arith)
-last-passes false false true h = absurd (omega arith)
-last-passes false false false h = refl
 
 module _ (program : List ℕ) (lent : ℕ) (X : Plain) (w : List ℕ) (fit : Fitting program lent X) where
   -- a refused call leaves the state
@@ -154,12 +149,8 @@ module _ (program : List ℕ) (lent : ℕ) (X : Plain) (w : List ℕ) (fit : Fit
       judged-fits (refusal (issueChecks program X)) _
       (λ z.
       let left : X .next < X .count =
-      leb-false (X .count) (X .next)
-      (last-passes
-      (not (fitsProgram program X))
-      (eqb (length (X .entries)) (X .buffer .stages))
-      (leb (X .count) (X .next))
-      z) in
+      issue-free (eqb (length (X .entries)) (X .buffer .stages)) (X .count) (X .next)
+      (passes (not (fitsProgram program X)) 3 _ z .1) .1 in
       record {
         words = fit .words;
         counted = fit .counted;

@@ -12,7 +12,6 @@ use native.Mathlib.Omega.{arith}
 use lib.Bits.{bitAnd, bitOr, and-zero-r}
 use lib.Dec.{ltb}
 use lib.ListN.{length, getD, set, length-set}
-use lib.Seq.{getD-set-same}
 use Rattle.marks.specs.Circle.{stage, firsts}
 use Rattle.marks.specs.Stages.{width}
 use Rattle.marks.proofs.Turns.{stage-zero}
@@ -24,37 +23,35 @@ use Rattle.table.specs.View.{stageOf, tabulate, value, view}
 use Rattle.table.proofs.Sizes.{Sizes}
 use Rattle.table.proofs.Fates.{length-refs}
 use Rattle.engine.specs.computed.Steps.{rebuilt, remade, within, cutMarks, marking, keeping}
-use Rattle.engine.proofs.Lengths.{fits, oldest-small}
+use Rattle.engine.proofs.Lengths.{fits}
 use Rattle.engine.proofs.Reaching.{within-length}
 use Rattle.lookup.specs.declared.Mark.{Mark}
 use Rattle.lookup.specs.computed.Search.{markedFate}
-use Rattle.machine_model.specs.Program.{registersMost, sOf, kind, destination, instructionAt, codeOf}
-use Rattle.engine.specs.Contract.{refused, named, executed, committed}
+use Rattle.machine_model.specs.Program.{registersMost, sOf, destination}
+use Rattle.engine.specs.Contract.{refused, named}
 use Rattle.engine.specs.declared.Action.{Action}
 use Rattle.engine.specs.Execution.{written, fateBy}
 use Rattle.engine.specs.Conditions.{faults}
-use Rattle.machine_model.specs.declared.Instruction.{Instruction}
-use Rattle.machine_model.specs.declared.Fate.the-variants.{Waiting, Executed}
+use Rattle.machine_model.specs.declared.Fate.the-variants.{Executed}
 use Rattle.machine_model.specs.declared.Entry.{Entry}
 use Rattle.machine_model.specs.declared.Machine.{Machine}
 use Rattle.engine.specs.declared.Effect.{Effect}
-use Rattle.machine_model.specs.declared.Squashed.the-variants as squashed
-use Rattle.machine_model.specs.Window.{blankEntry, addressBy, misaligned, registerSeen, reference}
-use Rattle.machine_model.specs.Calls.{Plain, issue, execute, commit, matchesProgram, pending, valueBy, writing}
-use Rattle.machine_model.specs.Calls.{answerBy, registersAfter, target, begun, ready}
-use Rattle.machine_model.specs.Contract.{squashSays, entryOf, plain, agree, Meets}
-use Rattle.machine_model.specs.computed.Parts.{actionOf, second, markWith}
+use Rattle.machine_model.specs.Window.{blankEntry, entryWith, registerSeen, reference}
+use Rattle.machine_model.specs.Calls.{Plain, issue, execute, commit, matchesProgram, pending, newEntry, valueBy, writing}
+use Rattle.machine_model.specs.Calls.{registersAfter, committedSays, begun, ready}
+use Rattle.machine_model.specs.Contract.{entryOf, plain, agree, Meets}
+use Rattle.machine_model.specs.computed.Parts.{actionOf, second, markWith, commitNumber, executedSays}
 use Rattle.machine_model.proofs.Sounding.{validateOf}
 use Rattle.machine_model.proofs.Sized.{Sized}
 use Rattle.machine_model.proofs.Answering.{Passed, validate-passes}
 use Rattle.machine_model.proofs.Moved.{issuedOver, issue-meets}
 use Rattle.machine_model.proofs.Formed.{like-small}
 use Rattle.lookup.specs.Forwarding.{forwarded}
-use Rattle.engine.specs.computed.Effect.{wordBelow, effectOf, effectAt, answered, applyEffect}
+use Rattle.engine.specs.computed.Effect.{wordBelow, effectOf, effectAt, applyEffect}
 use Rattle.engine.proofs.Executed.{effect-left, found-bounds, effect-made}
 use Rattle.machine_model.proofs.Comparing.{agree-waiting}
-use Rattle.machine_model.proofs.Executions.{waits-waiting, asked, execute-meets}
-use Rattle.machine_model.proofs.Committed.{retiredBy, fault-refused, odd-refused, commit-meets}
+use Rattle.machine_model.proofs.Executions.{waits-waiting, asked, why-none, execute-meets}
+use Rattle.machine_model.proofs.Committed.{retiredBy, commitWhy, commit-refused, commit-clean, commit-meets}
 use Rattle.machine_model.proofs.ChecksKept.{validate-lent, issue-passes, execute-passes}
 use Rattle.machine_model.proofs.OldestReady.{begun-live, begun-empty, oldest-leaves, ready-waiting, ready-executed}
 
@@ -69,13 +66,13 @@ pub record Along (program : List ℕ) (m : Machine) (w : List ℕ) (Y : Plain) (
 
 -- ---- issued
 
--- the machine with an entry of this instruction issued at the oldest's stage
-abbrev issuedHere : Machine → ℕ → List ℕ → Instruction → Machine
-issuedHere m number numbers i =
+-- the machine with entry e issued at the oldest's stage
+abbrev issuedHere : Machine → ℕ → List ℕ → Entry → Machine
+issuedHere m number numbers e =
     let t = m .table in
     record {
       table = rebuilt t (t .oldest) 1 number 0 numbers (t .addresses) (t .loads) (t .stores) (t .values) (t .taken);
-      window = set (m .window) (t .oldest) (record { instruction = i; index = m .next; fate = Waiting; distance = 0 });
+      window = set (m .window) (t .oldest) e;
       registers = m .registers;
       count = m .count;
       next = m .next + 1;
@@ -95,14 +92,14 @@ module _ (program : List ℕ) (m : Machine) (w : List ℕ) (passes : validateOf 
         sized = sized;
       })
 
-  module _ (empty : m .table .live ≡ 0) (left : m .next < m .count) {number : ℕ} {numbers : List ℕ} {i : Instruction}
+  module _ (empty : m .table .live ≡ 0) (left : m .next < m .count) {number : ℕ} {numbers : List ℕ} {e : Entry}
       (hn : number ≡ (m .table .next + 1) % 2 ^ 32)
       (hs : numbers ≡ set (m .table .numbers) (m .table .oldest) (m .table .next))
-      (hi : i ≡ instructionAt program (m .next)) where
+      (he : e ≡ newEntry program (m .next)) where
     passed : Passed m program (length w)
     passed = validate-passes m program (length w) passes
 
-    issued-same : issuedHere m number numbers i ≡ issuedOver program m
+    issued-same : issuedHere m number numbers e ≡ issuedOver program m
     unfolding firsts
     issued-same =
         let t = m .table in
@@ -114,7 +111,7 @@ module _ (program : List ℕ) (m : Machine) (w : List ℕ) (passes : validateOf 
         sym (ap (stageOf t) empty ∙ stage-zero (t .oldest) (t .stages) (passed .sound .rules .start)) in
         cc
 
-    issued-meets : (b : Machine) → b ≡ issuedHere m number numbers i
+    issued-meets : (b : Machine) → b ≡ issuedHere m number numbers e
         → Meets program m issue w (named (m .table .live)) b w []
     issued-meets b hb =
         let rules = passed .sound .rules in
@@ -123,7 +120,7 @@ module _ (program : List ℕ) (m : Machine) (w : List ℕ) (passes : validateOf 
         subst (λ (x : Machine). Meets program m issue w (named (m .table .live)) x w []) (sym (hb ∙ issued-same))
         (issue-meets program m lent w (sized .lengths) (sized .window) room left)
 
-    pub begun-issued : (b : Machine) → b ≡ issuedHere m number numbers i
+    pub begun-issued : (b : Machine) → b ≡ issuedHere m number numbers e
         → Along program m w (begun program (plain m) w) b
     begun-issued b hb =
         let meets = issued-meets b hb in
@@ -183,25 +180,13 @@ module _ {program : List ℕ} {m : Machine} {w : List ℕ} {Y : Plain} {b : Mach
 
 -- ---- executed
 
--- prepared for its commit: the oldest has executed
-pub record Prepared (program : List ℕ) (m : Machine) (w : List ℕ) (u : Machine) : Type 0 where
-  pub along : Along program m w (ready program (plain m) w) u
-  pub executed : pending (getD (u .window) (u .table .oldest) blankEntry .fate) ≡ false
-
--- the machine after the oldest, at stage o, took its course
-abbrev took : Machine → ℕ → Effect → ℕ → List ℕ → List ℕ → List ℕ → List ℕ → List ℕ → ℕ → Machine
-took b o q done addresses loads stores values words next =
+-- the machine after the oldest, at stage o, took its course and became e
+abbrev took : Machine → ℕ → Effect → ℕ → List ℕ → List ℕ → List ℕ → List ℕ → List ℕ → Entry → ℕ → Machine
+took b o q done addresses loads stores values words e next =
     let t = b .table in
-    let e = getD (b .window) o blankEntry in
     record {
       table = remade t (t .oldest) (q .left) done addresses loads stores values words;
-      window = set (b .window) o
-          (record {
-            instruction = e .instruction;
-            index = e .index;
-            fate = Executed (q .value) (q .address);
-            distance = q .distance;
-          });
+      window = set (b .window) o e;
       registers = b .registers;
       count = b .count;
       next = next;
@@ -240,21 +225,18 @@ module _ {program : List ℕ} {m : Machine} {w : List ℕ} {b : Machine}
   at-oldest : getD (b .window) (t .oldest) blankEntry ≡ own
   at-oldest = ap (λ (s : ℕ). getD (b .window) s blankEntry) (along .oldest)
 
-  pub ready-kept : pending (own .fate) ≡ false → (u : Machine) → u ≡ b → Prepared program m w u
+  pub ready-kept : pending (own .fate) ≡ false → (u : Machine) → u ≡ b → Along program m w (ready program (plain m) w) u
   ready-kept done u e =
-      let is : pending (getD (b .window) (t .oldest) blankEntry .fate) ≡ false =
-      ap (λ (x : Entry). pending (x .fate)) at-oldest ∙ done in
-      subst (Prepared program m w) (sym e)
+      subst (Along program m w (ready program (plain m) w)) (sym e)
       (record {
-        along = record {
-          passes = along .passes;
-          is = ready-executed program m b w (passed-here .sound) (along .some) (along .is) is;
-          some = along .some;
-          oldest = along .oldest;
-          stages = along .stages;
-          sized = along .sized;
-        };
-        executed = is;
+        passes = along .passes;
+        is =
+            ready-executed program m b w (passed-here .sound) (along .some) (along .is)
+            (ap (λ (x : Entry). pending (x .fate)) at-oldest ∙ done);
+        some = along .some;
+        oldest = along .oldest;
+        stages = along .stages;
+        sized = along .sized;
       })
 
   pub own-small : (sOf (own .instruction) < registersMost) × (second (own .instruction) < registersMost)
@@ -309,7 +291,7 @@ module _ {program : List ℕ} {m : Machine} {w : List ℕ} {b : Machine}
       pub taken-bounds : (0 < q .left) × (q .left ≤ t .live) × (q .row < slots)
       taken-bounds = found-bounds t (passed-here .sound .rules) 0 (along .some) w act effect-is stays
 
-      module _ {done : ℕ} {cutLoads cutStores addresses loads stores values words : List ℕ} {f : Entry} {next : ℕ}
+      module _ {done : ℕ} {cutLoads cutStores addresses loads stores values words : List ℕ} {f e : Entry} {next : ℕ}
           (hd : done ≡ bitOr (t .executed) (2 ^ o)) (hl : cutLoads ≡ cutMarks (t .banks) o n (t .live) (q .left) (t .loads))
           (hs : cutStores ≡ cutMarks (t .banks) o n (t .live) (q .left) (t .stores))
           (ka : addresses ≡ cond (q .load || q .store) (set (t .addresses) (q .row) (q .word)) (t .addresses))
@@ -318,9 +300,10 @@ module _ {program : List ℕ} {m : Machine} {w : List ℕ} {b : Machine}
           (kv : values ≡ keeping (t .values) (q .store) o (q .value))
           (kw : words ≡ keeping (t .taken) (q .load) o (q .taken))
           (hf : f ≡ getD (b .window) (stage o n (q .left)) blankEntry)
+          (he : e ≡ entryWith own (Executed (q .value) (q .address)) (q .distance))
           (hn : next ≡ cond (ltb (q .left) (t .live)) (f .index) (b .next)) where
         abbrev taken : Machine
-        taken = took b o q done addresses loads stores values words next
+        taken = took b o q done addresses loads stores values words e next
 
         table-is : taken .table ≡ applyEffect t q o
         table-is =
@@ -334,16 +317,13 @@ module _ {program : List ℕ} {m : Machine} {w : List ℕ} {b : Machine}
             ∙ ap (λ (x : Entry). cond (ltb (q .left) (t .live)) (x .index) (b .next))
             (hf ∙ circle along (λ (j k : ℕ). getD (b .window) (stage j k (q .left)) blankEntry))
 
-        taken-meets :
-            Meets program b (execute 0) w
-            (executed (answered (q .load) (q .store) (q .value)) (q .distance)
-            (squashSays (cond (ltb (q .left) (t .live)) (squashed.From (q .left)) squashed.Nothing)))
-            taken
-            w
-            []
+        taken-meets : Meets program b (execute 0) w (executedSays q (t .live)) taken w []
         taken-meets =
-            execute-meets b program w 0 passed-here (along .some) idle-here (along .sized .window) (along .sized .lengths) act
-            asks o (sym here) q effect-is stays (taken .table) table-is _ refl _ refl next next-is
+            execute-meets b program w 0 passed-here (why-none b program w 0 passed-here (along .some) idle-here act asks) act asks
+            (along .sized .window) (along .sized .lengths) o (sym here) q effect-is stays (taken .table) table-is e
+            (he ∙ ap (λ (s : ℕ). entryWith (getD (b .window) s blankEntry) (Executed (q .value) (q .address)) (q .distance))
+            (sym here))
+            _ refl next next-is
 
         taken-sized : Sized taken
         taken-sized =
@@ -369,27 +349,19 @@ module _ {program : List ℕ} {m : Machine} {w : List ℕ} {b : Machine}
               small = along .sized .small;
             }
 
-        window-holds : o < length (b .window)
-        window-holds = omega (arith, along .sized .window, along .oldest, oldest-small t (passed-here .sound .rules))
-
-        pub ready-taken : (u : Machine) → u ≡ taken → Prepared program m w u
-        ready-taken u e =
-            subst (Prepared program m w) (sym e)
+        pub ready-taken : (u : Machine) → u ≡ taken → Along program m w (ready program (plain m) w) u
+        ready-taken u same =
+            subst (Along program m w (ready program (plain m) w)) (sym same)
             (record {
-              along = record {
-                passes = execute-passes b taken program (length w) (along .passes) w w _ 0 taken-meets;
-                is =
-                    ready-waiting program m b w (passed-here .sound) (along .some) (along .is) taken _
-                    (ap (λ (x : Entry). pending (x .fate)) at-oldest ∙ idle)
-                    taken-meets;
-                some = taken-bounds .0;
-                oldest = along .oldest;
-                stages = along .stages;
-                sized = taken-sized;
-              };
-              executed =
-                  ap (λ (s : ℕ). pending (getD (taken .window) s blankEntry .fate)) (along .oldest)
-                  ∙ ap (λ (x : Entry). pending (x .fate)) (getD-set-same (b .window) o _ blankEntry window-holds);
+              passes = execute-passes b taken program (length w) (along .passes) w w _ 0 taken-meets;
+              is =
+                  ready-waiting program m b w (passed-here .sound) (along .some) (along .is) taken _
+                  (ap (λ (x : Entry). pending (x .fate)) at-oldest ∙ idle)
+                  taken-meets;
+              some = taken-bounds .0;
+              oldest = along .oldest;
+              stages = along .stages;
+              sized = taken-sized;
             })
 
 -- ---- committed
@@ -398,85 +370,65 @@ length-writing : (registers : List ℕ) (d : Option ℕ) (v : ℕ) → length (w
 length-writing registers none v = refl
 length-writing registers (some d) v = length-set registers d v
 
-module _ {program : List ℕ} {m : Machine} {w : List ℕ} {u : Machine} (prepared : Prepared program m w u) {mark : Mark}
-    (hm : mark ≡ markWith (reference (getD (u .window) (m .table .oldest) blankEntry)) (value (u .table) (m .table .oldest)))
-  where
-    -- the entry that commits
-    abbrev last : Entry
-    last = getD (u .window) (m .table .oldest) blankEntry
+module _ {program : List ℕ} {m : Machine} {w : List ℕ} {u : Machine}
+    (along : Along program m w (ready program (plain m) w) u) where
+  -- the entry that commits
+  abbrev last : Entry
+  last = getD (u .window) (m .table .oldest) blankEntry
 
-    passed-now : Passed u program (length w)
-    passed-now = along-passed (prepared .along)
+  passed-now : Passed u program (length w)
+  passed-now = along-passed along
 
-    -- the mark told is the oldest's
-    mark-is : mark
-        ≡ markWith (reference (getD (u .window) (u .table .oldest) blankEntry)) (value (u .table) (u .table .oldest))
-    mark-is =
-        hm
-        ∙ circle (prepared .along)
-        (λ (k j : ℕ). markWith (reference (getD (u .window) k blankEntry)) (value (u .table) k))
+  module _ {why : ℕ} (found : why ≡ commitNumber last (u .table .live) (u .table .words)) where
+    -- the number found is that of the conditions 11 to 14
+    why-is : why ≡ commitWhy program u w passed-now
+    why-is =
+        found
+        ∙ ap (λ (s : ℕ). commitNumber (getD (u .window) s blankEntry) (u .table .live) (u .table .words)) (sym (along .oldest))
 
-    -- a fault: the commit is refused
-    pub turn-faults : faults (u .table .words) (markedFate mark) ≡ true → Meets program u commit w (refused 13) u w []
-    turn-faults f = fault-refused program u w passed-now (prepared .along .some) (prepared .executed) mark mark-is f
+    -- the commit is refused
+    pub turn-refused : (why ≡ 0 → ⊥) → Meets program u commit w (refused why) u w []
+    turn-refused other = commit-refused program u w passed-now why why-is other
 
-    -- an H at an odd byte number: so too
-    pub turn-odd : faults (u .table .words) (markedFate mark) ≡ false → misaligned last ≡ true
-        → Meets program u commit w (refused 14) u w []
-    turn-odd f e =
-        odd-refused program u w passed-now (prepared .along .some) (prepared .executed) mark mark-is f
-        (ap (λ (s : ℕ). misaligned (getD (u .window) s blankEntry)) (prepared .along .oldest) ∙ e)
+    module _ (none : why ≡ 0) {mark : Mark}
+        (hm : mark ≡ markWith (reference last) (value (u .table) (m .table .oldest))) where
+      free : commitWhy program u w passed-now ≡ 0
+      free = sym why-is ∙ none
 
-    module _ (clean : faults (u .table .words) (markedFate mark) ≡ false) (even : misaligned last ≡ false) where
-      -- the oldest's address lies in the memory
+      -- the mark told is the oldest's
+      mark-is : mark
+          ≡ markWith (reference (getD (u .window) (u .table .oldest) blankEntry)) (value (u .table) (u .table .oldest))
+      mark-is =
+          hm ∙ circle along (λ (k j : ℕ). markWith (reference (getD (u .window) k blankEntry)) (value (u .table) k))
+
+      -- its address lies in the memory
       pub turn-clean : faults (length w) (markedFate mark) ≡ false
-      turn-clean = ap (λ (k : ℕ). faults k (markedFate mark)) (passed-now .words) ∙ clean
+      turn-clean = commit-clean program u w passed-now free mark mark-is
 
-      module _ {first stay code place v d : ℕ} {loads stores registers : List ℕ}
+      module _ {first stay : ℕ} {loads stores registers : List ℕ}
           (hf : first ≡ stage (m .table .oldest) (m .table .stages) 1)
-          (hs : stay ≡ firsts first (m .table .stages) (u .table .live - 1)) (kl : loads ≡ within (rowsIn (u .table .banks)) (u
-          .table .loads) stay)
-          (ks : stores ≡ within (rowsIn (u .table .banks)) (u .table .stores) stay) (hc : code ≡ codeOf (last .instruction))
-          (hp : place ≡ target (last .instruction) (addressBy (last .fate))) (hv : v ≡ valueBy (last .fate))
-          (hd : d ≡ answerBy (kind (last .instruction)) (last .distance))
-          (hr : registers ≡ registersAfter (u .registers) (last .instruction) v) where
+          (hs : stay ≡ firsts first (m .table .stages) (u .table .live - 1))
+          (kl : loads ≡ within (rowsIn (u .table .banks)) (u .table .loads) stay)
+          (ks : stores ≡ within (rowsIn (u .table .banks)) (u .table .stores) stay)
+          (hr : registers ≡ registersAfter (u .registers) (last .instruction) (valueBy (last .fate))) where
         pub turn-commits : (memory : List ℕ) → memory ≡ written w (markedFate mark)
-            → Meets program u commit w (committed (last .index) code place v d) (retiredBy u first loads stores registers)
-            memory
-            []
-        turn-commits memory hm =
+            → Meets program u commit w (committedSays last) (retiredBy u first loads stores registers) memory []
+        turn-commits memory hw =
             let t = u .table in
-            let a = prepared .along in
             let same : last ≡ getD (u .window) (t .oldest) blankEntry =
-            ap (λ (s : ℕ). getD (u .window) s blankEntry) (sym (a .oldest)) in
-            let head : first ≡ stageOf t 1 = hf ∙ circle a (λ (j k : ℕ). stage j k 1) in
-            rw (ap (λ (x : Entry). x .index) same)
-            (commit-meets program u w passed-now (a .some) (prepared .executed) mark mark-is clean
-            (ap misaligned (sym same) ∙ even)
-            first
-            stay
-            code
-            place
-            v
-            d
-            loads
-            stores
-            registers
-            memory
-            head
-            (hs ∙ ap (λ (k : ℕ). firsts first k (t .live - 1)) (sym (a .stages)))
+            ap (λ (s : ℕ). getD (u .window) s blankEntry) (sym (along .oldest)) in
+            commit-meets program u w passed-now free mark mark-is (committedSays last) (ap committedSays same) first stay loads
+            stores registers memory
+            (hf ∙ circle along (λ (j k : ℕ). stage j k 1))
+            (hs ∙ ap (λ (k : ℕ). firsts first k (t .live - 1)) (sym (along .stages)))
             kl
             ks
-            (hc ∙ ap (λ (x : Entry). codeOf (x .instruction)) same)
-            (hp ∙ ap (λ (x : Entry). target (x .instruction) (addressBy (x .fate))) same)
-            (hv ∙ ap (λ (x : Entry). valueBy (x .fate)) same)
-            (hd ∙ ap (λ (x : Entry). answerBy (kind (x .instruction)) (x .distance)) same)
-            (hr ∙ ap (λ (x : Entry). registersAfter (u .registers) (x .instruction) v) same)
-            hm)
+            (hr ∙ ap (λ (x : Entry). registersAfter (u .registers) (x .instruction) (valueBy (x .fate))) same)
+            hw
 
         pub turn-sized : Sized (retiredBy u first loads stores registers)
         turn-sized =
-            let l = prepared .along .sized .lengths in
+            let l = along .sized .lengths in
             record {
               lengths = record {
                 numbers = l .numbers;
@@ -486,9 +438,9 @@ module _ {program : List ℕ} {m : Machine} {w : List ℕ} {u : Machine} (prepar
                 values = l .values;
                 taken = l .taken;
               };
-              window = prepared .along .sized .window;
+              window = along .sized .window;
               registers =
-                  ap length hr ∙ length-writing (u .registers) (destination (last .instruction)) v ∙ prepared .along .sized
-                  .registers;
-              small = prepared .along .sized .small;
+                  ap length hr ∙ length-writing (u .registers) (destination (last .instruction)) (valueBy (last .fate))
+                  ∙ along .sized .registers;
+              small = along .sized .small;
             }

@@ -12,7 +12,7 @@ use native.Mathlib.Omega.{arith}
 use lib.Dec.{eqb, leb, ltb}
 use lib.ListN.{length, take, drop, length-append, take-append-drop}
 use lib.Seq.{sets, sets-eq, length-sets, length-take-le, take-at, drop-at, drop-drop}
-use borrow.Author.Tests.{lt-ltb, le-ltb}
+use borrow.Author.Tests.{lt-ltb, le-ltb, eq-eqb}
 use Rattle.engine.specs.Contract.{refused, committed, finished}
 use Rattle.engine.specs.Conditions.{refusal}
 use Rattle.machine_model.specs.declared.Machine.{Machine}
@@ -22,7 +22,7 @@ use Rattle.machine_model.specs.Calls.{Drain, perCommit, afterCommit, con
 use Rattle.machine_model.specs.Contract.{plain, Sound, Meets}
 use Rattle.machine_model.proofs.Sounding.{length-entries}
 use Rattle.engine.proofs.Meeting.{judged-accepted}
-use Rattle.machine_model.proofs.Answering.{Passed, passed-lent, accepted-meets}
+use Rattle.machine_model.proofs.Answering.{Passed, accepted-meets}
 
 -- ---- where it stops
 
@@ -199,7 +199,7 @@ remains-meets program k m s u w list v z into n passed remains e sound =
     (passed .sound)
     (judged-accepted (refusal (finishChecks program (plain m) w)) (plain m) w list
     (drained list (finishes program k (length list) (plain m) w))
-    (passed-lent m program w passed [])
+    (rw (eq-eqb (length w) (m .table .words) (passed .words), passed .opened))
     ∙ ap (drained list) (remains .way ∙ ap (following (take (n * perCommit) into) n) e)
     ∙ ap₂
     (λ (q : ℕ) (l : List ℕ). let r : Result = record { answer = finished q; state = plain u; memory = z; list = l } in r)

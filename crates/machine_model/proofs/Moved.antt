@@ -1,7 +1,7 @@
--- The calls that move the window's young end, past the validation: issue is refused with 5 where every stage is live,
--- with 6 where no instruction is left, and otherwise adds an entry where the table grows by a reference; squash is
--- refused with 7 at a position that is not live, and otherwise keeps the entries of the references that the cut table
--- keeps. The views are those of the steps. Assumes nothing.
+-- The calls that move the window's young end, past the validation: issue is refused with the number that the code finds of the
+-- conditions 5 and 6, and otherwise adds an entry where the table grows by a reference; squash is refused with 7 at a position
+-- that is not live, and otherwise keeps the entries of the references that the cut table keeps. The views are those of the
+-- steps. Assumes nothing.
 use mathlib.Core.Bool.{Bool, true, false, cond}
 use mathlib.Core.List.{List, [], _∷_, _++_}
 use mathlib.Core.Path.{_≡_, refl, sym, ap, ap₂, _∙_}
@@ -12,7 +12,7 @@ use native.Mathlib.Omega.{arith}
 use lib.Dec.{eqb, leb}
 use lib.ListN.{length, take, set, length-append}
 use lib.Seq.{length-take-le}
-use borrow.Author.Tests.{lt-ltb, le-leb, lt-leb, eq-eqb, ne-eqb}
+use borrow.Author.Tests.{lt-ltb, le-leb, lt-leb, ne-eqb}
 use Rattle.table.specs.Limits.{stagesMost}
 use Rattle.table.specs.Reference.{ref, waiting}
 use Rattle.table.specs.View.{stageOf, view}
@@ -25,16 +25,19 @@ use Rattle.engine.proofs.Lengths.{Lengths}
 use Rattle.engine.proofs.Narrowing.{cut-rules, cut-view}
 use Rattle.engine.proofs.Growing.{grown-rules, grown-view}
 use Rattle.engine.specs.Contract.{refused, named, done, judged}
-use Rattle.engine.specs.Conditions.{when, refusal}
+use Rattle.engine.specs.Conditions.{refusal}
+use Rattle.engine.proofs.Meeting.{judged-refused}
 use Rattle.machine_model.specs.declared.Entry.{Entry}
 use Rattle.machine_model.specs.declared.Machine.{Machine}
 use Rattle.machine_model.specs.Window.{entryAt}
 use Rattle.machine_model.specs.Over
-use Rattle.machine_model.specs.Calls.{issue, squash, newEntry, issueChecks, issuing, squashing, refetchIndex, respond}
+use Rattle.machine_model.specs.Calls.{buffered, issue, squash, newEntry, issuing, squashChecks, squashing}
+use Rattle.machine_model.specs.Calls.{refetchIndex, respond}
 use Rattle.machine_model.specs.Contract.{entryOf, plain, Meets}
-use Rattle.machine_model.specs.computed.Parts.{entriesOf}
+use Rattle.machine_model.specs.computed.Parts.{entriesOf, issueNumber}
 use Rattle.machine_model.proofs.Sounding.{length-entries, entry-at}
 use Rattle.machine_model.proofs.Answering.{Passed, refused-meets, accepted-meets}
+use Rattle.machine_model.proofs.Refusals.{issue-number}
 use Rattle.machine_model.proofs.PlainOfView.{plain-by, entries-grow, sound-agreed, reached, agreed-grow, agreed-take}
 
 -- ---- issue
@@ -51,29 +54,25 @@ issuedOver program m =
     }
 
 module _ (program : List ℕ) (m : Machine) (passed : Passed m program (m .table .words)) (w : List ℕ) where
-  issue-number : (a b : Bool) → eqb (m .table .live) (m .table .stages) ≡ a → leb (m .count) (m .next) ≡ b
-      → refusal (issueChecks program (plain m)) ≡ cond a 5 (cond b 6 0)
-  issue-number a b e f =
-      passed .checks
-      (when (eqb (length (plain m .entries)) (m .table .stages)) 5 ∷ when (leb (m .count) (m .next)) 6 ∷ [])
-      ∙ ap₂ (λ (x y : Bool). cond x 5 (cond y 6 0)) (ap (λ (k : ℕ). eqb k (m .table .stages)) (length-entries m) ∙ e) f
+  -- the number of the conditions 5 and 6, as the code finds it
+  abbrev pub issueWhy : ℕ
+  issueWhy = issueNumber (eqb (m .table .live) (m .table .stages)) (m .count) (m .next)
 
   -- what the definition says, by that number
-  issue-responds : (k : ℕ) → refusal (issueChecks program (plain m)) ≡ k
+  issue-responds : (k : ℕ) → k ≡ issueWhy
       → respond program issue (plain m) w ≡ judged k (plain m) w [] (issuing program (plain m) w)
   unfolding Over.respond
-  issue-responds k e = ap (λ (j : ℕ). judged j (plain m) w [] (issuing program (plain m) w)) e
+  issue-responds k found =
+      ap (λ (j : ℕ). judged j (plain m) w [] (issuing program (plain m) w))
+      (issue-number buffered program (plain m) (passed .opened)
+      ∙ ap (λ (j : ℕ). issueNumber (eqb j (m .table .stages)) (m .count) (m .next)) (length-entries m)
+      ∙ sym found)
 
-  pub issue-full : m .table .live ≡ m .table .stages → Meets program m issue w (refused 5) m w []
-  issue-full e =
-      refused-meets program m issue w 5 (passed .sound)
-      (issue-responds 5 (issue-number true (leb (m .count) (m .next)) (eq-eqb (m .table .live) (m .table .stages) e) refl))
-
-  pub issue-over : (m .table .live ≡ m .table .stages → ⊥) → m .count ≤ m .next → Meets program m issue w (refused 6) m w []
-  issue-over some e =
-      refused-meets program m issue w 6 (passed .sound)
-      (issue-responds 6
-      (issue-number false true (ne-eqb (m .table .live) (m .table .stages) some) (le-leb (m .count) (m .next) e)))
+  -- the refusals 5 and 6
+  pub issue-refused : (k : ℕ) → k ≡ issueWhy → (k ≡ 0 → ⊥) → Meets program m issue w (refused k) m w []
+  issue-refused k found other =
+      refused-meets program m issue w k (passed .sound)
+      (issue-responds k found ∙ judged-refused k (plain m) w [] (issuing program (plain m) w) other)
 
   pub issue-meets : Lengths (m .table) → length (m .window) ≡ stagesMost → m .table .live < m .table .stages → m .next < m .count
       → Meets program m issue w (named (m .table .live)) (issuedOver program m) w []
@@ -98,8 +97,7 @@ module _ (program : List ℕ) (m : Machine) (passed : Passed m program (m .table
       entries (add-one (m .next)) in
       accepted-meets program m issue w u w [] (named (m .table .live)) (issuing program (plain m) w) (passed .sound)
       (issue-responds 0
-      (issue-number false false (ne-eqb (m .table .live) (m .table .stages) (ne-of-lt room))
-      (lt-leb (m .count) (m .next) left)))
+      (rw (ne-eqb (m .table .live) (m .table .stages) (ne-of-lt room), lt-leb (m .count) (m .next) left)))
       tt
       (ap named (sym (length-entries m)))
       state
@@ -123,13 +121,13 @@ squashedOver m p =
     }
 
 module _ (program : List ℕ) (m : Machine) (passed : Passed m program (m .table .words)) (w : List ℕ) (p : ℕ) where
+  squash-number : (b : Bool) → leb (m .table .live) p ≡ b → refusal (squashChecks program (plain m) p) ≡ cond b 7 0
+  squash-number b e = rw (passed .opened, length-entries m, e)
+
   squash-responds : (b : Bool) → leb (m .table .live) p ≡ b
       → respond program (squash p) (plain m) w ≡ judged (cond b 7 0) (plain m) w [] (squashing (plain m) w p)
   unfolding Over.respond
-  squash-responds b e =
-      ap (λ (k : ℕ). judged k (plain m) w [] (squashing (plain m) w p))
-      (passed .checks (when (leb (length (plain m .entries)) p) 7 ∷ [])
-      ∙ ap (λ (x : Bool). cond x 7 0) (ap (λ (k : ℕ). leb k p) (length-entries m) ∙ e))
+  squash-responds b e = ap (λ (k : ℕ). judged k (plain m) w [] (squashing (plain m) w p)) (squash-number b e)
 
   pub squash-beyond : m .table .live ≤ p → Meets program m (squash p) w (refused 7) m w []
   squash-beyond h =

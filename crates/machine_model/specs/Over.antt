@@ -94,9 +94,9 @@ abbrev pub known : Option Fate → Fate
 known none = Waiting
 known (some f) = f
 
-abbrev pub unknown : Option Fate → Bool
+abbrev pub unknown : {A : Type 0} → Option A → Bool
 unknown none = true
-unknown (some f) = false
+unknown (some x) = false
 
 -- the entry that an issue adds
 abbrev pub newEntry : List ℕ → ℕ → Entry

@@ -131,8 +131,10 @@ pub enum Operand {
     Known(u32),
 }
 
-// What an instruction asks, where its operands are known.
-pub enum Wanted {
-    Unready,
-    Ready(Action),
+// What an execute at a position is refused with (7, 8 or 9), or 0 and then its stage, its entry and what that asks.
+pub struct Asked {
+    pub why: u32,
+    pub stage: usize,
+    pub entry: Entry,
+    pub action: Action,
 }

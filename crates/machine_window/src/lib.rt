@@ -1,12 +1,14 @@
-// The window held to its table and to the program (`validate`, which every call asks first, over lent arrays), and the search
-// for operands (`wanted_at`). Inner: the functions require what their callers have shown; `validate` asks only the lengths of
-// lent arrays.
+// The window held to its table and to the program (`validate`, which every call asks first, over lent arrays), and what an
+// execute asks of the window alone (`asked_at`), with the search for operands. Inner: the functions require what their callers
+// have shown; `validate` asks only the lengths of lent arrays.
+use engine::Action;
+use machine_model::Asked;
 use machine_model::Entry;
 use machine_model::Fate;
 use machine_model::Instruction;
 use machine_model::Operand;
+use machine_model::PER_INSTRUCTION;
 use machine_model::REGISTERS;
-use machine_model::Wanted;
 use table::ROWS;
 use table::SLOTS;
 use table::STAGES;
@@ -14,10 +16,11 @@ ghost use mathlib.Core.Path.{_≡_};
 ghost use mathlib.Core.Option.{some};
 ghost use Prim.Native.Nat.{ℕ, _≤_, _<_};
 ghost use lib.ListN.{length, getD};
-ghost use Rattle.machine_model.specs.Window.{valueOf, registerSeen, with₂};
-ghost use Rattle.machine_model.specs.Program.{sOf};
-ghost use Rattle.machine_model.specs.computed.Parts.{destinationAt, writer, asNumber, actionOf, second, marksAt, markNumber};
-ghost use Rattle.machine_model.specs.computed.Parts.{agreesBy, agreeingBy, fittingBy, entriesOf, wantedBy, validateBy};
+ghost use Rattle.marks.specs.Circle.{stage};
+ghost use Rattle.machine_model.specs.Window.{blankEntry, valueOf};
+ghost use Rattle.machine_model.specs.computed.Parts.{destinationAt, writer, asNumber, marksAt, markNumber};
+ghost use Rattle.machine_model.specs.computed.Parts.{agreesBy, agreeingBy, fittingBy, validateBy, OperandsExist, askedOf};
+ghost use Rattle.machine_model.specs.computed.Parts.{askedNumber};
 ghost use Rattle.table.specs.Limits.{banksMost, slots, stagesMost};
 ghost use Rattle.table.specs.Bank.{bank};
 
@@ -211,7 +214,7 @@ pub fn validate<'a>(
     if !machine_isa::program_fits(program) {
         return 4;
     }
-    if program.len() != 4 * (count as usize) {
+    if program.len() != PER_INSTRUCTION * (count as usize) {
         return 4;
     }
     if !pass.fits {
@@ -261,22 +264,50 @@ fn operand_of(e: Entry) -> Operand
     }
 }
 
-// What the instruction at position `p` asks, if its operands are known. Both searches read one array of destinations, and
-// the window is read in place: a function for an operand would copy it.
-pub fn wanted_at(
+// Refused with this number.
+fn unasked(why: u32) -> Asked
+    ensures { λ r. ⌜ r .why ≡ why ⌝ }
+{
+    Asked {
+        why,
+        stage: 0,
+        entry: Entry {
+            instruction: Instruction::Add(0, 0, 0),
+            index: 0,
+            fate: Fate::Waiting,
+            distance: 0,
+        },
+        action: Action::Compute(0),
+    }
+}
+
+// Which of the conditions 7, 8 and 9 turns down an execute at position `p` of `live` entries; where none does (0), its stage, its
+// entry and what that asks. Both operands are searched for in one array of destinations, and the window is read in place: a
+// function for an operand would copy it.
+pub fn asked_at(
     window: [Entry; STAGES],
     registers: [u32; REGISTERS],
     oldest: usize,
     stages: usize,
-    i: Instruction,
+    live: usize,
     p: usize,
-) -> Wanted
-    requires { ⌜ (oldest < stages) × (stages ≤ stagesMost) × (p ≤ stages) × (sOf i < 8) × (second i < 8) ⌝ }
-    ensures { λ r. ⌜ wantedBy r
-        ≡ with₂ (registerSeen (entriesOf window oldest stages p) (sOf i) (some (getD registers (sOf i) 0)))
-        (registerSeen (entriesOf window oldest stages p) (second i) (some (getD registers (second i) 0)))
-        (actionOf i) ⌝ }
+) -> Asked
+    requires { ⌜ (oldest < stages) × (live ≤ stages) × (stages ≤ stagesMost) ⌝ }
+    requires { ⌜ (p < live → OperandsExist (getD window (stage oldest stages p) blankEntry .instruction)) ⌝ }
+    ensures { λ r. ⌜ r .why ≡ askedNumber window registers oldest stages live p ⌝ }
+    ensures { λ r. ⌜ (r .why ≡ 0 → (r .stage ≡ stage oldest stages p)
+        × (r .entry ≡ getD window (stage oldest stages p) blankEntry)
+        × (askedOf window registers oldest stages p ≡ some (r .action))) ⌝ }
 {
+    if p >= live {
+        return unasked(7);
+    }
+    let s = marks::stage_at(oldest, stages, p);
+    let entry = window[s];
+    if !machine_isa::is_pending(entry) {
+        return unasked(8);
+    }
+    let i = entry.instruction;
     let into = destinations(window, oldest, stages, p);
     let k = machine_isa::s_of(i);
     let w = writer_of(&into, k, p);
@@ -295,10 +326,15 @@ pub fn wanted_at(
         operand_of(e)
     };
     match first {
-        Operand::Unknown => Wanted::Unready,
+        Operand::Unknown => unasked(9),
         Operand::Known(x) => match other {
-            Operand::Unknown => Wanted::Unready,
-            Operand::Known(y) => Wanted::Ready(machine_isa::action_of(i, x, y)),
+            Operand::Unknown => unasked(9),
+            Operand::Known(y) => Asked {
+                why: 0,
+                stage: s,
+                entry,
+                action: machine_isa::action_of(i, x, y),
+            },
         },
     }
 }

@@ -1,25 +1,23 @@
--- `machine_commit::commit` meets its contract. The validation's refusals are those of machine_model/proofs/Answering.antt. Past
--- it each return is a law of machine_model/proofs/Committed.antt, given what the tests before it said: an entry is live, the
--- oldest does not wait, and its mark, which its entry and the table's word tell (mark-at), does not fault. Assumes nothing.
-use mathlib.Core.Bool.{false}
-use mathlib.Core.Path.{_≡_, sym, ap, _∙_}
-use Prim.Native.Nat.{ℕ, _<_}
+-- `machine_commit::commit` meets its contract. The validation's refusals are those of machine_model/proofs/Answering.antt, and
+-- the number found of the conditions 11 to 14 is the refusal of machine_model/proofs/Committed.antt. Where it is 0 (free-at), the
+-- law of an accepted commit there takes what each step ensured; the oldest's mark is told by its entry and the table's word
+-- (mark-at). Assumes nothing.
+use mathlib.Core.Path.{_≡_, sym, _∙_}
+use Prim.Native.Nat.{_<_}
 use native.Mathlib.Omega.{arith}
 use lib.ListN.{length, getD}
 use Rattle.table.specs.declared.Table.{Table}
 use Rattle.table.specs.Rules.{Rules}
 use Rattle.table.specs.View.{value}
-use Rattle.lookup.specs.computed.Search.{markedFate}
-use Rattle.engine.specs.Conditions.{faults}
 use Rattle.engine.proofs.Lengths.{fits, circle-asks, oldest-small, next-asks}
 use Rattle.machine_model.specs.declared.Entry.{Entry}
 use Rattle.machine_model.specs.declared.Machine.{Machine}
 use Rattle.machine_model.specs.Window.{blankEntry, reference}
-use Rattle.machine_model.specs.Calls.{commit, pending}
+use Rattle.machine_model.specs.Calls.{commit}
 use Rattle.machine_model.specs.computed.Parts.{markWith}
 use Rattle.machine_model.proofs.Sized.{Sized, sized-of}
 use Rattle.machine_model.proofs.Answering.{Passed, check-passes, check-turns}
-use Rattle.machine_model.proofs.Committed.{empty-refused, waiting-refused, fault-refused, odd-refused, commit-meets}
+use Rattle.machine_model.proofs.Committed.{commitWhy, commit-refused, commit-passed, commit-clean, commit-meets}
 use borrow.Author.Needs.{needs}
 use Rattle.machine_commit.proofs.commit.Statement.{statement}
 use Rattle.machine_commit.proofs.commit.Tie as tie
@@ -34,30 +32,25 @@ table c = machine c .table
 abbrev oldest : tie.Start → Entry
 oldest c = getD (machine c .window) (table c .oldest) blankEntry
 
--- from where a test was passed back to where the one before it was, and to the entry
-abbrev begun : tie.After-validate → tie.Start
-begun c = c .before .before .before .before .before .before .before .before
-
+-- from past the validation back to the entry, from past the conditions to past the validation, and from later places to past
+-- the conditions
 abbrev entry : tie.Else1 → tie.Start
-entry c = begun (c .before)
+entry c = c .before .before .before .before .before .before .before .before .before
 
-abbrev some : tie.Else2 → tie.Start
-some c = entry (c .before)
+abbrev checked : tie.Else2 → tie.Else1
+checked c = c .before .before .before
 
-abbrev executed : tie.Else3 → tie.Else2
-executed c = c .before .before .before
+abbrev start : tie.Else2 → tie.Start
+start c = entry (checked c)
 
-abbrev faultless : tie.Else4 → tie.Else3
-faultless c = c .before .before .before .before .before .before
+abbrev marked : tie.After-oldest-mark → tie.Else2
+marked c = c .before .before .before .before .before
 
--- from where the oldest was found aligned back to where it does not wait
-abbrev aligned : tie.Else5 → tie.Else3
-aligned c = faultless (c .before .before)
+abbrev written : tie.After-stage-at → tie.After-oldest-mark
+written c = c .before .before .before .before
 
--- from the end back to where the oldest was found aligned
-abbrev last : tie.After-distance-of → tie.Else5
-last c = c .before .before .before .before .before .before .before .before .before .before .before .before .before .before
-    .before .before .before .before
+abbrev staying : tie.After-keep → tie.After-first-stages
+staying c = c .before .before .before .before
 
 passed-at : (c : tie.Else1)
     → let args = entry c .args in Passed (args .t1) (args .program .now) (length (args .memory .now))
@@ -69,112 +62,90 @@ rules-at c = passed-at c .sound .rules
 sized-at : (c : tie.Start) → Sized (machine c)
 sized-at c = sized-of (machine c) (c .good .0)
 
-live-at : (c : tie.Else2) → 0 < table (some c) .live
-live-at c = search needs
+-- none of the conditions 11 to 14 holds
+free-at : (c : tie.Else2)
+    → let args = start c .args in
+    commitWhy (args .program .now) (args .t1) (args .memory .now) (passed-at (checked c)) ≡ 0
+free-at c = sym (c .before .commit-refusal .ensures) ∙ c .if2 .left
 
-executed-at : (c : tie.Else3) → pending (oldest (some (executed c)) .fate) ≡ false
-executed-at c = sym (c .before .is-waiting .ensures) ∙ c .if3 .left
+live-at : (c : tie.Else2) → 0 < table (start c) .live
+live-at c =
+    let args = start c .args in
+    commit-passed (args .program .now) (args .t1) (args .memory .now) (passed-at (checked c)) (free-at c) .0
 
 -- the mark told of the oldest
 mark-at : (c : tie.After-oldest-mark)
-    → let start = some (executed (c .before .before .before .before)) in
-    c .oldest-mark .result ≡ markWith (reference (oldest start)) (value (table start) (table start .oldest))
-mark-at c = rw (c .before .at-stage .ensures) at (c .oldest-mark .ensures)
+    → let s = start (marked c) in
+    c .oldest-mark .result ≡ markWith (reference (oldest s)) (value (table s) (table s .oldest))
+mark-at c = rw (c .before .before .at-stage .ensures) at (c .oldest-mark .ensures)
 
 returns : tie.Need-returns
 returns c = check-turns _ _ commit _ (c .before .validate .ensures) (c .if1 .taken)
 
-returns-2 : tie.Need-returns-2
-returns-2 c = empty-refused _ _ _ (passed-at (c .before)) (c .if2 .taken)
-
 mul-e : tie.Need-mul-e
-mul-e c = omega (arith, oldest-small _ (rules-at (c .before)))
+mul-e c = omega (arith, oldest-small _ (rules-at c))
 
 array-copy-out-e : tie.Need-array-copy-out-e
-array-copy-out-e c = oldest-small _ (rules-at (c .before))
+array-copy-out-e c = oldest-small _ (rules-at c)
 
-returns-3 : tie.Need-returns-3
-returns-3 c =
-    let l = c .before .before .before in
-    waiting-refused _ _ _ (passed-at (l .before)) (live-at l) (sym (c .before .is-waiting .ensures) ∙ c .if3 .taken)
+returns-2 : tie.Need-returns-2
+returns-2 c =
+    commit-refused _ _ _ (passed-at (c .before .before .before)) _ (c .before .commit-refusal .ensures) (c .if2 .taken)
 
 at-stage-requires : tie.Need-at-stage-requires
 at-stage-requires c κs =
-    let l = executed (c .before .before) .before in (oldest-small _ (rules-at l), sized-at (entry l) .lengths .values)
-
-returns-4 : tie.Need-returns-4
-returns-4 c =
-    let x = c .before .before .before .before .before .before in
-    let l = executed x in
-    fault-refused _ _ _ (passed-at (l .before)) (live-at l) (executed-at x) _ (mark-at (c .before .before))
-    (sym (c .before .mark-faults .ensures) ∙ c .if4 .taken)
-
-returns-5 : tie.Need-returns-5
-returns-5 c =
-    let f = c .before .before in
-    let x = faultless f in
-    let l = executed x in
-    odd-refused _ _ _ (passed-at (l .before)) (live-at l) (executed-at x) _ (mark-at (f .before .before))
-    (sym (f .before .mark-faults .ensures) ∙ f .if4 .left) (sym (c .before .is-misaligned .ensures) ∙ c .if5 .taken)
+    let f = c .before .before in (oldest-small _ (rules-at (checked f)), sized-at (start f) .lengths .values)
 
 write-back-requires : tie.Need-write-back-requires
 write-back-requires c κs =
-    let f = c .before .before .before in
-    ap (λ (n : ℕ). faults n (markedFate (f .before .before .oldest-mark .result))) (passed-at (executed (faultless f) .before)
-    .words)
-    ∙ sym (f .before .mark-faults .ensures) ∙ f .if4 .left
+    let f = marked c in
+    commit-clean _ _ (start f .args .memory .now) (passed-at (checked f)) (free-at f) _ (mark-at c)
 
 stage-at-requires : tie.Need-stage-at-requires
-stage-at-requires c κs =
-    let l = executed (aligned (c .before .before .before .before .before)) in
-    circle-asks _ (rules-at (l .before)) 1 (live-at l)
+stage-at-requires c κs = let f = marked (c .before .before .before) in circle-asks _ (rules-at (checked f)) 1 (live-at f)
+
+sub-first-stages : tie.Need-sub-first-stages
+sub-first-stages c = live-at (marked (written c))
 
 first-stages-requires : tie.Need-first-stages-requires
-first-stages-requires c κs =
-    let l = executed (aligned (c .before .before .before .before .before .before)) in
-    next-asks _ (rules-at (l .before)) (c .stage-at .ensures)
+first-stages-requires c κs = next-asks _ (rules-at (checked (marked (written c)))) (c .stage-at .ensures)
+
+sub-m : tie.Need-sub-m
+sub-m c = live-at (marked (written (c .before .before)))
 
 keep-requires : tie.Need-keep-requires
-keep-requires c κs = let l = executed (aligned (c .before .before .before .before .before .before .before .before .before
-    .before)) .before in (fits _ (rules-at l) .banks, sized-at (entry l) .lengths .loads)
+keep-requires c κs =
+    let f = marked (written (c .before .before .before .before)) in
+    (fits _ (rules-at (checked f)) .banks, sized-at (start f) .lengths .loads)
 
 keep-requires-2 : tie.Need-keep-requires-2
-keep-requires-2 c κs = let l = executed (aligned (c .before .before .before .before .before .before .before .before .before
-    .before .before .before)) .before in (fits _ (rules-at l) .banks, sized-at (entry l) .lengths .stores)
+keep-requires-2 c κs =
+    let f = marked (written (staying (c .before) .before)) in
+    (fits _ (rules-at (checked f)) .banks, sized-at (start f) .lengths .stores)
 
 write-register-requires : tie.Need-write-register-requires
 write-register-requires c κs =
-    let f = aligned (c .before .before .before .before .before .before .before .before .before .before .before .before
-    .before .before) in
-    sized-at (entry (executed f .before)) .registers
+    sized-at (start (marked (written (staying (c .before .before .before) .before)))) .registers
 
-returns-6 : tie.Need-returns-6
-returns-6 c =
-    let t = c .before in
-    let f = last c .before .before in
-    let x = faultless f in
-    let l = executed x in
-    commit-meets _ _ _ (passed-at (l .before)) (live-at l) (executed-at x) _ (mark-at (f .before .before))
-    (sym (f .before .mark-faults .ensures) ∙ f .if4 .left) (sym (last c .before .is-misaligned .ensures) ∙ last c .if5 .left)
-    _ _ _
-    _ _ _ _ _ _ _
-    (t .before .before .before .before .before .before .before .before .before .before .before .stage-at .ensures)
-    (t .before .before .before .before .before .before .before .before .before .before .first-stages .ensures)
-    (t .before .before .before .before .before .before .keep .ensures)
-    (t .before .before .before .before .keep2 .ensures)
-    (t .before .code-of .ensures)
-    (t .target-of .ensures)
-    (t .before .before .before .before .before .before .before .before .before .before .before .before .value-of .ensures)
-    (c .distance-of .ensures)
-    (t .before .before .write-register .ensures)
-    (t .before .before .before .before .before .before .before .before .before .before .before .before .before .before .before
-    .write-back .ensures)
+returns-3 : tie.Need-returns-3
+returns-3 c =
+    let stores = c .before .before .before in
+    let loads = stores .before .before in
+    let rest = staying loads in
+    let first = rest .before in
+    let mark = written first in
+    let f = marked mark in
+    commit-meets _ _ _ (passed-at (checked f)) (free-at f) _ (mark-at mark) _ (c .commit-answer .ensures) _ _ _ _ _ _
+    (first .stage-at .ensures)
+    (rest .first-stages .ensures)
+    (loads .keep .ensures)
+    (stores .keep2 .ensures)
+    (c .before .write-register .ensures)
+    (first .before .before .before .write-back .ensures)
 
 pub commit-spec : {M : Type 1} → statement M
 commit-spec =
     tie.close
-    (tie.spec (λ c κs. search needs) returns returns-2 mul-e array-copy-out-e (search needs) returns-3 at-stage-requires
-    (search needs) (search needs) returns-4 (search needs) returns-5 write-back-requires
-    (search needs) stage-at-requires (search needs)
-    first-stages-requires (search needs) keep-requires keep-requires-2 write-register-requires (search needs)
-    (search needs) (search needs) (search needs) returns-6)
+    (tie.spec (λ c κs. search needs) returns mul-e array-copy-out-e (search needs) returns-2 at-stage-requires (search needs)
+    write-back-requires stage-at-requires sub-first-stages first-stages-requires sub-m keep-requires keep-requires-2
+    write-register-requires (search needs) (search needs) returns-3)

@@ -18,13 +18,11 @@ use Rattle.table.specs.Limits.{stagesMost, slots}
 use Rattle.table.specs.View.{value}
 use Rattle.engine.proofs.Lengths.{oldest-small}
 use Rattle.table.proofs.Sizes.{Sizes}
-use Rattle.lookup.specs.computed.Search.{markedFate}
-use Rattle.machine_model.specs.Program.{sOf}
-use Rattle.engine.specs.Conditions.{faults}
+use Rattle.machine_model.specs.Program.{registersMost, sOf}
 use Rattle.engine.specs.Contract.{refused, finished}
 use Rattle.machine_model.specs.declared.Entry.{Entry}
-use Rattle.machine_model.specs.Window.{blankEntry, misaligned, reference}
-use Rattle.machine_model.specs.Calls.{commit, finish, pending, programDone, perCommit, begun}
+use Rattle.machine_model.specs.Window.{blankEntry, reference}
+use Rattle.machine_model.specs.Calls.{commit, finish, pending, programDone, perCommit, begun, ready}
 use Rattle.machine_model.specs.Contract.{plain, Meets}
 use Rattle.machine_model.specs.computed.Parts.{second, markWith}
 use Rattle.machine_model.proofs.Sounding.{validateOf}
@@ -53,13 +51,11 @@ use Rattle.machine_model.proofs.FinishStep.{
   along-start,
   along-room,
   along-asks,
-  Prepared,
   ready-kept,
   own-small,
   taken-bounds,
   ready-taken,
-  turn-faults,
-  turn-odd,
+  turn-refused,
   turn-clean,
   turn-commits,
   turn-sized,
@@ -156,19 +152,14 @@ left-at c =
 set-number-requires : tie.Need-set-number-requires Inv-loop μ-loop
 set-number-requires c κs = oldest-below (head (c .before .before .before .before .before .before))
 
-cast-instruction-at : tie.Need-cast-instruction-at Inv-loop μ-loop
-cast-instruction-at c =
-    let past = c .before .before .before .before .before .before in
-    omega (arith, left-at past, head (past .before) .loop .inv .3 .small)
-
-instruction-at-requires : tie.Need-instruction-at-requires Inv-loop μ-loop
-instruction-at-requires c κs =
+entry-issued-requires : tie.Need-entry-issued-requires Inv-loop μ-loop
+entry-issued-requires c κs =
     let past = c .before .before .before .before .before .before in
     let passed = passed-in (head (past .before)) in
     program-small _ _ _ (passed .fits) (passed .counted) (left-at past)
 
-mul-t70 : tie.Need-mul-t70 Inv-loop μ-loop
-mul-t70 c = omega (arith, oldest-below (head (c .before .before .before .before .before .before .before .before)))
+mul-t65 : tie.Need-mul-t65 Inv-loop μ-loop
+mul-t65 c = omega (arith, oldest-below (head (c .before .before .before .before .before .before .before .before)))
 
 element-set-from-m : tie.Need-element-set-from-m Inv-loop μ-loop
 element-set-from-m c = oldest-below (head (c .before .before .before .before .before .before .before .before))
@@ -204,22 +195,22 @@ element-copy-out-e : tie.Need-element-copy-out-e Inv-loop μ-loop
 element-copy-out-e c = oldest-below (head (c .before))
 
 -- from where the oldest entry was looked at back to where it has been issued
-abbrev issued : tie.After-is-waiting Inv-loop μ-loop → tie.Joined4 Inv-loop μ-loop
+abbrev issued : tie.After-is-pending Inv-loop μ-loop → tie.Joined4 Inv-loop μ-loop
 issued c = c .before .before
 
 -- the oldest entry
 abbrev oldest : tie.Joined4 Inv-loop μ-loop → Entry
 oldest c = getD (c .if4 .m .window) (head (c .before) .loop .m .table .oldest) blankEntry
 
-waits-at : (c : tie.After-is-waiting Inv-loop μ-loop) → c .is-waiting .result ≡ pending (oldest (issued c) .fate)
-waits-at c = c .is-waiting .ensures
+waits-at : (c : tie.After-is-pending Inv-loop μ-loop) → c .is-pending .result ≡ pending (oldest (issued c) .fate)
+waits-at c = c .is-pending .ensures
 
 idle-at : (c : tie.Then5 Inv-loop μ-loop) → pending (oldest (issued (c .before)) .fate) ≡ true
 idle-at c = sym (waits-at (c .before)) ∙ c .if5 .taken
 
 -- the registers of its instruction
 small-at : (c : tie.Joined4 Inv-loop μ-loop)
-    → (sOf (oldest c .instruction) < 8) × (second (oldest c .instruction) < 8)
+    → (sOf (oldest c .instruction) < registersMost) × (second (oldest c .instruction) < registersMost)
 small-at c = own-small (begun-at c)
 
 register-requires : tie.Need-register-requires Inv-loop μ-loop
@@ -336,16 +327,17 @@ mul-f c = omega (arith, after-small c)
 element-copy-out-f : tie.Need-element-copy-out-f Inv-loop μ-loop
 element-copy-out-f c = after-small c
 
-mul-t80 : tie.Need-mul-t80 Inv-loop μ-loop
-mul-t80 c = omega (arith, oldest-below (head (chosen (marked (c .before .before .before .before .before)) .before)))
+mul-t75 : tie.Need-mul-t75 Inv-loop μ-loop
+mul-t75 c = omega (arith, oldest-below (head (chosen (marked (c .before .before .before .before .before .before)) .before)))
 
 element-set-from-m-2 : tie.Need-element-set-from-m-2 Inv-loop μ-loop
-element-set-from-m-2 c = oldest-below (head (chosen (marked (c .before .before .before .before .before)) .before))
+element-set-from-m-2 c = oldest-below (head (chosen (marked (c .before .before .before .before .before .before)) .before))
 
 -- where the ways meet the oldest has executed
 ready-at : (c : tie.Joined5 Inv-loop μ-loop)
     → let l = head (issued (c .before) .before) in
-    Prepared (entry l .args .program .now) (l .loop .m) (l .loop .memory) (c .if5 .m)
+    let program = entry l .args .program .now in
+    Along program (l .loop .m) (l .loop .memory) (ready program (plain (l .loop .m)) (l .loop .memory)) (c .if5 .m)
 ready-at c =
     let j = issued (c .before) in
     let l = head (j .before) in
@@ -368,8 +360,9 @@ ready-at c =
     (v .36 .ensures)
     (ap (λ (s : ℕ). getD (j .if4 .m .window) s blankEntry) (v .37 .ensures))
     (v .39 .ensures)
+    (v .40 .ensures)
     (c .if5 .m)
-    (v .40))
+    (v .41))
     (λ v. ready-kept (begun-at j) (sym (waits-at (c .before)) ∙ v .0 .left) (c .if5 .m) (v .1))
     (c .if5 .came)
 
@@ -380,46 +373,35 @@ more c = issued (c .before) .before
 abbrev turning : tie.Joined5 Inv-loop μ-loop → tie.At-loop Inv-loop μ-loop
 turning c = head (more c)
 
--- from after the oldest's mark was read back to where it has executed; from where it was found not to fault back to its
--- mark; from after its value was read back to where it was found aligned, to where it was found not to fault, and to where it
--- has executed; and from after its numbers were read back to the stages that stay, and to its value
-abbrev prepared : tie.After-oldest-mark Inv-loop μ-loop → tie.Joined5 Inv-loop μ-loop
-prepared c = c .before .before .before .before .before
+-- from after the number of the conditions 11 to 14 was found back to where the oldest has executed; from where none of them
+-- holds to there; from after its mark was told to where none holds; and from after the stages that stay were found to its mark,
+-- and to where it has executed
+abbrev ready-for : tie.After-commit-refusal Inv-loop μ-loop → tie.Joined5 Inv-loop μ-loop
+ready-for c = c .before .before
 
-abbrev read : tie.Else6 Inv-loop μ-loop → tie.After-oldest-mark Inv-loop μ-loop
-read c = c .before .before
+abbrev free : tie.Else6 Inv-loop μ-loop → tie.Joined5 Inv-loop μ-loop
+free c = ready-for (c .before)
 
-abbrev aligned : tie.After-value-of Inv-loop μ-loop → tie.Else7 Inv-loop μ-loop
-aligned c = c .before .before .before .before .before
+abbrev unbarred : tie.After-oldest-mark Inv-loop μ-loop → tie.Else6 Inv-loop μ-loop
+unbarred c = c .before .before .before .before .before
 
-abbrev faultless : tie.After-value-of Inv-loop μ-loop → tie.Else6 Inv-loop μ-loop
-faultless c = aligned c .before .before
+abbrev told : tie.After-stage-at2 Inv-loop μ-loop → tie.After-oldest-mark Inv-loop μ-loop
+told c = c .before .before .before .before
 
-abbrev committing : tie.After-value-of Inv-loop μ-loop → tie.Joined5 Inv-loop μ-loop
-committing c = prepared (read (faultless c))
+abbrev committing : tie.After-stage-at2 Inv-loop μ-loop → tie.Joined5 Inv-loop μ-loop
+committing c = free (unbarred (told c))
 
-abbrev staying : tie.After-distance-of Inv-loop μ-loop → tie.After-first-stages Inv-loop μ-loop
-staying c = c .before .before .before .before .before .before .before .before .before .before .before .before
+abbrev staying : tie.After-keep2 Inv-loop μ-loop → tie.After-first-stages Inv-loop μ-loop
+staying c = c .before .before .before .before .before .before
 
-abbrev valued : tie.After-distance-of Inv-loop μ-loop → tie.After-value-of Inv-loop μ-loop
-valued c = staying c .before .before
+abbrev listed : tie.After-list-commit Inv-loop μ-loop → tie.After-keep2 Inv-loop μ-loop
+listed c = c .before .before .before .before
 
 mul-done : tie.Need-mul-done Inv-loop μ-loop
 mul-done c = omega (arith, oldest-below (turning c))
 
 element-copy-out-done : tie.Need-element-copy-out-done Inv-loop μ-loop
 element-copy-out-done c = oldest-below (turning c)
-
-at-stage-requires : tie.Need-at-stage-requires Inv-loop μ-loop
-at-stage-requires c κs =
-    let p = c .before .before .before in (oldest-below (turning p), ready-at p .along .sized .lengths .values)
-
--- the mark told of the oldest
-mark-at : (c : tie.After-oldest-mark Inv-loop μ-loop)
-    → let p = prepared c in
-    let o = turning p .loop .m .table .oldest in
-    c .oldest-mark .result ≡ markWith (reference (getD (p .if5 .m .window) o blankEntry)) (value (p .if5 .m .table) o)
-mark-at c = rw (c .before .at-stage .ensures) at (c .oldest-mark .ensures)
 
 -- its commit is refused: the finish ends with the oldest executed
 refused-meets : (p : tie.Joined5 Inv-loop μ-loop)
@@ -432,7 +414,7 @@ refused-meets : (p : tie.Joined5 Inv-loop μ-loop)
 refused-meets p r meets =
     let e = more p in
     let l = turning p in
-    let along = ready-at p .along in
+    let along = ready-at p in
     let sound = along-passed along .sound in
     remains-meets _ _ _ (l .loop .m) _ _ _ _ _ _ _ (passed-at (l .before)) (l .loop .inv .2)
     (turn-stops _ (l .loop .m) (p .if5 .m) _ _ _ _ _ _ (below-at (e .before .before)) (room-at (e .before)) (more-at e)
@@ -445,132 +427,106 @@ refused-meets p r meets =
     sound
 
 same-length-5 : tie.Need-same-length-5 Inv-loop μ-loop
-same-length-5 c = turning (prepared (c .before .before)) .loop .inv .1
+same-length-5 c = turning (ready-for (c .before)) .loop .inv .1
 
 same-length-6 : tie.Need-same-length-6 Inv-loop μ-loop
-same-length-6 c = turning (prepared (c .before .before)) .loop .inv .2 .size
+same-length-6 c = turning (ready-for (c .before)) .loop .inv .2 .size
 
 returns-4 : tie.Need-returns-4 Inv-loop μ-loop
 returns-4 c =
-    let mark = c .before .before in
-    let p = prepared mark in
-    refused-meets p 13 (turn-faults (ready-at p) (mark-at mark) (sym (c .before .mark-faults .ensures) ∙ c .if6 .taken))
+    let p = ready-for (c .before) in
+    refused-meets p _ (turn-refused (ready-at p) (c .before .commit-refusal .ensures) (c .if6 .taken))
 
--- it does not fault, and is aligned
-clean-at : (c : tie.Else6 Inv-loop μ-loop)
-    → faults (prepared (read c) .if5 .m .table .words) (markedFate (read c .oldest-mark .result)) ≡ false
-clean-at c = sym (c .before .mark-faults .ensures) ∙ c .if6 .left
+at-stage-requires : tie.Need-at-stage-requires Inv-loop μ-loop
+at-stage-requires c κs =
+    let p = free (c .before .before) in (oldest-below (turning p), ready-at p .sized .lengths .values)
 
-even-at : (c : tie.Else7 Inv-loop μ-loop)
-    → let p = prepared (read (c .before .before)) in
-    misaligned (getD (p .if5 .m .window) (turning p .loop .m .table .oldest) blankEntry) ≡ false
-even-at c = sym (c .before .is-misaligned .ensures) ∙ c .if7 .left
-
-same-length-7 : tie.Need-same-length-7 Inv-loop μ-loop
-same-length-7 c = turning (prepared (read (c .before .before))) .loop .inv .1
-
-same-length-8 : tie.Need-same-length-8 Inv-loop μ-loop
-same-length-8 c = turning (prepared (read (c .before .before))) .loop .inv .2 .size
-
-returns-5 : tie.Need-returns-5 Inv-loop μ-loop
-returns-5 c =
-    let mark = read (c .before .before) in
-    let p = prepared mark in
-    refused-meets p 14
-    (turn-odd (ready-at p) (mark-at mark) (clean-at (c .before .before))
-    (sym (c .before .is-misaligned .ensures) ∙ c .if7 .taken))
+-- the mark told of the oldest
+mark-at : (c : tie.After-oldest-mark Inv-loop μ-loop)
+    → let p = free (unbarred c) in
+    let o = turning p .loop .m .table .oldest in
+    c .oldest-mark .result ≡ markWith (reference (getD (p .if5 .m .window) o blankEntry)) (value (p .if5 .m .table) o)
+mark-at c = rw (c .before .before .at-stage .ensures) at (c .oldest-mark .ensures)
 
 write-back-requires : tie.Need-write-back-requires Inv-loop μ-loop
 write-back-requires c κs =
-    let f = c .before .before .before in
-    let mark = read f in
-    turn-clean (ready-at (prepared mark)) (mark-at mark) (clean-at f) (even-at (c .before))
+    let f = unbarred c in
+    turn-clean (ready-at (free f)) (f .before .commit-refusal .ensures) (f .if6 .left) (mark-at c)
 
 stage-at-requires-2 : tie.Need-stage-at-requires-2 Inv-loop μ-loop
-stage-at-requires-2 c κs = let a = ready-at (committing c) .along in along-asks a 1 (a .some)
+stage-at-requires-2 c κs = let a = ready-at (free (unbarred (c .before .before .before))) in along-asks a 1 (a .some)
 
 sub-first-stages : tie.Need-sub-first-stages Inv-loop μ-loop
-sub-first-stages c = ready-at (committing (c .before)) .along .some
+sub-first-stages c = ready-at (committing c) .some
 
 first-stages-requires : tie.Need-first-stages-requires Inv-loop μ-loop
 first-stages-requires c κs =
-    let a = ready-at (committing (c .before)) .along in (
+    let a = ready-at (committing c) in (
       rw (c .stage-at2 .ensures) (stage-lt _ _ (along-start a) 1 (omega (arith, along-start a))),
       omega (arith, along-room a),
       omega (arith, along-sizes a .stages),
     )
 
 sub-m : tie.Need-sub-m Inv-loop μ-loop
-sub-m c = ready-at (committing (c .before .before .before)) .along .some
+sub-m c = ready-at (committing (c .before .before)) .some
 
 keep-requires : tie.Need-keep-requires Inv-loop μ-loop
 keep-requires c κs =
-    let a = ready-at (committing (c .before .before .before .before .before)) .along in
-    (along-sizes a .banks, a .sized .lengths .loads)
+    let a = ready-at (committing (c .before .before .before .before)) in (along-sizes a .banks, a .sized .lengths .loads)
 
 keep-requires-2 : tie.Need-keep-requires-2 Inv-loop μ-loop
 keep-requires-2 c κs =
-    let a = ready-at (committing (c .before .before .before .before .before .before .before)) .along in
+    let a = ready-at (committing (c .before .before .before .before .before .before)) in
     (along-sizes a .banks, a .sized .lengths .stores)
 
 write-register-requires : tie.Need-write-register-requires Inv-loop μ-loop
-write-register-requires c κs =
-    let p = committing (c .before .before .before .before .before .before .before .before .before) in
-    ready-at p .along .sized .registers
+write-register-requires c κs = ready-at (committing (staying (c .before) .before)) .sized .registers
 
-mul-put-commit : tie.Need-mul-put-commit Inv-loop μ-loop
-mul-put-commit c =
-    let p = committing (c .before .before .before .before .before .before .before .before .before .before .before) in
-    mul-if2 (more p .before .before)
-
-put-commit-requires : tie.Need-put-commit-requires Inv-loop μ-loop
-put-commit-requires c κs =
-    let e = more (committing (valued c)) in
+list-commit-requires : tie.Need-list-commit-requires Inv-loop μ-loop
+list-commit-requires c κs =
+    let e = more (committing (staying (c .before .before .before) .before)) in
     omega (arith, room-at (e .before), head e .loop .inv .2 .size)
 
 add-n : tie.Need-add-n Inv-loop μ-loop
 add-n c =
-    let e = more (committing (valued (c .before .before .before))) in
+    let e = more (committing (staying (listed (c .before .before)) .before)) in
     omega (arith, below-at (e .before .before), entry (head e) .fits .k)
 
 loop-less : tie.Need-loop-less Inv-loop μ-loop
 loop-less c =
-    let e = more (committing (valued (c .before .before .before))) in
+    let e = more (committing (staying (listed (c .before .before)) .before)) in
     omega (arith, below-at (e .before .before))
 
 loop-again : tie.Need-loop-again Inv-loop μ-loop
 loop-again c =
-    let t = c .before .before .before in
-    let value = valued t in
-    let f = faultless value in
-    let p = committing value in
+    let put = c .before .before in
+    let kept = listed put in
+    let rest = staying kept in
+    let first = rest .before in
+    let f = unbarred (told first) in
+    let p = free f in
     let e = more p in
     let l = head e in
     let r = ready-at p in
-    let mark = mark-at (read f) in
-    let first = staying t .before .stage-at2 .ensures in
-    let stay = staying t .first-stages .ensures in
-    let loads = t .before .before .before .before .before .before .before .before .keep .ensures in
-    let stores = t .before .before .before .before .before .before .keep2 .ensures in
-    let registers = t .before .before .before .before .write-register .ensures in
-    let code = t .before .before .code-of .ensures in
-    let place = t .before .target-of .ensures in
-    let far = t .distance-of .ensures in
-    let v = value .value-of .ensures in
+    let why = f .before .commit-refusal .ensures in
+    let mark = mark-at (told first) in
+    let loads = kept .before .before .keep .ensures in
+    let registers = put .before .before .write-register .ensures in
     let meets =
-    turn-commits r mark (clean-at f) (even-at (aligned value)) first stay loads stores code place v far registers _
-    (value .before .before .before .write-back .ensures) in (
+    turn-commits r why (f .if6 .left) mark (first .stage-at2 .ensures) (rest .first-stages .ensures) loads
+    (kept .keep2 .ensures) registers _
+    (first .before .before .before .write-back .ensures) in (
       commit-passes (p .if5 .m) _ _ _
-          (validate-lent (p .if5 .m) (entry l .args .program .now) _ _ (l .loop .inv .1) (r .along .passes))
+          (validate-lent (p .if5 .m) (entry l .args .program .now) _ _ (l .loop .inv .1) (r .passes))
           _
           _
           _
           meets,
-      value .before .before .memory .given ∙ l .loop .inv .1,
+      first .before .before .memory .given ∙ l .loop .inv .1,
       remains-goes _ _ _ _ _ _ _ _ _ (l .loop .inv .2) _ _ _ _ _ _ _ _ (below-at (e .before .before)) (room-at (e .before))
           (turn-goes _ (l .loop .m) (p .if5 .m) _ _ _ _ _ _ (below-at (e .before .before)) (room-at (e .before)) (more-at e)
-          (along-passed (r .along) .sound)
-          (r .along .is)
+          (along-passed r .sound)
+          (r .is)
           _
           _
           _
@@ -579,12 +535,13 @@ loop-again c =
           _
           refl
           meets)
-          (c .before .before .put-commit .ensures),
-      turn-sized r mark (clean-at f) (even-at (aligned value)) first stay loads stores code place v far registers,
+          (put .list-commit .ensures),
+      turn-sized r why (f .if6 .left) mark (first .stage-at2 .ensures) (rest .first-stages .ensures) loads
+          (kept .keep2 .ensures) registers,
     )
 
-returns-6 : tie.Need-returns-6 Inv-loop μ-loop
-returns-6 c =
+returns-5 : tie.Need-returns-5 Inv-loop μ-loop
+returns-5 c =
     let l = c .before in
     remains-meets _ _ _ (l .loop .m) _ _ _ _ _ _ _ (passed-at (l .before)) (l .loop .inv .2)
     (finishes-limit _ _ _ _ _ (omega (arith, c .loop-test .left)))
@@ -595,13 +552,11 @@ finish-spec =
     tie.close
     (tie.spec Inv-loop μ-loop (λ c κs. search needs) returns loop-holds mul-if2 (search needs) (search needs)
     (search needs) returns-2 (search needs) (search needs) returns-3 (search needs) set-number-requires
-    cast-instruction-at instruction-at-requires mul-t70 element-set-from-m add-m mul-e element-copy-out-e
+    entry-issued-requires mul-t65 element-set-from-m add-m mul-e element-copy-out-e
     (search needs) (search needs) register-requires (search needs) register-requires-2 (search needs)
-    (λ c κs. search needs) effect-of-requires cut-requires cut-requires-2 including-requires set-word-requires add-mark-requires
-    add-mark-requires-2 set-value-requires set-value-requires-2 stage-at-requires mul-f element-copy-out-f mul-t80
-    element-set-from-m-2
-    (search needs) mul-done element-copy-out-done at-stage-requires (search needs) (search needs) same-length-5
-    same-length-6 returns-4 (search needs) same-length-7 same-length-8 returns-5 write-back-requires (search needs)
-    stage-at-requires-2 sub-first-stages
-    first-stages-requires sub-m keep-requires keep-requires-2 write-register-requires mul-put-commit (search needs)
-    (search needs) (search needs) put-commit-requires add-n loop-less loop-again (search needs) (search needs) returns-6)
+    (λ c κs. search needs) effect-of-requires cut-requires cut-requires-2 including-requires set-word-requires
+    add-mark-requires add-mark-requires-2 set-value-requires set-value-requires-2 stage-at-requires mul-f
+    element-copy-out-f (search needs) mul-t75 element-set-from-m-2 (search needs) mul-done element-copy-out-done
+    (search needs) same-length-5 same-length-6 returns-4 at-stage-requires (search needs) write-back-requires
+    stage-at-requires-2 sub-first-stages first-stages-requires sub-m keep-requires keep-requires-2
+    write-register-requires list-commit-requires add-n loop-less loop-again (search needs) (search needs) returns-5)

@@ -4,6 +4,8 @@
 use Prim.Native.Nat.{_≤_, _<_}
 use native.Mathlib.Omega.{arith}
 use borrow.Author.Needs.{needs}
+use Rattle.marks.specs.Stages.{width}
+use Rattle.table.specs.Limits.{stagesMost}
 use Rattle.table.specs.Rules.{Rules}
 use Rattle.engine.proofs.Lengths.{fits, circle-asks, stage-small}
 use Rattle.machine_model.specs.Calls.{squash}
@@ -34,11 +36,11 @@ rules-at c = passed-at (c .before) .sound .rules
 
 -- what is asked of the position
 circle-at : (c : tie.Else2)
-    → let t = entered c .args .t1 .table in (t .oldest < t .stages) × (entered c .args .p ≤ t .stages) × (t .stages ≤ 32)
+    → let t = entered c .args .t1 .table in (t .oldest < t .stages) × (entered c .args .p ≤ t .stages) × (t .stages ≤ width)
 circle-at c = circle-asks _ (rules-at c) _ (omega (arith, c .if2 .left))
 
 -- the entry's stage is an index of the window
-small-at : (c : tie.After-stage-at) → c .stage-at .result < 16
+small-at : (c : tie.After-stage-at) → c .stage-at .result < stagesMost
 small-at c = rw (c .stage-at .ensures) (stage-small _ (rules-at (c .before)) _ (omega (arith, c .before .if2 .left)))
 
 returns : tie.Need-returns

@@ -3,8 +3,8 @@
 use mathlib.Core.Bool.{Bool, cond, not, _&&_, _||_}
 use mathlib.Core.List.{List, [], _∷_}
 use mathlib.Core.Option.{Option, none, some}
-use Prim.Native.Nat.{ℕ, zero, suc, _+_, _-_, _*_}
-use lib.Dec.{eqb, ltb}
+use Prim.Native.Nat.{ℕ, zero, suc, _+_, _-_, _*_, _<_}
+use lib.Dec.{eqb, leb, ltb}
 use lib.Bits.{bitOr}
 use lib.ListN.{length, getD}
 use Rattle.marks.specs.Stages.{has}
@@ -22,18 +22,20 @@ use Rattle.lookup.specs.computed.Search.{find}
 use Rattle.engine.specs.declared.Action.{Action}
 use Rattle.engine.specs.declared.Action.the-variants as action
 use Rattle.engine.specs.declared.Part.the-variants as part
-use Rattle.engine.specs.Conditions.{refusal, when}
+use Rattle.engine.specs.declared.Effect.{Effect}
+use Rattle.engine.specs.Conditions.{refusal, when, faults}
+use Rattle.engine.specs.Contract as answer
 use Rattle.engine.specs.Part.{wordOf}
+use Rattle.engine.specs.computed.Effect.{answered}
 use Rattle.machine_model.specs.declared.Instruction.{Instruction}
 use Rattle.machine_model.specs.declared.Instruction.the-variants.{Add, Sum, Load, Store, Byte, Half}
 use Rattle.machine_model.specs.declared.Entry.{Entry}
 use Rattle.machine_model.specs.declared.Operand.{Operand}
 use Rattle.machine_model.specs.declared.Operand.the-variants.{Unknown, Known}
-use Rattle.machine_model.specs.declared.Wanted.{Wanted}
-use Rattle.machine_model.specs.declared.Wanted.the-variants as wanted
-use Rattle.machine_model.specs.Program.{registersMost, codeOf, dOf, sOf, immOf, destination, sum, programFits}
-use Rattle.machine_model.specs.Window.{blankEntry, reference}
-use Rattle.machine_model.specs.Calls.{matchesProgram}
+use Rattle.machine_model.specs.Program.{perInstruction, registersMost, codeOf, dOf, sOf, immOf, kind, destination, sum}
+use Rattle.machine_model.specs.Program.{programFits}
+use Rattle.machine_model.specs.Window.{blankEntry, pending, addressBy, misaligned, registerSeen, reference, with₂}
+use Rattle.machine_model.specs.Calls.{Answer, matchesProgram, unknown, valueBy, answerBy, target}
 use Rattle.machine_model.specs.Contract.{kindOf, placeOf}
 
 -- the register that an instruction writes as a number; registersMost where it writes none
@@ -73,6 +75,10 @@ second (Load d s imm) = s
 second (Store d s imm) = d
 second (Byte d s imm) = d
 second (Half d s imm) = d
+
+-- both operands' registers exist
+abbrev pub OperandsExist : Instruction → Type 0
+OperandsExist i = (sOf i < registersMost) × (second i < registersMost)
 
 -- the union of the sets f i, over the i below n that pass the test
 unfoldable pub union : (ℕ → Bool) → (ℕ → ℕ) → ℕ → ℕ
@@ -121,7 +127,7 @@ agreeingBy banks oldest stages executed addresses loads stores window k =
 abbrev pub likeBy : List ℕ → Entry → Bool
 likeBy program e =
     let i = e .instruction in
-    let k = e .index * 4 in
+    let k = e .index * perInstruction in
     ltb (k + 3) (length program)
     && (eqb (getD program k 0) (codeOf i) && eqb (getD program (k + 1) 0) (dOf i) && eqb (getD program (k + 2) 0) (sOf i)
     && eqb (getD program (k + 3) 0) (immOf i))
@@ -135,10 +141,13 @@ fittingBy program oldest stages window k =
 abbrev pub entriesOf : List Entry → ℕ → ℕ → ℕ → List Entry
 entriesOf window oldest stages k = tabulate (λ (p : ℕ). getD window (stage oldest stages p) blankEntry) k
 
--- what an instruction at position p asks, if its operands are known
-abbrev pub wantedBy : Wanted → Option Action
-wantedBy wanted.Unready = none
-wantedBy (wanted.Ready x) = some x
+-- what the entry at position p of a window by stage asks, if its operands are known
+abbrev pub askedOf : List Entry → List ℕ → ℕ → ℕ → ℕ → Option Action
+askedOf window registers oldest stages p =
+    let i = getD window (stage oldest stages p) blankEntry .instruction in
+    with₂ (registerSeen (entriesOf window oldest stages p) (sOf i) (some (getD registers (sOf i) 0)))
+    (registerSeen (entriesOf window oldest stages p) (second i) (some (getD registers (second i) 0)))
+    (actionOf i)
 
 -- the conditions 2, 3 and 4, in that order, of a machine with these parts and a call lent a memory of this length
 abbrev pub validateBy : ℕ → ℕ → ℕ → ℕ → ℕ → ℕ → ℕ → List ℕ → List ℕ → List ℕ → List Entry → ℕ → List ℕ → ℕ → ℕ
@@ -152,7 +161,7 @@ validateBy banks rows stages words oldest live executed addresses loads stores w
     ∷ when (not (eqb lent words)) 3
     ∷ when
     (not
-    (programFits program && eqb (length program) (4 * count)
+    (programFits program && eqb (length program) (perInstruction * count)
     && every (λ (p : ℕ). matchesProgram program count (getD window (stage oldest stages p) blankEntry)) live))
     4
     ∷ [])
@@ -162,3 +171,36 @@ abbrev pub markWith : Reference.Fate → ℕ → Mark
 markWith f v =
     cond (eqb (kindOf f) 1) (mark.Load (placeOf f))
     (cond (eqb (kindOf f) 2 || eqb (kindOf f) 3) (mark.Store (placeOf f) v) Absent)
+
+-- ---- conditions that the window decides, as one number (proofs/Refusals.antt)
+
+-- 5 and 6 of an issue, where no stage is left or one is
+abbrev pub issueNumber : Bool → ℕ → ℕ → ℕ
+issueNumber full count next = refusal (when full 5 ∷ when (leb count next) 6 ∷ [])
+
+-- 7, 8 and 9 of an execute at position p of `live` entries
+abbrev pub askedNumber : List Entry → List ℕ → ℕ → ℕ → ℕ → ℕ → ℕ
+askedNumber window registers oldest stages live p =
+    refusal
+    (when (leb live p) 7 ∷ when (not (pending (getD window (stage oldest stages p) blankEntry .fate))) 8
+    ∷ when (unknown (askedOf window registers oldest stages p)) 9
+    ∷ [])
+
+-- 11 to 14 of a commit of e, the oldest of `live` entries, over so many words
+abbrev pub commitNumber : Entry → ℕ → ℕ → ℕ
+commitNumber e live words =
+    refusal
+    (when (eqb live 0) 11 ∷ when (pending (e .fate)) 12 ∷ when (faults words (reference e)) 13 ∷ when (misaligned e) 14 ∷ [])
+
+-- ---- answers
+
+-- what an execution with this effect answers, of `live` entries
+abbrev pub executedSays : Effect → ℕ → Answer
+executedSays q live =
+    answer.executed (answered (q .load) (q .store) (q .value)) (q .distance) (cond (ltb (q .left) live) (some (q .left)) none)
+
+-- the numbers of a commit of e, as they stand in a list
+abbrev pub commitNumbers : Entry → List ℕ
+commitNumbers e =
+    let i = e .instruction in
+    e .index ∷ codeOf i ∷ target i (addressBy (e .fate)) ∷ valueBy (e .fate) ∷ answerBy (kind i) (e .distance) ∷ []

@@ -16,7 +16,7 @@ use Rattle.table.specs.computed.Check.{lawful}
 use Rattle.table.specs.Rules.{Rules}
 use Rattle.table.proofs.Lawful.{lawful-rules}
 use Rattle.table.proofs.Sizes.{sizes}
-use Rattle.machine_model.specs.Program.{programFits}
+use Rattle.machine_model.specs.Program.{perInstruction, programFits}
 use Rattle.machine_model.specs.Window.{blankEntry}
 use Rattle.machine_model.specs.Calls.{matchesProgram}
 use Rattle.machine_model.specs.computed.Parts.{agreeingBy, validateBy}
@@ -74,7 +74,7 @@ fits-at : (c : tie.Else4) → programFits (entered (ruled (agreed c)) .args .pro
 fits-at c = sym (c .before .program-fits .ensures) ∙ not-false _ (c .if4 .left)
 
 counted-at : (c : tie.Else5)
-    → let args = entered (ruled (agreed (c .before))) .args in length (args .program .now) ≡ 4 * args .count
+    → let args = entered (ruled (agreed (c .before))) .args in length (args .program .now) ≡ perInstruction * args .count
 counted-at c = search needs
 
 -- what the pass said of the program
