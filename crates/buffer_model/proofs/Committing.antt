@@ -2,25 +2,25 @@
 -- stage `oldest`, has executed where its bit is set, and its fate is what the marks of its stage say. Where none holds, the
 -- table that is left is the one narrowed to all but the first reference.
 -- Assumes nothing.
-use mathlib.Core.Bool.{true, false}
+use mathlib.Core.Bool.{true, false, not}
 use mathlib.Core.List.{List}
 use mathlib.Core.Path.{_≡_, refl, sym, ap, _∙_}
 use Prim.Native.Nat.{ℕ, _-_, _<_}
 use native.Mathlib.Omega.{arith}
 use lib.Dec.{eqb}
 use lib.ListN.{length, getD}
-use borrow.Author.Tests.{eq-eqb, ne-eqb}
+use borrow.Author.Tests.{eq-eqb, ne-eqb, not-true, not-false}
 use Rattle.marks.specs.Stages.{has}
 use Rattle.marks.proofs.Turns.{stage-zero}
 use Rattle.table.specs.declared.Table.{Table}
 use Rattle.table.specs.Limits.{rowsIn}
-use Rattle.table.specs.Reference.{Fate, fateOf, at}
+use Rattle.table.specs.Reference.{Fate, idle, fateOf, at}
 use Rattle.table.specs.View.{stageOf, view}
 use Rattle.table.specs.Rules.{Rules}
 use Rattle.table.proofs.Fates.{length-refs, at-refs}
 use Rattle.engine.specs.computed.Steps.{narrowed}
 use Rattle.engine.proofs.Narrowing.{retire-rules, retire-view}
-use Rattle.engine.specs.Conditions.{hasExecuted, faults}
+use Rattle.engine.specs.Conditions.{faults}
 use Rattle.engine.specs.Contract.{refused, named}
 use Rattle.engine.specs.Execution.{written}
 use Rattle.engine.proofs.Fated.{executed-at, mark-told, told-faults, told-written}
@@ -50,16 +50,20 @@ module _ (t : Table) (rules : Rules t) (m : List ℕ) where
     oldest-stage : stageOf t 0 ≡ t .oldest
     oldest-stage = stage-zero (t .oldest) (t .stages) (rules .start)
 
-    oldest-executed : hasExecuted (fateOf (at (view t .refs) 0)) ≡ has (t .executed) (t .oldest)
+    oldest-executed : not (idle (fateOf (at (view t .refs) 0))) ≡ has (t .executed) (t .oldest)
     oldest-executed = executed-at t 0 some ∙ ap (has (t .executed)) oldest-stage
 
     -- refusal 12: the oldest has not executed
     pub waiting-refused : has (t .executed) (t .oldest) ≡ false → Meets t commit m (refused 12) t m
     waiting-refused e =
-        refused-meets t commit m rules 12 (rw (eq-eqb (length m) (t .words) w, some-live, oldest-executed ∙ e))
+        let idles : idle (fateOf (at (view t .refs) 0)) ≡ true = not-false _ (oldest-executed ∙ e) in
+        refused-meets t commit m rules 12 (rw (eq-eqb (length m) (t .words) w, some-live, idles))
         (λ z. omega arith)
 
     module _ (done : has (t .executed) (t .oldest) ≡ true) where
+      oldest-done : idle (fateOf (at (view t .refs) 0)) ≡ false
+      oldest-done = not-true _ (oldest-executed ∙ done)
+
       -- what the marks of the oldest's stage say is what its fate says of the commit
       oldest-told : oldestFate t ≡ markedFate (markBy (fateOf (at (view t .refs) 0)))
       oldest-told =
@@ -75,7 +79,7 @@ module _ (t : Table) (rules : Rules t) (m : List ℕ) where
       pub fault-refused : faults (t .words) (oldestFate t) ≡ true → Meets t commit m (refused 13) t m
       fault-refused f =
           refused-meets t commit m rules 13
-          (rw (eq-eqb (length m) (t .words) w, some-live, oldest-executed ∙ done, oldest-faults ∙ f))
+          (rw (eq-eqb (length m) (t .words) w, some-live, oldest-done, oldest-faults ∙ f))
           (λ z. omega arith)
 
       -- the oldest reference leaves the window, and memory is what its fate makes of it
@@ -85,7 +89,7 @@ module _ (t : Table) (rules : Rules t) (m : List ℕ) where
           (written m (oldestFate t))
       commit-meets f =
           accepted-meets t commit m rules
-          (rw (eq-eqb (length m) (t .words) w, some-live, oldest-executed ∙ done, oldest-faults ∙ f))
+          (rw (eq-eqb (length m) (t .words) w, some-live, oldest-done, oldest-faults ∙ f))
           (named (record { stage = t .oldest; number = getD (t .numbers) (t .oldest) 0 }))
           (narrowed t (stageOf t 1) (t .live - 1))
           (written m (oldestFate t))

@@ -15,7 +15,7 @@ use Rattle.marks.specs.Stages.{has}
 use Rattle.marks.proofs.Turns.{stage-position}
 use Rattle.table.specs.declared.Table.{Table}
 use Rattle.table.specs.declared.Ticket.{Ticket}
-use Rattle.table.specs.Reference.{Fate, fateOf, at}
+use Rattle.table.specs.Reference.{Fate, idle, fateOf, at}
 use Rattle.table.specs.View.{stageOf, view}
 use Rattle.table.specs.Rules.{Rules}
 use Rattle.table.proofs.Fates.{length-refs}
@@ -23,7 +23,7 @@ use Rattle.engine.proofs.Lengths.{Lengths}
 use Rattle.lookup.specs.Outcome.{survivors}
 use Rattle.engine.specs.declared.Action.{Action}
 use Rattle.engine.specs.declared.Effect.{Effect}
-use Rattle.engine.specs.Conditions.{refusal, hasExecuted}
+use Rattle.engine.specs.Conditions.{refusal}
 use Rattle.engine.specs.Contract.{refused, executed}
 use Rattle.engine.specs.computed.Effect.{effectAt, answered, applyEffect}
 use Rattle.engine.proofs.Fated.{executed-at}
@@ -98,7 +98,7 @@ module _ (t : Table) (rules : Rules t) (τ : Ticket) (m : List ℕ) where
       }
 
   -- a named reference has executed where its stage has
-  executed-here : names (view t) τ ≡ true → has (t .executed) (τ .stage) ≡ hasExecuted (fateOf (at (view t .refs) p))
+  executed-here : names (view t) τ ≡ true → has (t .executed) (τ .stage) ≡ not (idle (fateOf (at (view t .refs) p)))
   executed-here e =
       let w = both-true (ltb (τ .stage) (t .stages)) _ e in
       let l = both-true (ltb p (length (view t .refs))) _ (w .1) in
@@ -117,7 +117,7 @@ module _ (t : Table) (rules : Rules t) (τ : Ticket) (m : List ℕ) where
       (namedBy (t .oldest) (t .stages) (t .live) (t .numbers) (τ .stage) (τ .number))
       (names (view t) τ)
       (has (t .executed) (τ .stage))
-      (hasExecuted (fateOf (at (view t .refs) p)))
+      (not (idle (fateOf (at (view t .refs) p))))
       (stalling f) (named-names t rules τ) executed-here
 
   module _ (act : Action) where

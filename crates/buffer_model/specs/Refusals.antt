@@ -8,9 +8,9 @@ use lib.ListN.{length}
 use Rattle.marks.specs.Circle.{position}
 use Rattle.table.specs.declared.Ticket.{Ticket}
 use Rattle.table.specs.Limits.{sizesFit}
-use Rattle.table.specs.Reference.{Fate, numberOf, fateOf, at, State}
+use Rattle.table.specs.Reference.{Fate, idle, numberOf, fateOf, at, State}
 use Rattle.lookup.specs.Outcome.{survivors}
-use Rattle.engine.specs.Conditions.{Check, when, wrongLength, hasExecuted, faults}
+use Rattle.engine.specs.Conditions.{Check, when, wrongLength, faults}
 
 -- the position that a ticket's stage has in the window
 abbrev pub place : State → Ticket → ℕ
@@ -30,7 +30,7 @@ issueChecks P = when (eqb (length (P .refs)) (P .stages)) 5 ∷ []
 
 abbrev pub executeChecks : State → List ℕ → Ticket → Fate → List Check
 executeChecks P memory τ f =
-    wrongLength (P .words) memory ∷ when (not (names P τ)) 7 ∷ when (hasExecuted (fateOf (at (P .refs) (place P τ)))) 8
+    wrongLength (P .words) memory ∷ when (not (names P τ)) 7 ∷ when (not (idle (fateOf (at (P .refs) (place P τ))))) 8
     ∷ when (eqb (survivors P (place P τ) f) 0) 10
     ∷ []
 
@@ -39,6 +39,6 @@ squashChecks P τ = when (not (names P τ)) 7 ∷ []
 
 abbrev pub commitChecks : State → List ℕ → List Check
 commitChecks P memory =
-    wrongLength (P .words) memory ∷ when (eqb (length (P .refs)) 0) 11 ∷ when (not (hasExecuted (fateOf (at (P .refs) 0)))) 12
+    wrongLength (P .words) memory ∷ when (eqb (length (P .refs)) 0) 11 ∷ when (idle (fateOf (at (P .refs) 0))) 12
     ∷ when (faults (P .words) (fateOf (at (P .refs) 0))) 13
     ∷ []

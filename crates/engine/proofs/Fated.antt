@@ -2,41 +2,24 @@
 -- says of a commit (mark-told), of a store with the stage's value as its word (stored-word).
 -- Assumes nothing.
 use mathlib.Core.Path.{_≡_, refl, sym, ap, _∙_}
-use mathlib.Core.Bool.{Bool, true, false, cond, _||_}
+use mathlib.Core.Bool.{Bool, true, false, cond, not, _||_}
 use mathlib.Core.List.{List}
 use Prim.Native.Nat.{ℕ, zero, suc, _<_}
 use native.Mathlib.Omega.{arith}
 use Rattle.marks.specs.Stages.{has}
 use Rattle.table.specs.declared.Table.{Table}
 use Rattle.table.specs.Limits.{rowsIn}
-use Rattle.table.specs.Reference.{Side, Fate, waiting, other, accessed, lacks, holds, fateOf, at}
-use Rattle.table.specs.View.{stageOf, storeMark, loadMark, mark, address, value, taken, wordIf, access, markFate, view}
-use Rattle.table.proofs.Fates.{at-refs}
+use Rattle.table.specs.Reference.{Side, Fate, waiting, other, accessed, idle, lacks, holds, fateOf, at}
+use Rattle.table.specs.View.{stageOf, storeMark, loadMark, address, value, taken, wordIf, markFate, view}
+use Rattle.table.proofs.Fates.{executed-bit, at-refs}
 use Rattle.lookup.specs.computed.Search.{markOf, markBy, markedFate}
 use Rattle.lookup.proofs.Telling.{marks-told}
-use Rattle.engine.specs.Conditions.{hasExecuted, faults}
+use Rattle.engine.specs.Conditions.{faults}
 use Rattle.engine.specs.Execution.{written}
 
-marks-executed : (t : Table) (s k : ℕ) → hasExecuted (markFate t s k) ≡ true
-unfolding markFate
-marks-executed t s zero = refl
-marks-executed t s (suc k) = go (mark t k s) (marks-executed t s k)
-  where
-    go : (b : Bool) → hasExecuted (markFate t s k) ≡ true → hasExecuted (cond b (access t k s) (markFate t s k)) ≡ true
-    go true h = refl
-    go false h = h
-
--- an executed stage has a fate that is not waiting
-by-bit : (b : Bool) (f : Fate) → hasExecuted f ≡ true → hasExecuted (cond b f waiting) ≡ b
-by-bit true f h = h
-by-bit false f h = refl
-
 module _ (t : Table) (p : ℕ) (h : p < t .live) where
-  pub executed-at : hasExecuted (fateOf (at (view t .refs) p)) ≡ has (t .executed) (stageOf t p)
-  executed-at =
-      rw (at-refs t p h)
-      (by-bit (has (t .executed) (stageOf t p)) (markFate t (stageOf t p) (rowsIn (t .banks))) (marks-executed t (stageOf t p)
-      (rowsIn (t .banks))))
+  pub executed-at : not (idle (fateOf (at (view t .refs) p))) ≡ has (t .executed) (stageOf t p)
+  executed-at = rw (at-refs t p h) (executed-bit t (stageOf t p))
 
   -- what the marks of its stage say of an executed live reference
   pub mark-told : has (t .executed) (stageOf t p) ≡ true

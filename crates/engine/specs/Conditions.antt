@@ -49,11 +49,6 @@ rising checks = risingFrom 0 checks
 abbrev pub wrongLength : ℕ → List ℕ → Check
 wrongLength words memory = when (not (eqb (length memory) words)) 3
 
-abbrev pub hasExecuted : Fate → Bool
-hasExecuted waiting = false
-hasExecuted other = true
-hasExecuted (accessed a l s) = true
-
 -- it executed at an address of W or more
 abbrev pub faults : ℕ → Fate → Bool
 faults words waiting = false

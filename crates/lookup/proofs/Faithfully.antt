@@ -19,7 +19,7 @@ use native.Mathlib.Omega.{arith}
 use lib.Dec.{eqb}
 use lib.ListN.{length, take, drop, set}
 use borrow.Author.Tests.{eqb-true, eq-eqb}
-use Rattle.table.specs.Reference.{Side, lacks, holds, Fate, waiting, other, accessed, Ref, ref, fateOf, at}
+use Rattle.table.specs.Reference.{Side, lacks, holds, Fate, waiting, other, accessed, idle, Ref, ref, fateOf, at}
 use Rattle.lookup.specs.Forwarding.{wordOr, wordAfter, seen}
 use Rattle.lookup.specs.Violation.{keptMet, keptFrom, keptYounger}
 use Rattle.lookup.specs.computed.Faithful.{past, TookAt, Took, Faithful}
@@ -136,8 +136,14 @@ faithful-drop zero refs μ h = h
 faithful-drop (suc k) [] μ h = tt
 faithful-drop (suc k) (ref n f ∷ refs) μ h = faithful-drop k refs (past f μ) (h .1)
 
--- the one at position p, which waits, takes what it sees, and spares those that stay
-pub faithful-set : (p left : ℕ) (refs : List Ref) (r : Ref) (μ : ℕ → ℕ) → p < left → fateOf (at refs p) ≡ waiting
+-- one that has not executed leaves every word
+idle-past : (f : Fate) (a w : ℕ) → idle f ≡ true → wordAfter f a w ≡ w
+idle-past waiting a w e = refl
+idle-past other a w e = refl
+idle-past (accessed b l s) a w e = absurd (true≢false (sym e))
+
+-- the one at position p, which has not executed, takes what it sees, and spares those that stay
+pub faithful-set : (p left : ℕ) (refs : List Ref) (r : Ref) (μ : ℕ → ℕ) → p < left → idle (fateOf (at refs p)) ≡ true
     → Took (λ (a : ℕ). seen (take p refs) a (μ a)) (fateOf r)
     → Spares (λ (a : ℕ). seen (take p refs) a (μ a)) (fateOf r) (map fateOf (take (left - suc p) (drop (suc p) refs)))
     → Faithful μ refs → Faithful μ (take left (set refs p r))
@@ -149,7 +155,7 @@ faithful-set zero (suc left) (ref n g ∷ refs) (ref m f) μ l w took spared h =
     subst (λ (k : ℕ). Spares μ f (map fateOf (take k refs))) (suc-sub-suc left 0 ∙ sub-zero left) spared in (
       took,
       faithful-more (take left refs) (past g μ) (past f μ)
-          (λ b e. ap (λ (x : Fate). past x μ b) w ∙ changed μ f (map fateOf (take left refs)) some b e)
+          (λ b e. idle-past g b (μ b) w ∙ changed μ f (map fateOf (take left refs)) some b e)
           (faithful-take left refs (past g μ) (h .1)),
     )
 faithful-set (suc p) (suc left) (ref n g ∷ refs) r μ l w took spared h = (
@@ -191,14 +197,14 @@ spares (ref n f ∷ refs) μ a v (suc m) h l =
     spares-first f μ a v (length refs) (keptYounger a v refs) m (clear a (map fateOf (take m refs))) (h .0) l
     (spares refs (past f μ) a v m (h .1))
 
--- the same of the reference at position p, which waits
-pub spares-after : (refs : List Ref) (μ : ℕ → ℕ) (p a v m : ℕ) → p < length refs → fateOf (at refs p) ≡ waiting → Faithful μ refs
-    → m ≤ keptYounger a v (drop (suc p) refs)
+-- the same of the reference at position p, which has not executed
+pub spares-after : (refs : List Ref) (μ : ℕ → ℕ) (p a v m : ℕ) → p < length refs → idle (fateOf (at refs p)) ≡ true
+    → Faithful μ refs → m ≤ keptYounger a v (drop (suc p) refs)
     → (seen (take p refs) a (μ a) ≡ v) ⊎ (clear a (map fateOf (take m (drop (suc p) refs))) ≡ true)
 spares-after refs μ p a v m live w h l =
     ⊎-elim
     (λ (there : seen (take (suc p) refs) a (μ a) ≡ v).
     inl
-    (sym (seen-next refs p a (μ a) live ∙ ap (λ (f : Fate). wordAfter f a (seen (take p refs) a (μ a))) w) ∙ there))
+    (sym (seen-next refs p a (μ a) live ∙ idle-past (fateOf (at refs p)) a (seen (take p refs) a (μ a)) w) ∙ there))
     inr
     (spares (drop (suc p) refs) (λ (b : ℕ). seen (take (suc p) refs) b (μ b)) a v m (faithful-drop (suc p) refs μ h) l)

@@ -1,8 +1,9 @@
 -- Marks and fates: what the marks of a stage say of its fate, and every stage by its marks.
 -- The fate of a stage is read off the rows one after another. A row without a mark there changes nothing, and a row with one
 -- decides alone. By the rules at most one row has a mark there, so the fate is what that row says (marked), or `other` where
--- none has one (unmarked): induction on the rows read. Assumes nothing.
-use mathlib.Core.Bool.{Bool, true, false, cond, _||_, true≢false, not-eq-not, or-true}
+-- none has one (unmarked): induction on the rows read. Whatever the marks are, a reference has executed where the bit of its
+-- stage is set (executed-bit). Assumes nothing.
+use mathlib.Core.Bool.{Bool, true, false, cond, not, _||_, true≢false, not-eq-not, or-true}
 use mathlib.Core.Logic.{_⊎_, inl, inr, ⊎-elim}
 use mathlib.Core.Path.{_≡_, refl, sym, ap, ap₂, _∙_}
 use Prim.Native.Nat.{ℕ, zero, suc, _≤_, _<_}
@@ -12,7 +13,7 @@ use lib.ListN.{length}
 use Rattle.marks.specs.Stages.{has}
 use Rattle.table.specs.declared.Table.{Table}
 use Rattle.table.specs.Limits.{rowsIn}
-use Rattle.table.specs.Reference.{Side, Fate, waiting, other, accessed, blank, at}
+use Rattle.table.specs.Reference.{Side, Fate, waiting, other, accessed, idle, blank, at}
 use Rattle.table.specs.Rules.{Rules}
 use Rattle.table.specs.View.{address, loadMark, storeMark, mark, value, taken, wordIf, access, markFate, fateAt, refAt}
 use Rattle.table.specs.View.{view}
@@ -156,6 +157,24 @@ module _ (t : Table) (rules : Rules t) where
 
   pub fate-waiting : (s : ℕ) → has (t .executed) s ≡ false → fateAt t s ≡ waiting
   fate-waiting s e = ap (λ (b : Bool). cond b (markFate t s (rowsIn (t .banks))) waiting) e
+
+marks-executed : (t : Table) (s k : ℕ) → idle (markFate t s k) ≡ false
+unfolding markFate
+marks-executed t s zero = refl
+marks-executed t s (suc k) = go (mark t k s) (marks-executed t s k)
+  where
+    go : (b : Bool) → idle (markFate t s k) ≡ false → idle (cond b (access t k s) (markFate t s k)) ≡ false
+    go true h = refl
+    go false h = h
+
+-- the reference of a stage has executed where the stage's bit is set
+pub executed-bit : (t : Table) (s : ℕ) → not (idle (fateAt t s)) ≡ has (t .executed) s
+executed-bit t s = go (has (t .executed) s) (marks-executed t s (rowsIn (t .banks)))
+  where
+    go : (b : Bool) → idle (markFate t s (rowsIn (t .banks))) ≡ false
+        → not (idle (cond b (markFate t s (rowsIn (t .banks))) waiting)) ≡ b
+    go true h = ap not h
+    go false h = refl
 
 -- the live references of the view, by position
 pub length-refs : (t : Table) → length (view t .refs) ≡ t .live

@@ -1,5 +1,6 @@
 -- The plain state: what 01 says of a table, as a list of live references in program order, oldest first.
 -- Assumes nothing.
+use mathlib.Core.Bool.{Bool, true, false}
 use mathlib.Core.List.{List}
 use Prim.Native.Nat.{ℕ}
 use lib.ListN.{getD}
@@ -15,6 +16,12 @@ pub data Fate : Type 0 where
   waiting : Fate
   other : Fate
   accessed : ℕ → Side → Side → Fate
+
+-- a reference with this fate has not executed
+abbrev pub idle : Fate → Bool
+idle waiting = true
+idle other = false
+idle (accessed a l s) = false
 
 -- a load of an address that took the word w; a store at an address of the word v
 abbrev pub loaded : ℕ → ℕ → Fate
