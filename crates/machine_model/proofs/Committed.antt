@@ -2,17 +2,16 @@
 -- it is 0 the oldest entry, which stands at the oldest's stage (oldest-entry), leaves the window as its reference does, by the
 -- engine's law. What it writes is told by its entry, which agrees with the table, and by the table's own word (mark-told).
 -- Assumes nothing.
-use mathlib.Core.Bool.{true, false, not}
+use mathlib.Core.Bool.{true, false}
 use mathlib.Core.List.{List, []}
 use mathlib.Core.Path.{_≡_, refl, sym, ap, ap₂, _∙_}
 use Prim.Native.Nat.{ℕ, _-_, _<_}
 use lib.Dec.{eqb}
 use lib.ListN.{length, getD, drop, length-drop}
-use borrow.Author.Tests.{not-false}
 use Rattle.marks.specs.Circle.{firsts}
 use Rattle.marks.proofs.Turns.{stage-zero}
 use Rattle.table.specs.Limits.{rowsIn}
-use Rattle.table.specs.Reference.{fateOf, at}
+use Rattle.table.specs.Reference.{idle, fateOf, at}
 use Rattle.table.specs.View.{stageOf, value, view}
 use Rattle.table.specs.Moves.{retire}
 use Rattle.table.proofs.Fates.{length-refs}
@@ -20,7 +19,7 @@ use Rattle.engine.specs.computed.Steps.{remade, within}
 use Rattle.engine.proofs.Narrowing.{retire-rules, retire-view}
 use Rattle.lookup.specs.declared.Mark.{Mark}
 use Rattle.lookup.specs.computed.Search.{markBy, markedFate}
-use Rattle.engine.specs.Conditions.{hasExecuted, faults}
+use Rattle.engine.specs.Conditions.{faults}
 use Rattle.engine.specs.Contract.{refused, judged}
 use Rattle.engine.specs.Execution.{written}
 use Rattle.engine.proofs.Meeting.{judged-refused}
@@ -32,7 +31,7 @@ use Rattle.machine_model.specs.Over
 use Rattle.machine_model.specs.Calls.{buffered, commit, Answer, valueBy, registersAfter, committedSays, committing, respond}
 use Rattle.machine_model.specs.Contract.{plain, agree, Meets}
 use Rattle.machine_model.specs.computed.Parts.{entriesOf, markWith, commitNumber}
-use Rattle.machine_model.proofs.Comparing.{agree-both, executed-by, waits-executed, mark-faults, mark-agreed}
+use Rattle.machine_model.proofs.Comparing.{agree-both, idle-by, waits-idle, mark-faults, mark-agreed}
 use Rattle.machine_model.proofs.Sounding.{entry-at}
 use Rattle.machine_model.proofs.Answering.{Passed, refused-meets, accepted-meets}
 use Rattle.machine_model.proofs.Refusals.{commit-free, commit-number}
@@ -95,13 +94,13 @@ module _ (program : List ℕ) (m : Machine) (w : List ℕ) (passed : Passed m pr
         ∙ passed .sound .agrees 0 some
 
     -- it has executed in the table too
-    executed-too : hasExecuted (fateOf (at (view (m .table) .refs) 0)) ≡ true
+    executed-too : idle (fateOf (at (view (m .table) .refs) 0)) ≡ false
     executed-too =
-        executed-by (fateOf (at (view (m .table) .refs) 0))
-        ∙ ap (λ (k : ℕ). not (eqb k 4)) (sym (agree-both (reference own) (fateOf (at (view (m .table) .refs) 0)) agreed .0))
-        ∙ sym (executed-by (reference own))
-        ∙ not-false (hasExecuted (reference own))
-        (sym (waits-executed (own .instruction) (own .fate)) ∙ commit-passed free .1)
+        idle-by (fateOf (at (view (m .table) .refs) 0))
+        ∙ ap (λ (k : ℕ). eqb k 4) (sym (agree-both (reference own) (fateOf (at (view (m .table) .refs) 0)) agreed .0))
+        ∙ sym (idle-by (reference own))
+        ∙ sym (waits-idle (own .instruction) (own .fate))
+        ∙ commit-passed free .1
 
     -- what its entry and the table's word tell of its mark is what its reference's fate says
     mark-told : markWith (reference own) (value (m .table) (m .table .oldest)) ≡ markBy (fateOf (at (view (m .table) .refs) 0))

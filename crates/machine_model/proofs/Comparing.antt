@@ -1,18 +1,18 @@
 -- Fates by their kind and place, the two numbers by which window and table are compared (specs/Contract.antt). An entry
 -- that agrees with a fate tells the same mark, with the table's word as a store's (mark-agreed).
 -- Assumes nothing.
-use mathlib.Core.Bool.{Bool, true, false, cond, not, _&&_, _||_, true≢false, and-eq-true-iff}
+use mathlib.Core.Bool.{Bool, true, false, cond, _&&_, _||_, true≢false, and-eq-true-iff}
 use mathlib.Core.Path.{_≡_, refl, sym, ap, ap₂, _∙_}
 use Prim.Native.Nat.{ℕ}
 use native.Mathlib.Omega.{arith}
 use lib.Dec.{eqb, leb, ltb}
 use borrow.Author.Tests.{eqb-true, eq-eqb}
 use Rattle.table.specs.Reference
-use Rattle.table.specs.Reference.{Side, lacks, holds, waiting, other, accessed}
+use Rattle.table.specs.Reference.{Side, lacks, holds, waiting, other, accessed, idle}
 use Rattle.lookup.specs.declared.Mark.the-variants as mark
 use Rattle.lookup.specs.declared.Mark.{Mark}
 use Rattle.lookup.specs.computed.Search.{markBy, markedFate}
-use Rattle.engine.specs.Conditions.{hasExecuted, faults}
+use Rattle.engine.specs.Conditions.{faults}
 use Rattle.engine.specs.Part.{wordOf}
 use Rattle.machine_model.specs.declared.Instruction.{Instruction}
 use Rattle.machine_model.specs.declared.Instruction.the-variants.{Add, Sum, Load, Store, Byte, Half}
@@ -46,10 +46,10 @@ agree-waiting other e = absurd (true≢false (sym e))
 agree-waiting (accessed a l s) e =
     absurd (true≢false (sym e ∙ ap (λ (b : Bool). b && eqb 0 a) (marked-kind l s .1)))
 
-pub executed-by : (f : Reference.Fate) → hasExecuted f ≡ not (eqb (kindOf f) 4)
-executed-by waiting = refl
-executed-by other = refl
-executed-by (accessed a l s) = sym (ap not (marked-kind l s .0))
+pub idle-by : (f : Reference.Fate) → idle f ≡ eqb (kindOf f) 4
+idle-by waiting = refl
+idle-by other = refl
+idle-by (accessed a l s) = sym (marked-kind l s .0)
 
 -- ---- what an entry is to the buffer
 
@@ -70,16 +70,16 @@ place-code (Store d s imm) v a = refl
 place-code (Byte d s imm) v a = refl
 place-code (Half d s imm) v a = refl
 
-access-executed : (k : Kind) (v a : ℕ) → hasExecuted (accessBy untold k v a) ≡ true
+access-executed : (k : Kind) (v a : ℕ) → idle (accessBy untold k v a) ≡ false
 access-executed Computing v a = refl
 access-executed Loading v a = refl
 access-executed Storing v a = refl
 access-executed Merging v a = refl
 
 -- an entry waits where what it is to the buffer has not executed
-pub waits-executed : (i : Instruction) (f : Fate) → pending f ≡ not (hasExecuted (referenceBy untold i f))
-waits-executed i Waiting = refl
-waits-executed i (Executed v a) = ap not (sym (access-executed (kind i) v a))
+pub waits-idle : (i : Instruction) (f : Fate) → pending f ≡ idle (referenceBy untold i f)
+waits-idle i Waiting = refl
+waits-idle i (Executed v a) = sym (access-executed (kind i) v a)
 
 -- whatever words loads took, it agrees
 pub agree-words : (μ ν : ℕ → ℕ) (i : Instruction) (f : Fate) → agree (referenceBy μ i f) (referenceBy ν i f) ≡ true
@@ -133,9 +133,9 @@ some-side i (Executed v a) = go (kind i)
 abbrev markOfKind : ℕ → ℕ → ℕ → Mark
 markOfKind k a v = cond (eqb k 1) (mark.Load a) (cond (eqb k 2 || eqb k 3) (mark.Store a v) mark.Absent)
 
-mark-by : (g : Reference.Fate) (v : ℕ) → hasExecuted g ≡ true → (kindOf g ≡ 5 → ⊥)
+mark-by : (g : Reference.Fate) (v : ℕ) → idle g ≡ false → (kindOf g ≡ 5 → ⊥)
     → ((a w : ℕ) (l : Side) → g ≡ accessed a l (holds w) → v ≡ w) → markOfKind (kindOf g) (placeOf g) v ≡ markBy g
-mark-by waiting v h n e = absurd (true≢false (sym h))
+mark-by waiting v h n e = absurd (true≢false h)
 mark-by other v h n e = refl
 mark-by (accessed a (holds u) lacks) v h n e = refl
 mark-by (accessed a lacks (holds w)) v h n e = ap (mark.Store a) (e a w lacks refl)
@@ -144,7 +144,7 @@ mark-by (accessed a lacks lacks) v h n e = absurd (n refl)
 
 -- the mark that an executed entry tells, with the table's word, is that of the fate that it agrees with
 pub mark-agreed : (i : Instruction) (f : Fate) (g : Reference.Fate) (v : ℕ) → agree (referenceBy untold i f) g ≡ true
-    → hasExecuted g ≡ true → ((a w : ℕ) (l : Side) → g ≡ accessed a l (holds w) → v ≡ w)
+    → idle g ≡ false → ((a w : ℕ) (l : Side) → g ≡ accessed a l (holds w) → v ≡ w)
     → markWith (referenceBy untold i f) v ≡ markBy g
 mark-agreed i f g v agreed done word =
     let both = agree-both (referenceBy untold i f) g agreed in

@@ -4,7 +4,7 @@
 -- the engine's law, and the machine's window differs at that one stage: so the entries are those of the definition
 -- (new-entries), and agree with the table (new-sound).
 -- Assumes nothing.
-use mathlib.Core.Bool.{Bool, true, false, cond}
+use mathlib.Core.Bool.{Bool, true, false, cond, not}
 use mathlib.Core.List.{List, []}
 use mathlib.Core.Option.{Option, none, some}
 use mathlib.Core.Path.{_≡_, refl, sym, ap, ap₂, subst, _∙_}
@@ -31,7 +31,7 @@ use Rattle.lookup.specs.Outcome.{survivors, executes}
 use Rattle.engine.specs.declared.Action.{Action}
 use Rattle.engine.specs.declared.Action.the-variants.{Compute, LoadAt, StoreAt, PartAt}
 use Rattle.engine.specs.declared.Effect.{Effect}
-use Rattle.engine.specs.Conditions.{refusal, hasExecuted}
+use Rattle.engine.specs.Conditions.{refusal}
 use Rattle.engine.specs.Contract.{refused, executed, judged}
 use Rattle.engine.specs.Execution.{fateBy, answerOf}
 use Rattle.engine.specs.computed.Effect.{effectAt, applyEffect}
@@ -180,7 +180,7 @@ module _ (m : Machine) (program w : List ℕ) (p : ℕ) (passed : Passed m progr
     idle-too =
         let there = fateOf (at (view (m .table) .refs) p) in
         sym (executed-at (m .table) p live)
-        ∙ ap hasExecuted
+        ∙ ap (λ (f : Reference.Fate). not (Reference.idle f))
         (agree-waiting there
         (ap (λ (f : Reference.Fate). agree f there) (sym (waits-waiting (own .instruction) (own .fate) (asked-passed free .1)))
         ∙ passed .sound .agrees p live))
