@@ -13,6 +13,7 @@ use lib.ListN.{length, getD, take, drop, set}
 use lib.Seq.{take-set-lt}
 use borrow.Author.Tests.{ne-eqb}
 use Rattle.table.specs.Limits.{sizesFit}
+use Rattle.table.specs.Reference
 use Rattle.table.specs.Reference.{State, waiting, Ref, ref, blank, numberOf, fateOf, at}
 use Rattle.table.proofs.Sizes.{Sizes, sizes}
 use Rattle.lookup.specs.Forwarding.{seen, forwarded}
@@ -33,7 +34,7 @@ use Rattle.theorem.proofs.Core.{seenBy}
 use Rattle.theorem.proofs.Each.{Each, each-next, each-take, each-drop, each-set}
 use Rattle.theorem.proofs.Owing.{Spared, Owes}
 use Rattle.theorem.proofs.Paired.{Fated, seen-paired, owed, wordless-reference, took-reference, spares-paired}
-use Rattle.theorem.proofs.Paired.{pending-waiting, faults-wordless, written-wordless}
+use Rattle.theorem.proofs.Paired.{pending-waiting, pending-idle, faults-wordless, written-wordless}
 
 -- sizes lie in their limits, references and entries are paired, and each load side holds the word that its reference sees
 pub record Bound (P : State) (es : List Entry) (w : List ℕ) : Type 0 where
@@ -68,8 +69,8 @@ module _ (P : State) (es : List Entry) (w : List ℕ) (b : Bound P es w) where
 
   module _ (p : ℕ) (live : p < length es) (idle : pending (entryAt es p .fate) ≡ true) where
     -- its reference has not executed either
-    reference-idle : fateOf (at (P .refs) p) ≡ waiting
-    reference-idle = pending-waiting (at (P .refs) p) (entryAt es p) (b .paired .1 p live) idle
+    reference-idle : Reference.idle (fateOf (at (P .refs) p)) ≡ true
+    reference-idle = pending-idle (at (P .refs) p) (entryAt es p) (b .paired .1 p live) idle
 
     executed-bound : (x : Fate) (d : ℕ)
         → let f = referenceBy (forwarded P w p) (entryAt es p .instruction) x in
@@ -141,5 +142,6 @@ buffer-owes =
       commits = retired-bound;
       room = λ P es w b empty. ne-eqb (length es) (P .stages) (λ full. omega (arith, size P es w b .some-stage));
       oldest-runs = λ P es w b live idle.
-          oldest-leaves P (size P es w b .some-row) (omega (arith, b .paired .0)) (reference-idle P es w b 0 live idle);
+          oldest-leaves P (size P es w b .some-row) (omega (arith, b .paired .0))
+          (pending-waiting (at (P .refs) 0) (entryAt es 0) (b .paired .1 0 live) idle);
     }

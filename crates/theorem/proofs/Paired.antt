@@ -16,7 +16,7 @@ use lib.ListN.{length, getD, take, drop}
 use borrow.Author.Tests.{ltb-true}
 use Rattle.marks.specs.Counting.{last}
 use Rattle.table.specs.Bank.{bank}
-use Rattle.table.specs.Reference.{Side, lacks, holds, Fate, waiting, other, accessed, Ref, ref, blank, fateOf, at, State}
+use Rattle.table.specs.Reference.{Side, lacks, holds, Fate, waiting, other, accessed, idle, Ref, ref, blank, fateOf, at, State}
 use Rattle.lookup.specs.Forwarding.{wordAfter, seen, forwarded}
 use Rattle.lookup.specs.computed.Faithful.{Took, Faithful}
 use Rattle.lookup.specs.Rows.{touched, rowsInUse, youngestRow}
@@ -113,7 +113,7 @@ pub record Owed (P : State) (memory : List ℕ) (p left : ℕ) (f : Fate) : Type
   pub spares : Spares (forwarded P memory p) f (map fateOf (take (left - suc p) (drop (suc p) (P .refs))))
 
 module _ (P : State) (memory : List ℕ) (faithful : Faithful (λ (a : ℕ). getD memory a 0) (P .refs)) (p : ℕ)
-    (live : p < length (P .refs)) (idle : fateOf (at (P .refs) p) ≡ waiting) where
+    (live : p < length (P .refs)) (still : idle (fateOf (at (P .refs) p)) ≡ true) where
   -- nothing is owed to references younger than one without memory
   owed-none : (f : Fate) → Spares (forwarded P memory p) f (map fateOf (take (length (P .refs) - suc p) (drop (suc p) (P .refs))))
       → Owed P memory p (length (P .refs)) f
@@ -127,7 +127,7 @@ module _ (P : State) (memory : List ℕ) (faithful : Faithful (λ (a : ℕ). get
         after = h;
         within = omega (arith, checked-after P p a v live);
         spares =
-            spares-after (P .refs) (λ (b : ℕ). getD memory b 0) p a v (left - suc p) live idle faithful (omega arith);
+            spares-after (P .refs) (λ (b : ℕ). getD memory b 0) p a v (left - suc p) live still faithful (omega arith);
       }
 
   -- what stays where the address has a row is younger than p, and all where it has none
@@ -205,9 +205,22 @@ waiting-of : (i : Instruction) (x : Machine.Fate) → pending x ≡ true → ref
 waiting-of i Waiting e = refl
 waiting-of i (Executed v a) e = absurd (true≢false (sym e))
 
--- where an entry has not executed, nor has its reference
+-- where an entry has not executed, its reference waits
 pub pending-waiting : (r : Ref) (e : Entry) → Fated r e → pending (e .fate) ≡ true → fateOf r ≡ waiting
 pending-waiting r e fate idle = wordless-waiting (fateOf r) (fate ∙ waiting-of (e .instruction) (e .fate) idle)
+
+-- and is idle
+idle-wordless : (f : Fate) → idle f ≡ idle (wordless f)
+idle-wordless waiting = refl
+idle-wordless other = refl
+idle-wordless (accessed a l s) = refl
+
+pending-of : (i : Instruction) (x : Machine.Fate) → pending x ≡ true → idle (referenceBy untold i x) ≡ true
+pending-of i Waiting e = refl
+pending-of i (Executed v a) e = absurd (true≢false (sym e))
+
+pub pending-idle : (r : Ref) (e : Entry) → Fated r e → pending (e .fate) ≡ true → idle (fateOf r) ≡ true
+pending-idle r e fate still = idle-wordless (fateOf r) ∙ ap idle fate ∙ pending-of (e .instruction) (e .fate) still
 
 pub faults-wordless : (words : ℕ) (f : Fate) → faults words f ≡ faults words (wordless f)
 faults-wordless words waiting = refl
