@@ -13,6 +13,7 @@ use table::BANKS;
 use table::ROWS;
 use table::STAGES;
 use table::WORDS;
+use text::LARGEST;
 use text::Line;
 ghost use mathlib.Core.Bool.{cond};
 ghost use mathlib.Core.Path.{_≡_};
@@ -54,7 +55,7 @@ fn take_digit(begun: bool, x: u32, d: u32) -> Took
 {
     if begun {
         if 0 < x {
-            if x as u64 * 10 + d as u64 <= 4294967295 {
+            if x as u64 * 10 + d as u64 <= LARGEST {
                 return Took::Grows(x * 10 + d);
             }
             return Took::Wrong(Defect::Large);

@@ -17,11 +17,11 @@ use Rattle.text.specs.Fields.{largest, closed, fields, fieldsText}
 use Rattle.text.specs.computed.Reader.{capacity, state, few, fitting}
 use Rattle.text.proofs.Trip.{digit-byte, digit-first, Within, fields-written, written-fields}
 
-few-in : (ns : List ℕ) (o : Open) → length ns < 64 → few (reading ns o) ≡ reading ns o
-few-in ns o h = rw (lt-ltb (length ns) 64 h)
+few-in : (ns : List ℕ) (o : Open) → length ns < capacity → few (reading ns o) ≡ reading ns o
+few-in ns o h = rw (lt-ltb (length ns) capacity h)
 
-few-out : (ns : List ℕ) (o : Open) → 64 ≤ length ns → few (reading ns o) ≡ bad
-few-out ns o h = rw (le-ltb (length ns) 64 h)
+few-out : (ns : List ℕ) (o : Open) → capacity ≤ length ns → few (reading ns o) ≡ bad
+few-out ns o h = rw (le-ltb (length ns) capacity h)
 
 length-snoc : (ns : List ℕ) (x : ℕ) → length (ns ++ (x ∷ [])) ≡ length ns + 1
 length-snoc ns x = length-append ns (x ∷ [])
@@ -53,14 +53,14 @@ spoils : (t : Bool) (r : Reading) (b : ℕ) → (t ≡ true → bad ≡ few (byt
 spoils true r b f = f refl
 spoils false r b f = refl
 
-module _ (count : ℕ) (values : List ℕ) (long : length values ≡ 64) where
-  held : ltb count 64 ≡ true → length (take count values) ≡ count
-  held e = let h : count < 64 = ltb-true count 64 e in length-take-le count values (omega arith)
+module _ (count : ℕ) (values : List ℕ) (long : length values ≡ capacity) where
+  held : ltb count capacity ≡ true → length (take count values) ≡ count
+  held e = let h : count < capacity = ltb-true count capacity e in length-take-le count values (omega arith)
 
-  kept : (o : Open) → ltb count 64 ≡ true → few (reading (take count values) o) ≡ reading (take count values) o
-  kept o e = let h : count < 64 = ltb-true count 64 e in few-in (take count values) o (omega (arith, held e))
+  kept : (o : Open) → ltb count capacity ≡ true → few (reading (take count values) o) ≡ reading (take count values) o
+  kept o e = let h : count < capacity = ltb-true count capacity e in few-in (take count values) o (omega (arith, held e))
 
-  grown : (x : ℕ) → count < 64 → take (count + 1) (set values count x) ≡ take count values ++ (x ∷ [])
+  grown : (x : ℕ) → count < capacity → take (count + 1) (set values count x) ≡ take count values ++ (x ∷ [])
   grown x h = rw add-one (take-suc-set values count x (omega arith))
 
   -- the first digit of a field; a digit more; a digit too many
@@ -68,62 +68,63 @@ module _ (count : ℕ) (values : List ℕ) (long : length values ≡ 64) where
       → state good true count d values ≡ few (byte largest (state good begun count x values) (48 + d))
   first-digit good begun x d b h =
       rw b
-      (stepped (good && ltb count 64) (reading (take count values) empty) (reading (take count values) (value d)) (48 + d)
+      (stepped (good && ltb count capacity) (reading (take count values) empty) (reading (take count values) (value d)) (48 + d)
       (λ e. sym (ap few
       (digit-byte largest d empty (take count values) h ∙ digit-first largest d (take count values) (omega arith))
-      ∙ kept (value d) (second good (ltb count 64) e))))
+      ∙ kept (value d) (second good (ltb count capacity) e))))
 
   pub next-digit : (good begun : Bool) (x d : ℕ) → begun ≡ true → d < 10 → (ltb 0 x && leb (x * 10 + d) largest) ≡ true
       → state good begun count (x * 10 + d) values ≡ few (byte largest (state good begun count x values) (48 + d))
   next-digit good begun x d b h p =
       rw b
-      (stepped (good && ltb count 64) (reading (take count values) (value x)) (reading (take count values) (value (x * 10 + d)))
+      (stepped (good && ltb count capacity) (reading (take count values) (value x))
+      (reading (take count values) (value (x * 10 + d)))
       (48 + d)
       (λ e. sym (ap few (digit-byte largest d (value x) (take count values) h ∙ taken largest x d (take count values) p)
-      ∙ kept (value (x * 10 + d)) (second good (ltb count 64) e))))
+      ∙ kept (value (x * 10 + d)) (second good (ltb count capacity) e))))
 
   pub no-digit : (good begun : Bool) (x d : ℕ) → begun ≡ true → d < 10 → (ltb 0 x && leb (x * 10 + d) largest) ≡ false
       → bad ≡ few (byte largest (state good begun count x values) (48 + d))
   no-digit good begun x d b h p =
       rw b
-      (spoils (good && ltb count 64) (reading (take count values) (value x)) (48 + d)
+      (spoils (good && ltb count capacity) (reading (take count values) (value x)) (48 + d)
       (λ e. sym (ap few (digit-byte largest d (value x) (take count values) h ∙ refused largest x d (take count values) p))))
 
   -- a comma after a field, with room for one more; without
   pub next-field : (good begun : Bool) (x : ℕ) → begun ≡ true → count < 63
       → state good false (count + 1) x (set values count x) ≡ few (byte largest (state good begun count x values) 44)
   next-field good begun x b h =
-      rw (b, lt-ltb count 64 (omega arith), lt-ltb (count + 1) 64 (omega arith))
+      rw (b, lt-ltb count capacity (omega arith), lt-ltb (count + 1) capacity (omega arith))
       (stepped (good && true) (reading (take count values) (value x)) (reading (take (count + 1) (set values count x)) empty) 44
       (λ e. ap (λ (l : List ℕ). reading l empty) (grown x (omega arith))
       ∙ sym
       (few-in (take count values ++ (x ∷ [])) empty
-      (omega (arith, length-snoc (take count values) x, held (lt-ltb count 64 (omega arith)))))))
+      (omega (arith, length-snoc (take count values) x, held (lt-ltb count capacity (omega arith)))))))
 
   pub no-room : (good begun : Bool) (x : ℕ) → begun ≡ true → 63 ≤ count
       → bad ≡ few (byte largest (state good begun count x values) 44)
   no-room good begun x b h =
       rw b
-      (spoils (good && ltb count 64) (reading (take count values) (value x)) 44
+      (spoils (good && ltb count capacity) (reading (take count values) (value x)) 44
       (λ e. sym (few-out (take count values ++ (x ∷ [])) empty
-      (omega (arith, length-snoc (take count values) x, held (second good (ltb count 64) e))))))
+      (omega (arith, length-snoc (take count values) x, held (second good (ltb count capacity) e))))))
 
   -- the end of a line with an open field
-  pub last-field : (good begun : Bool) (x : ℕ) → good ≡ true → begun ≡ true → count < 64
+  pub last-field : (good begun : Bool) (x : ℕ) → good ≡ true → begun ≡ true → count < capacity
       → cond good (some (take (count + 1) (set values count x))) none
       ≡ fitting (closed (state good begun count x values))
-  last-field good begun x g b h = rw (g, b, lt-ltb count 64 h) (ap some (grown x h) ∙ sym fits)
+  last-field good begun x g b h = rw (g, b, lt-ltb count capacity h) (ap some (grown x h) ∙ sym fits)
     where
       fits : fitting (some (take count values ++ (x ∷ []))) ≡ some (take count values ++ (x ∷ []))
       fits =
-          rw (le-leb (length (take count values ++ (x ∷ []))) 64
-          (omega (arith, length-snoc (take count values) x, held (lt-ltb count 64 h))))
+          rw (le-leb (length (take count values ++ (x ∷ []))) capacity
+          (omega (arith, length-snoc (take count values) x, held (lt-ltb count capacity h))))
 
 -- a comma without a field
 pub no-field : (good begun : Bool) (count x : ℕ) (values : List ℕ) → begun ≡ false
     → bad ≡ few (byte largest (state good begun count x values) 44)
 no-field good begun count x values b =
-    rw b (spoils (good && ltb count 64) (reading (take count values) empty) 44 (λ e. refl))
+    rw b (spoils (good && ltb count capacity) (reading (take count values) empty) 44 (λ e. refl))
 
 -- a byte that is neither comma nor digit
 pub below-digits : (r : Reading) (b : ℕ) → (b ≡ 44 → ⊥) → b < 48 → bad ≡ few (byte largest r b)
@@ -137,16 +138,16 @@ above-digits (reading ns o) b h = rw (ne-eqb b 44 (omega arith), le-leb 48 b (om
 -- the end of a line that has no open field, or no room for it
 pub no-last : (good begun : Bool) (count x : ℕ) (values : List ℕ) → begun ≡ false
     → none ≡ fitting (closed (state good begun count x values))
-no-last good begun count x values b = rw b (go (good && ltb count 64))
+no-last good begun count x values b = rw b (go (good && ltb count capacity))
   where
     go : (t : Bool) → none ≡ fitting (closed (cond t (reading (take count values) empty) bad))
     go false = refl
     go true = refl
 
-pub overfull : (good begun : Bool) (count x : ℕ) (values : List ℕ) → 64 ≤ count
+pub overfull : (good begun : Bool) (count x : ℕ) (values : List ℕ) → capacity ≤ count
     → none ≡ fitting (closed (state good begun count x values))
 overfull false begun count x values h = refl
-overfull true begun count x values h = rw (le-ltb count 64 h)
+overfull true begun count x values h = rw (le-ltb count capacity h)
 
 bytes-bad : (limit : ℕ) (bs : List ℕ) → bytes limit bad bs ≡ bad
 unfolding bytes
@@ -156,17 +157,17 @@ bytes-bad limit (b ∷ bs) = bytes-bad limit bs
 -- too many fields
 data Many : Reading → Type 0 where
   spoilt : Many bad
-  full : {ns : List ℕ} {o : Open} → 64 ≤ length ns → Many (reading ns o)
+  full : {ns : List ℕ} {o : Open} → capacity ≤ length ns → Many (reading ns o)
 
-many-if : (t : Bool) (ns : List ℕ) (o : Open) → 64 ≤ length ns → Many (cond t (reading ns o) bad)
+many-if : (t : Bool) (ns : List ℕ) (o : Open) → capacity ≤ length ns → Many (cond t (reading ns o) bad)
 many-if true ns o h = full h
 many-if false ns o h = spoilt
 
-many-digit : (limit d : ℕ) (o : Open) (ns : List ℕ) → 64 ≤ length ns → Many (digit limit d o ns)
+many-digit : (limit d : ℕ) (o : Open) (ns : List ℕ) → capacity ≤ length ns → Many (digit limit d o ns)
 many-digit limit d empty ns h = many-if (leb d limit) ns (value d) h
 many-digit limit d (value x) ns h = many-if (ltb 0 x && leb (x * 10 + d) limit) ns (value (x * 10 + d)) h
 
-many-comma : (o : Open) (ns : List ℕ) → 64 ≤ length ns → Many (comma o ns)
+many-comma : (o : Open) (ns : List ℕ) → capacity ≤ length ns → Many (comma o ns)
 many-comma empty ns h = spoilt
 many-comma (value x) ns h = full {ns = ns ++ (x ∷ [])} (omega (arith, length-snoc ns x))
 
@@ -182,7 +183,7 @@ many-byte limit (reading ns o) b (full h) = go (eqb b 44) (leb 48 b && leb b 57)
 many-end : (r : Reading) → Many r → fitting (closed r) ≡ none
 many-end bad spoilt = refl
 many-end (reading ns empty) (full h) = refl
-many-end (reading ns (value x)) (full h) = rw (lt-leb (length (ns ++ (x ∷ []))) 64 (omega (arith, length-snoc ns x)))
+many-end (reading ns (value x)) (full h) = rw (lt-leb (length (ns ++ (x ∷ []))) capacity (omega (arith, length-snoc ns x)))
 
 many : (limit : ℕ) (r : Reading) (bs : List ℕ) → Many r → fitting (closed (bytes limit r bs)) ≡ none
 unfolding bytes
@@ -192,15 +193,15 @@ many limit r (b ∷ bs) m = many limit (byte limit r b) bs (many-byte limit r b 
 pub few-same : (limit : ℕ) (r : Reading) (bs : List ℕ)
     → fitting (closed (bytes limit (few r) bs)) ≡ fitting (closed (bytes limit r bs))
 few-same limit bad bs = refl
-few-same limit (reading ns o) bs = go (ltb (length ns) 64) refl
+few-same limit (reading ns o) bs = go (ltb (length ns) capacity) refl
   where
-    go : (t : Bool) → ltb (length ns) 64 ≡ t
+    go : (t : Bool) → ltb (length ns) capacity ≡ t
         → fitting (closed (bytes limit (cond t (reading ns o) bad) bs))
         ≡ fitting (closed (bytes limit (reading ns o) bs))
     go true e = refl
     go false e =
         ap (λ (r : Reading). fitting (closed r)) (bytes-bad limit bs)
-        ∙ sym (many limit (reading ns o) bs (full (ltb-false (length ns) 64 e)))
+        ∙ sym (many limit (reading ns o) bs (full (ltb-false (length ns) capacity e)))
 
 -- one byte of a slice read, the rest left
 pub read-on : (r q : Reading) (s : List ℕ) (i to : ℕ) → i < to → to ≤ length s → q ≡ few (byte largest r (getD s i 0))
@@ -221,14 +222,15 @@ read-all r s i to h k =
     (drop-of-length-le (take to s) {i = i} (omega (arith, length-take-le to s k)))
 
 -- what fits is what was read, and is not too long
-fitting-some : (o : Option (List ℕ)) (ns : List ℕ) → fitting o ≡ some ns → (o ≡ some ns) × (length ns ≤ 64)
+fitting-some : (o : Option (List ℕ)) (ns : List ℕ) → fitting o ≡ some ns → (o ≡ some ns) × (length ns ≤ capacity)
 fitting-some none ns e = absurd (let z : _≡_ {A = ℕ} 0 1 = cc in omega arith)
-fitting-some (some ms) ns e = go (leb (length ms) 64) refl e
+fitting-some (some ms) ns e = go (leb (length ms) capacity) refl e
   where
-    go : (t : Bool) → leb (length ms) 64 ≡ t → cond t (some ms) none ≡ some ns → (some ms ≡ some ns) × (length ns ≤ 64)
+    go : (t : Bool) → leb (length ms) capacity ≡ t → cond t (some ms) none ≡ some ns
+        → (some ms ≡ some ns) × (length ns ≤ capacity)
     go true p q =
         let same : ms ≡ ns = cc in
-        (q, rw same at (leb-true (length ms) 64 p))
+        (q, rw same at (leb-true (length ms) capacity p))
     go false p q = absurd (let z : _≡_ {A = ℕ} 0 1 = cc in omega arith)
 
 -- a line that is read is its fields as they are written

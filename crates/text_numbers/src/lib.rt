@@ -1,5 +1,7 @@
 // Decimal numbers printed, and numbers parted by commas read. `put_decimal`, `put_text` and `read_fields` ask for slices that are
 // long enough.
+use text::FIELDS;
+use text::LARGEST;
 use text::Numbers;
 ghost use mathlib.Core.Bool.{_&&_};
 ghost use mathlib.Core.Path.{_≡_};
@@ -55,7 +57,7 @@ fn takes_digit(x: u32, d: u32) -> bool
     requires { ⌜ d < 10 ⌝ }
     ensures { λ r. ⌜ r ≡ (ltb 0 x && leb (x * 10 + d) largest) ⌝ }
 {
-    (0 < x) & (x as u64 * 10 + d as u64 <= 4294967295)
+    (0 < x) & (x as u64 * 10 + d as u64 <= LARGEST)
 }
 
 // A digit.
@@ -122,7 +124,7 @@ fn finish_line(n: Numbers) -> Numbers
     let mut m = n;
     if m.good {
         if m.begun {
-            if k < 64 {
+            if k < FIELDS {
                 m.values[k] = x;
                 m.count = k + 1;
                 return m;
@@ -135,14 +137,14 @@ fn finish_line(n: Numbers) -> Numbers
 }
 
 // The fields of the bytes of s from `from` up to, not including, `to`: good if and only if they are numbers
-// up to 4294967295 parted by commas, at most 64 of them.
+// up to the largest parted by commas, not too many of them.
 pub fn read_fields(s: &[u8], from: usize, to: usize) -> Numbers
     requires { ⌜ to ≤ length (now s) ⌝ }
     ensures fields { λ r. ⌜ parsedFields r ≡ fitting (fields largest (slice from to (now (s .entry)))) ⌝ }
     ensures count { λ r. ⌜ r .count ≤ capacity ⌝ }
 {
     let mut n = Numbers {
-        values: [0; 64],
+        values: [0; FIELDS],
         count: 0,
         current: 0,
         begun: false,

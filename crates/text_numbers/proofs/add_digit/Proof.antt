@@ -5,6 +5,7 @@ use mathlib.Core.Path.{_≡_, sym, _∙_}
 use native.Mathlib.Omega.{arith}
 use lib.ListN.{length}
 use borrow.Author.Tests.{not-true, not-false}
+use Rattle.text.specs.computed.Reader.{capacity}
 use Rattle.text.proofs.Reader.{digit-fits, first-digit, next-digit, no-digit}
 use borrow.Author.Needs.{needs}
 use Rattle.text_numbers.proofs.add_digit.Statement.{statement}
@@ -14,7 +15,7 @@ returns : tie.Need-returns
 returns c =
     let start = c .before .before in
     let n = start .args .n in
-    let long : length (n .values) ≡ 64 = search needs in
+    let long : length (n .values) ≡ capacity = search needs in
     let b : n .begun ≡ false = not-true (n .begun) (c .if1 .taken) in
     first-digit (n .count) (n .values) long (n .good) (n .begun) (n .current) (start .args .d) b (start .pre)
 
@@ -32,7 +33,7 @@ returns-2 : tie.Need-returns-2
 returns-2 c =
     let start = c .before .before .before .before in
     let n = start .args .n in
-    let long : length (n .values) ≡ 64 = search needs in
+    let long : length (n .values) ≡ capacity = search needs in
     let b : n .begun ≡ true = not-false (n .begun) (c .before .before .if1 .left) in
     next-digit (n .count) (n .values) long (n .good) (n .begun) (n .current) (start .args .d) b (start .pre)
     (sym (c .before .takes-digit .ensures) ∙ c .if2 .taken)
@@ -41,7 +42,7 @@ returns-3 : tie.Need-returns-3
 returns-3 c =
     let start = c .before .before .before .before .before in
     let n = start .args .n in
-    let long : length (n .values) ≡ 64 = search needs in
+    let long : length (n .values) ≡ capacity = search needs in
     let b : n .begun ≡ true = not-false (n .begun) (c .before .before .before .if1 .left) in
     c .spoiled .ensures
     ∙ no-digit (n .count) (n .values) long (n .good) (n .begun) (n .current) (start .args .d) b (start .pre)

@@ -3,6 +3,7 @@
 use mathlib.Core.Path.{_≡_}
 use native.Mathlib.Omega.{arith}
 use lib.ListN.{length}
+use Rattle.text.specs.computed.Reader.{capacity}
 use Rattle.text.proofs.Reader.{last-field, no-last, overfull}
 use borrow.Author.Needs.{needs}
 use Rattle.text_numbers.proofs.finish_line.Statement.{statement}
@@ -11,7 +12,7 @@ use Rattle.text_numbers.proofs.finish_line.Tie as tie
 returns : tie.Need-returns
 returns c =
     let n = c .before .before .before .args .n in
-    let long : length (n .values) ≡ 64 = search needs in
+    let long : length (n .values) ≡ capacity = search needs in
     let g = c .before .before .if1 .taken in
     let b = c .before .if2 .taken in
     (last-field (n .count) (n .values) long (n .good) (n .begun) (n .current) g b (c .if3 .taken), omega arith)
