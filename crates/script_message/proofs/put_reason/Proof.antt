@@ -10,6 +10,19 @@ use borrow.Author.Needs.{needs}
 use Rattle.script_message.proofs.put_reason.Statement.{statement}
 use Rattle.script_message.proofs.put_reason.Tie as tie
 
+-- the two that tell a limit, whose text is computed from its name
+long : tie.Need-returns-2
+unfolding ascii digits
+long c =
+    writes-in (c .before .before .put .ensures) (ap reasonText (c .before .before .before .before .before .enum-told2 .given .1))
+    (omega arith)
+
+full : tie.Need-returns-13
+unfolding ascii digits
+full c =
+    writes-in (c .before .before .put7 .ensures) (ap reasonText (c .before .before .before .before .before .enum-told8 .given .1))
+    (omega arith)
+
 glued : tie.Need-returns-10
 unfolding ascii
 glued c =
@@ -21,7 +34,7 @@ glued c =
     )
 
 pub put-reason-spec : {M : Type 1} → statement M
-unfolding ascii digits
+unfolding ascii
 put-reason-spec =
     tie.close
     (tie.spec (search needs) (search needs) (search needs) (search needs) (search needs) (search needs) (search needs)
@@ -31,8 +44,7 @@ put-reason-spec =
     (search needs) (search needs) (search needs) (search needs) (search needs) (search needs) (search needs)
     (search needs) (search needs) (search needs) (search needs)
     (λ c. (writes-as (writes-none _ _) (ap reasonText (c .enum-told .given .1)), omega arith)) (search needs)
-    (λ c. writes-in (c .before .before .put .ensures)
-    (ap reasonText (c .before .before .before .before .before .enum-told2 .given .1)) (omega arith))
+    long
     (search needs) (λ c. writes-in (c .before .before .put2 .ensures)
     (ap reasonText (c .before .before .before .before .before .enum-told3 .given .1)) (omega arith))
     (search needs) (λ c. writes-in (c .before .before .put3 .ensures)
@@ -51,7 +63,6 @@ put-reason-spec =
     (ap reasonText (c .before .before .before .before .before .r4 .given .1)) (omega arith))
     (search needs) (λ c. writes-in (c .before .before .put-field .ensures)
     (ap reasonText (c .before .before .before .before .before .r5 .given .1)) (omega arith))
-    (search needs) (λ c. writes-in (c .before .before .put7 .ensures)
-    (ap reasonText (c .before .before .before .before .before .enum-told8 .given .1)) (omega arith))
+    (search needs) full
     (search needs) (λ c. writes-in (c .before .before .put8 .ensures)
     (ap reasonText (c .before .before .before .before .before .enum-told9 .given .1)) (omega arith)))
