@@ -3,7 +3,6 @@
 use mathlib.Core.Path.{ap}
 use Prim.Native.Nat.{ℕ, _-_}
 use native.Mathlib.Omega.{arith}
-use borrow.Author.Needs.{needs}
 use Rattle.marks.specs.Stages.{width}
 use Rattle.marks.proofs.Sets.{has-least, one-up}
 use Rattle.marks.proofs.excluding.Statement.{statement}
@@ -17,4 +16,4 @@ returns : tie.Need-returns
 returns c = ap (λ (x : ℕ). c .args .word - x) (one-up width (c .args .k) (c .pre .0))
 
 pub excluding-spec : {M : Type 1} → statement M
-excluding-spec = tie.close (tie.spec (search needs) (search needs) sub-result returns)
+excluding-spec = tie.close (tie.spec (λ c. omega arith) (λ c. omega arith) sub-result returns)

@@ -1,7 +1,7 @@
 -- `marks::first_stages` meets its contract: no position is in the empty set, and otherwise the code computes the run of
 -- proofs/Runs.antt, turned in `stages` bits of a word of the width. Assumes nothing.
 use mathlib.Core.Path.{ap, sym}
-use borrow.Author.Needs.{needs}
+use native.Mathlib.Omega.{arith}
 use Rattle.marks.specs.Circle.{firsts}
 use Rattle.marks.specs.Stages.{width}
 use Rattle.marks.proofs.Runs.{turned-firsts}
@@ -21,5 +21,5 @@ returns-2 c =
 pub first-stages-spec : {M : Type 1} → statement M
 first-stages-spec =
     tie.close
-    (tie.spec returns (search needs) (search needs) (search needs) (search needs) (search needs) (search needs)
-    (search needs) (search needs) (search needs) (search needs) (search needs) (search needs) returns-2)
+    (tie.spec returns (λ c. omega arith) (λ c. omega arith) (λ c. omega arith) (λ c. omega arith) (λ c. omega arith) (λ c. omega arith)
+    (λ c. omega arith) (λ c. omega arith) (λ c. omega arith) (λ c. omega arith) (λ c. omega arith) (λ c. omega arith) returns-2)

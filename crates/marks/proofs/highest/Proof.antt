@@ -5,7 +5,6 @@ use Prim.Native.Nat.{suc, _+_}
 use mathlib.Core.Path.{_≡_}
 use native.Mathlib.Omega.{arith}
 use lib.Count.{leadingZeros, leading-le}
-use borrow.Author.Needs.{needs}
 use Rattle.marks.specs.Counting.{last}
 use Rattle.marks.specs.Stages.{width, has}
 use Rattle.marks.proofs.Tops.{highest-is}
@@ -25,4 +24,4 @@ returns : tie.Need-returns
 returns c = omega (arith, made c)
 
 pub highest-spec : {M : Type 1} → statement M
-highest-spec = tie.close (tie.spec (search needs) cast-result sub-result-2 returns)
+highest-spec = tie.close (tie.spec (λ c. omega arith) cast-result sub-result-2 returns)

@@ -2,7 +2,7 @@
 -- Assumes nothing.
 use mathlib.Core.Path.{ap}
 use lib.Bits.{bitOr}
-use borrow.Author.Needs.{needs}
+use native.Mathlib.Omega.{arith}
 use Rattle.marks.specs.Stages.{width}
 use Rattle.marks.proofs.Sets.{one-up}
 use Rattle.marks.proofs.including.Statement.{statement}
@@ -12,4 +12,4 @@ returns : tie.Need-returns
 returns c = ap (bitOr (c .args .word)) (one-up width (c .args .k) (c .pre))
 
 pub including-spec : {M : Type 1} → statement M
-including-spec = tie.close (tie.spec (search needs) (search needs) returns)
+including-spec = tie.close (tie.spec (λ c. omega arith) (λ c. omega arith) returns)
