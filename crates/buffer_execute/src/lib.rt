@@ -40,7 +40,7 @@ fn execution_refusal<'a>(
     if words_lent != words {
         return 3;
     }
-    if !table::named(oldest, stages, live, numbers, s, number) {
+    if !table_rules::named(oldest, stages, live, numbers, s, number) {
         return 7;
     }
     if marks::contains(executed, s) {
@@ -75,7 +75,7 @@ pub fn execute(mut t: Table, ticket: Ticket, action: Action, memory: &[u32]) -> 
     ensures { λ r. ⌜ Meets t (execute ticket action) (now (memory .entry)) (executeSays (r .answer)) (r .table)
         (now (memory .entry)) ⌝ }
 {
-    if !table::keeps_rules(
+    if !table_rules::keeps_rules(
         t.banks,
         t.rows,
         t.stages,

@@ -19,7 +19,7 @@ ghost use Rattle.buffer_model.specs.Contract.{Meets, Opens};
 pub fn open(banks: usize, rows: usize, stages: usize, words: usize, memory: &[u32]) -> DoneResult
     ensures { λ r. ⌜ Opens banks rows stages words (now (memory .entry)) (doneSays (r .answer)) (r .table) ⌝ }
 {
-    if !table::sizes_fit(banks, rows, stages, words) {
+    if !table_rules::sizes_fit(banks, rows, stages, words) {
         return DoneResult {
             answer: DoneAnswer::Refused(1),
             table: engine_steps::empty(0, 0, 0, 0),
@@ -41,7 +41,7 @@ pub fn open(banks: usize, rows: usize, stages: usize, words: usize, memory: &[u3
 pub fn issue(mut t: Table) -> TicketResult
     ensures { λ r. ⌜ ((m : List ℕ) → Meets t issue m (ticketSays (r .answer)) (r .table) m) ⌝ }
 {
-    if !table::keeps_rules(
+    if !table_rules::keeps_rules(
         t.banks,
         t.rows,
         t.stages,
@@ -84,7 +84,7 @@ pub fn issue(mut t: Table) -> TicketResult
 pub fn squash(mut t: Table, ticket: Ticket) -> DoneResult
     ensures { λ r. ⌜ ((m : List ℕ) → Meets t (squash ticket) m (doneSays (r .answer)) (r .table) m) ⌝ }
 {
-    if !table::keeps_rules(
+    if !table_rules::keeps_rules(
         t.banks,
         t.rows,
         t.stages,
@@ -106,7 +106,7 @@ pub fn squash(mut t: Table, ticket: Ticket) -> DoneResult
     let oldest = t.oldest;
     let live = t.live;
     let s = ticket.stage;
-    if !table::named(oldest, stages, live, &t.numbers, s, ticket.number) {
+    if !table_rules::named(oldest, stages, live, &t.numbers, s, ticket.number) {
         return DoneResult {
             answer: DoneAnswer::Refused(7),
             table: t,
@@ -126,7 +126,7 @@ pub fn squash(mut t: Table, ticket: Ticket) -> DoneResult
 pub fn commit(mut t: Table, memory: &mut [u32]) -> TicketResult
     ensures { λ r. ⌜ Meets t commit (now (memory .entry)) (ticketSays (r .answer)) (r .table) (now (memory .exit)) ⌝ }
 {
-    if !table::keeps_rules(
+    if !table_rules::keeps_rules(
         t.banks,
         t.rows,
         t.stages,

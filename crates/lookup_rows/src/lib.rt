@@ -188,7 +188,7 @@ pub fn place_of<'a>(
         ≡ placeFor oldest stages live rows (now (addresses .entry)) (now (loads .entry)) (now (stores .entry))
         (bank banks a) a p) ⌝ }
 {
-    let b = table::bank_of(banks, a);
+    let b = table_rules::bank_of(banks, a);
     let i = row_of(rows, addresses, loads, stores, b, a);
     if i == 0 {
         return take_row(oldest, stages, live, rows, loads, stores, b, p);

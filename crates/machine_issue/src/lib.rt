@@ -60,7 +60,7 @@ pub fn open(
     ensures { λ r. ⌜ Opens (banked banks rows stages words) (now (program .entry)) (now (memory .entry)) (doneSays (r .answer))
         (r .machine) ⌝ }
 {
-    if !(table::sizes_fit(banks, rows, stages, words) & (program.len() <= PROGRAM)) {
+    if !(table_rules::sizes_fit(banks, rows, stages, words) & (program.len() <= PROGRAM)) {
         return unopened(1);
     }
     if memory.len() != words {

@@ -43,7 +43,7 @@ fn marks_at<'a>(
     ensures { λ r. ⌜ (r .loads ≡ marksAt (now (addresses .entry)) (now (loads .entry)) (bank banks a) a)
         × (r .stores ≡ marksAt (now (addresses .entry)) (now (stores .entry)) (bank banks a) a) ⌝ }
 {
-    let first = table::bank_of(banks, a) * ROWS;
+    let first = table_rules::bank_of(banks, a) * ROWS;
     let mut load: u32 = 0;
     let mut store: u32 = 0;
     let mut i = 0;
@@ -130,7 +130,7 @@ fn pass_over<'a>(
         (now (stores .entry)) window live ⌝ }
     ensures { λ r. ⌜ r .fits ≡ fittingBy (now (program .entry)) oldest stages window live ⌝ }
 {
-    let marked = table::marks_from(loads, stores, 0, banks * ROWS);
+    let marked = table_rules::marks_from(loads, stores, 0, banks * ROWS);
     let mut agrees = true;
     let mut fits = true;
     let mut p = 0;
@@ -179,7 +179,7 @@ pub fn validate<'a>(
     ensures { λ r. ⌜ r ≡ validateBy banks rows stages words oldest live executed (now (addresses .entry)) (now (loads .entry))
         (now (stores .entry)) window count (now (program .entry)) lent ⌝ }
 {
-    if !table::keeps_rules(
+    if !table_rules::keeps_rules(
         banks,
         rows,
         stages,

@@ -164,7 +164,7 @@ fn take_four(item: Item, first: bool, at: usize) -> Found
     match item {
         Item::Malformed => Found::Nothing,
         Item::Sizes(banks, rows, stages, words) => {
-            let fit = table::sizes_fit(
+            let fit = table_rules::sizes_fit(
                 banks as usize,
                 rows as usize,
                 stages as usize,

@@ -1,9 +1,9 @@
--- `table::named` meets its contract: a stage out of range fails the definition's first test, and past it the code makes the
+-- `table_rules::named` meets its contract: a stage out of range fails the definition's first test, and past it the code makes the
 -- other two. Assumes nothing.
 use borrow.Author.Needs.{needs}
 use borrow.Author.Tests.{lt-ltb, le-ltb}
-use Rattle.table.proofs.named.Statement.{statement}
-use Rattle.table.proofs.named.Tie as tie
+use Rattle.table_rules.proofs.named.Statement.{statement}
+use Rattle.table_rules.proofs.named.Tie as tie
 
 returns : tie.Need-returns
 returns c = rw (le-ltb _ _ (c .if1 .taken))

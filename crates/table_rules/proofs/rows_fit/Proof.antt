@@ -1,4 +1,4 @@
--- `table::rows_fit` meets its contract. The loop's invariant: `fit` is the test over the rows of the b banks passed,
+-- `table_rules::rows_fit` meets its contract. The loop's invariant: `fit` is the test over the rows of the b banks passed,
 -- and `before` the set of the stages that they mark, which the next bank's test asks for. The rows of a bank without
 -- marks are free and pass the test, so `fit` stands. The measure is the number of banks left. Assumes nothing.
 use mathlib.Core.Path.{_≡_, refl, ap, ap₂, sym, _∙_}
@@ -8,11 +8,11 @@ use Prim.Native.Nat.{_+_, _*_, _-_, _≤_}
 use native.Mathlib.Omega.{arith}
 use lib.Bits.{bitOr}
 use Rattle.marks.specs.Counting.{every}
 use Rattle.table.specs.Limits.{rowsMost}
 use Rattle.table.specs.computed.Check.{marksBelow, rowFits}
 use Rattle.table.proofs.Banked.{every-more, taken-more, free-more}
-use Rattle.table.proofs.rows_fit.Statement.{statement}
-use Rattle.table.proofs.rows_fit.Tie as tie
+use Rattle.table_rules.proofs.rows_fit.Statement.{statement}
+use Rattle.table_rules.proofs.rows_fit.Tie as tie
 
 abbrev Inv-loop : tie.InvT-loop
 Inv-loop banks rows allowed addresses loads stores fit₀ before₀ b₀ fit before b =

@@ -1,4 +1,4 @@
--- `table::bank_fits` meets its contract. The loop's invariant: `fit` is the test over the bank's first i rows, and `marked`
+-- `table_rules::bank_fits` meets its contract. The loop's invariant: `fit` is the test over the bank's first i rows, and `marked`
 -- the set of the stages that they and the rows before the bank mark, which the next row's test asks for. The measure is
 -- the number of rows left. Assumes nothing.
 use mathlib.Core.Path.{_≡_, refl, ap, _∙_}
@@ -6,11 +6,11 @@ use Prim.Native.Nat.{_+_, _*_, _-_, _≤_}
 use native.Mathlib.Omega.{arith}
 use Rattle.marks.specs.Counting.{every}
 use Rattle.marks.proofs.Counts.{every-next}
 use Rattle.table.specs.Limits.{rowsMost}
 use Rattle.table.specs.computed.Check.{marksBelow, rowFits}
 use Rattle.table.proofs.Banked.{marks-next}
-use Rattle.table.proofs.bank_fits.Statement.{statement}
-use Rattle.table.proofs.bank_fits.Tie as tie
+use Rattle.table_rules.proofs.bank_fits.Statement.{statement}
+use Rattle.table_rules.proofs.bank_fits.Tie as tie
 
 abbrev Inv-loop : tie.InvT-loop
 Inv-loop banks rows allowed before addresses loads stores b fit₀ marked₀ i₀ fit marked i =
