@@ -8,14 +8,14 @@
 use mathlib.Core.Path.{_≡_, refl, sym, ap, ap₂, subst, _∙_}
 use mathlib.Core.List.{List, [], _∷_}
 use mathlib.Core.Option.{none}
-use Prim.Native.Nat.{ℕ}
+use Prim.Native.Nat.{ℕ, _-_}
 use native.Mathlib.Omega.{arith}
 use lib.ListN.{replicate}
 use Rattle.marks.specs.Circle.{firsts}
 use Rattle.marks.specs.Counting.{every, count, last}
 use Rattle.table.specs.declared.Table.{Table}
 use Rattle.table.specs.Bank.{home, bank}
-use Rattle.table.specs.Limits.{sizesFit}
+use Rattle.table.specs.Limits.{stagesMost, slots, sizesFit}
 use Rattle.table.specs.Reference.{State}
 use Rattle.table.specs.Rules.{Rules}
 use Rattle.table.specs.View.{tabulate, markFate, view}
@@ -55,12 +55,12 @@ table oldest live next ran number₀ number₁ =
       live = live;
       next = next;
       executed = ran;
-      numbers = number₀ ∷ number₁ ∷ replicate 14 0;
-      addresses = replicate 64 0;
-      loads = replicate 64 0;
-      stores = replicate 64 0;
-      values = replicate 16 0;
-      taken = replicate 16 0;
+      numbers = number₀ ∷ number₁ ∷ replicate (stagesMost - 2) 0;
+      addresses = replicate slots 0;
+      loads = replicate slots 0;
+      stores = replicate slots 0;
+      values = replicate stagesMost 0;
+      taken = replicate stagesMost 0;
     }
 
 abbrev memory : List ℕ

@@ -329,7 +329,7 @@ pub fn set_value(a: &mut [u32; STAGES], on: bool, i: usize, v: u32)
 
 // Stage `s` joins the mark word of row `i`, where `on`.
 pub fn add_mark(a: &mut [u32; SLOTS], on: bool, i: usize, s: usize)
-    requires { ⌜ (i < slots) × (s < 32) ⌝ }
+    requires { ⌜ (i < slots) × (s < width) ⌝ }
     ensures { λ _. ⌜ now (a .exit) ≡ marking (now (a .entry)) on i s ⌝ }
 {
     if on {

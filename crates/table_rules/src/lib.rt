@@ -34,8 +34,10 @@ pub fn named<'a>(
     (marks::position_of(oldest, stages, s) < live) & (numbers[s] == number)
 }
 
-// The home (bank hash) of an address, at its remainder by 64.
-const HOMES: [u8; 64] = [
+// How many remainders have a home, and the home (bank hash) of an address, at its remainder.
+const REMAINDERS: usize = 64;
+
+const HOMES: [u8; REMAINDERS] = [
     0,
     1,
     2,
@@ -107,7 +109,7 @@ pub fn bank_of(banks: usize, address: u32) -> usize
     requires { ⌜ 0 < banks ⌝ }
     ensures { λ r. ⌜ r ≡ bank banks address ⌝ }
 {
-    let home = HOMES[(address % 64) as usize];
+    let home = HOMES[address as usize % REMAINDERS];
     (home as usize) % banks
 }
 

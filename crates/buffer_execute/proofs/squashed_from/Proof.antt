@@ -5,11 +5,12 @@ use native.Mathlib.Omega.{arith}
 use borrow.Author.Needs.{needs}
 use borrow.Author.Tests.{lt-ltb, le-ltb}
 use Rattle.marks.proofs.Turns.{stage-lt}
+use Rattle.table.specs.Limits.{stagesMost}
 use Rattle.buffer_execute.proofs.squashed_from.Statement.{statement}
 use Rattle.buffer_execute.proofs.squashed_from.Tie as tie
 
 -- the stage is an index of the numbers
-below-at : (c : tie.After-stage-at) → c .stage-at .result < 16
+below-at : (c : tie.After-stage-at) → c .stage-at .result < stagesMost
 below-at c =
     let start = c .before .before .pre .0 in
     omega (arith, stage-lt _ _ start (c .before .before .args .left) (omega arith))

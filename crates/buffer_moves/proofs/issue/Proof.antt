@@ -5,6 +5,7 @@ use Prim.Native.Nat.{_<_}
 use native.Mathlib.Nat.{le-refl}
 use native.Mathlib.Omega.{arith}
 use borrow.Author.Needs.{needs}
+use Rattle.table.specs.Limits.{stagesMost}
 use Rattle.table.specs.Rules.{Rules}
 use Rattle.engine.proofs.Lengths.{Lengths, lengths-of, fits, circle-asks, stage-small}
 use Rattle.buffer_model.specs.Calls.{issue}
@@ -29,7 +30,7 @@ room-at : (c : tie.Else2) → let t = entry (c .before) .args .t1 in t .live < t
 room-at c = omega (arith, rules-at (c .before) .live-bounded, c .if2 .left)
 
 -- the new reference's stage is an index of the numbers
-small-at : (c : tie.After-stage-at) → c .stage-at .result < 16
+small-at : (c : tie.After-stage-at) → c .stage-at .result < stagesMost
 small-at c = rw (c .stage-at .ensures) (stage-small _ (rules-at (c .before .before)) _ (le-refl _))
 
 returns : tie.Need-returns

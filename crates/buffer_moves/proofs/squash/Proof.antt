@@ -9,6 +9,7 @@ use native.Mathlib.Omega.{arith}
 use borrow.Author.Needs.{needs}
 use borrow.Author.Tests.{not-true, not-false}
 use Rattle.marks.specs.Circle.{position}
+use Rattle.marks.specs.Stages.{width}
 use Rattle.table.specs.Rules.{Rules}
 use Rattle.engine.proofs.Lengths.{Lengths, lengths-of, fits, circle-asks}
 use Rattle.buffer_model.specs.Calls.{squash}
@@ -47,7 +48,7 @@ live-at c = let args = entry (checked c) .args in named-live (args .t1) (args .t
 -- what the cut of mark words at the ticket's position asks
 cut-at : (c : tie.After-position-of)
     → let t = entry (checked (c .before)) .args .t1 in
-    (t .oldest < t .stages) × (c .position-of .result ≤ t .stages) × (t .stages ≤ 32)
+    (t .oldest < t .stages) × (c .position-of .result ≤ t .stages) × (t .stages ≤ width)
 cut-at c =
     circle-asks _ (rules-at (checked (c .before))) _ (rw (c .position-of .ensures) (le-of-lt (live-at (c .before) .1)))
 
