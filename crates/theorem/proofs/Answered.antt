@@ -19,6 +19,7 @@ use lib.Seq.{take-all}
 use borrow.Author.Tests.{eqb-true, ltb-false}
 use Rattle.engine.specs.Contract.{done, committed}
 use Rattle.engine.specs.Conditions.{refusal}
+use Rattle.engine.proofs.Refusing.{passes}
 use Rattle.machine_model.specs.declared.Instruction.{Instruction}
 use Rattle.machine_model.specs.declared.Instruction.the-variants.{Add, Sum, Load, Store, Byte, Half}
 use Rattle.machine_model.specs.declared.Kind.{Kind}
@@ -35,7 +36,6 @@ use Rattle.theorem.specs.Play.{Played, plays, play, start, answersOf}
 use Rattle.theorem.specs.Life.{Life}
 use Rattle.theorem.specs.Unrolled.{Single, Singles, unrolled}
 use Rattle.theorem.specs.Answered.{Told, silent, told, unsquashed, tells, toldAfter, oldest, PassesUp}
-use Rattle.theorem.proofs.Links.{passes}
 use Rattle.theorem.proofs.Linking.{comes-known}
 use Rattle.theorem.proofs.Finishing.{either}
 use Rattle.theorem.proofs.Closing.{from-opening, done-opens}

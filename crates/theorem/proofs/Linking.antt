@@ -19,6 +19,7 @@ use Rattle.table.specs.Reference
 use Rattle.table.specs.Reference.{lacks, holds, waiting, other, accessed}
 use Rattle.engine.specs.Execution.{written}
 use Rattle.engine.specs.Conditions.{refusal, faults}
+use Rattle.engine.proofs.Refusing.{passes}
 use Rattle.machine_model.specs.declared.Instruction.{Instruction}
 use Rattle.machine_model.specs.declared.Instruction.the-variants.{Add, Sum, Load, Store, Byte, Half}
 use Rattle.machine_model.specs.declared.Fate.{Fate}
@@ -32,7 +33,7 @@ use Rattle.theorem.proofs.Core.{issuing, executing, squashing, barred, 
 use Rattle.theorem.proofs.Keeping.{neither}
 use Rattle.theorem.proofs.Each.{Each, each-next, each-take, each-drop, each-set}
 use Rattle.theorem.proofs.Owing.{Owes, Linked}
-use Rattle.theorem.proofs.Links.{Links, judged-links, program-passes, lent-passes, steps-quiet, passes, stays, goes}
+use Rattle.theorem.proofs.Links.{Links, judged-links, program-passes, lent-passes, steps-quiet, stays, goes}
 
 -- ---- opening
 
