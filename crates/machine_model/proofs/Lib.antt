@@ -2,8 +2,8 @@
 -- Agreeing: the code's test of the agreement. Answering: how a contract is met, and what the validation says. PlainOfView: what
 -- a machine comes to by its table's view. Operands: what an instruction asks. Refusals: what the window decides of a refusal, as
 -- one number, over any engine. Opened, Moved, Committed: the calls but execute and finish. Formed, Executions: execute.
--- ChecksKept, OldestReady, Finishes, FinishStep: finish. Sentences: 01's sentences of an operand, of refusal 9 and of a
--- distance, over the plain state. Through the contract, Ordered: a call is refused with the smallest number that holds;
+-- ChecksKept, OldestReady, Finishes, FinishStep: finish. Sentences: 01's sentences of an operand, of refusal 9, of a
+-- commit's numbers and of a distance. Through the contract, Ordered: a call is refused with the smallest number that holds;
 -- Answered: where an execution answers 9 and 10; Outcomes: what an accepted one squashes, and what a load answers; Refetched:
 -- the next issue after a squash. Equal: when two machines have one plain state.
 pub mod Comparing

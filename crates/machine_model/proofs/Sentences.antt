@@ -7,23 +7,24 @@ use mathlib.Core.List.{List}
 use mathlib.Core.Logic.{_⊎_, inl, inr, ⊎-elim}
 use mathlib.Core.Option.{Option, none, some}
 use mathlib.Core.Path.{_≡_, refl, sym, ap, _∙_}
-use Prim.Native.Nat.{ℕ, zero, suc, _≤_, _<_}
+use Prim.Native.Nat.{ℕ, zero, suc, _+_, _*_, _%_, _≤_, _<_}
 use native.Mathlib.Nat.{eq-or-lt-of-le, le-of-suc-le-suc, not-suc-le-zero, le-refl, le-step}
 use native.Mathlib.Omega.{arith}
-use lib.Dec.{leb}
+use lib.Dec.{eqb, leb}
 use lib.ListN.{length, getD, take}
 use lib.Seq.{take-suc}
 use Rattle.table.specs.Reference.{Side, accessed, holds, ref, at}
 use Rattle.lookup.specs.Forwarding.{seen, distance}
 use Rattle.lookup.proofs.Sentences.{CameFrom, distance-memory, distance-store, seen-none}
+use Rattle.engine.specs.Contract.{committed}
 use Rattle.machine_model.specs.declared.Instruction.{Instruction}
 use Rattle.machine_model.specs.declared.Instruction.the-variants.{Add, Sum, Load, Store, Byte, Half}
 use Rattle.machine_model.specs.declared.Fate.{Fate}
 use Rattle.machine_model.specs.declared.Fate.the-variants.{Waiting, Executed}
 use Rattle.machine_model.specs.declared.Entry.{Entry}
-use Rattle.machine_model.specs.Window.{blankEntry, entryAt, writesTo, valueOf, registerSeen, with₂, evaluate}
+use Rattle.machine_model.specs.Window.{blankEntry, entryAt, misaligned, writesTo, valueOf, registerSeen, with₂, evaluate}
 use Rattle.machine_model.specs.Program.{codeOf, dOf, kind, sum}
-use Rattle.machine_model.specs.Calls.{Plain, pending, evaluated, unknown, answerBy, target, loadDistance}
+use Rattle.machine_model.specs.Calls.{Plain, pending, evaluated, unknown, answerBy, committedSays, loadDistance}
 use Rattle.machine_model.proofs.Operands.{register-snoc}
 
 -- one more older entry
@@ -191,16 +192,34 @@ module _ (X : Plain) (memory : List ℕ) (p : ℕ) (inside : p ≤ length (X .en
 
 -- ---- what a commit answers, and how far the word came
 
--- "index, code, register (for S the address)", and for B and H the byte number: the codes from 4 on
-pub third-number : (i : Instruction) (a : ℕ) → target i a ≡ cond (leb 4 (codeOf i)) a (dOf i)
-third-number (Add d s imm) a = refl
-third-number (Sum d s k) a = refl
-third-number (Load d s imm) a = refl
-third-number (Store d s imm) a = refl
-third-number (Byte d s imm) a = refl
-third-number (Half d s imm) a = refl
+-- an entry of this instruction and index that executed to this value, address and distance
+abbrev ran : Instruction → ℕ → ℕ → ℕ → ℕ → Entry
+ran i n v a d = record { instruction = i; index = n; fate = Executed v a; distance = d }
 
--- "a fifth number, 0 for other codes": of L, whose code is 3, it is the distance
+-- Its commit answers "index, code, register (for S the address) and value", for B and H the byte number (the codes from 4 on), and
+-- "a fifth number, 0 for other codes" than L's, which is 3.
+pub commit-numbers : (i : Instruction) (n v a d : ℕ)
+    → committedSays (ran i n v a d)
+    ≡ committed n (codeOf i) (cond (leb 4 (codeOf i)) a (dOf i)) v (cond (eqb (codeOf i) 3) d 0)
+commit-numbers (Add r s imm) n v a d = refl
+commit-numbers (Sum r s k) n v a d = refl
+commit-numbers (Load r s imm) n v a d = refl
+commit-numbers (Store r s imm) n v a d = refl
+commit-numbers (Byte r s imm) n v a d = refl
+commit-numbers (Half r s imm) n v a d = refl
+
+-- "an H at an odd byte number" is what 14 meets, and no B
+pub odd-half : (r s imm n v k d : ℕ)
+    → (misaligned (ran (Half r s imm) n v (2 * k + 1) d) ≡ true) × (misaligned (ran (Half r s imm) n v (2 * k) d) ≡ false)
+odd-half r s imm n v k d =
+    let one : (2 * k + 1) % 2 ≡ 1 = omega arith in
+    let none : (2 * k) % 2 ≡ 0 = omega arith in
+    (ap (λ (b : ℕ). eqb b 1) one, ap (λ (b : ℕ). eqb b 1) none)
+
+pub odd-byte : (r s imm n v a d : ℕ) → misaligned (ran (Byte r s imm) n v a d) ≡ false
+odd-byte r s imm n v a d = refl
+
+-- the same of the number alone: of L, whose code is 3, it is the distance
 pub distance-told : (i : Instruction) (d : ℕ)
     → (codeOf i ≡ 3 → answerBy (kind i) d ≡ d) × ((codeOf i ≡ 3 → ⊥) → answerBy (kind i) d ≡ 0)
 distance-told (Add r s imm) d = (λ e. absurd (omega arith), λ other. refl)
