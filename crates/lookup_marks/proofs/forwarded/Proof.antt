@@ -47,5 +47,5 @@ returns-2 c =
 pub forwarded-spec : {M : Type 1} → statement M
 forwarded-spec =
     tie.close
-    (tie.spec (search needs) (search needs) (search needs) returns sub-stage-at (λ c κs. search needs) mul-word
+    (tie.spec (λ c. omega arith) (λ c. omega arith) (λ c. omega arith) returns sub-stage-at (λ c κs. search needs) mul-word
     element-copy-out-word (λ c. omega (arith, older (c .before .before .before))) returns-2)

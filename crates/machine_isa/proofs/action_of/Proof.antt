@@ -1,6 +1,6 @@
 -- `machine_isa::action_of` meets its contract: each arm by the instruction that it matched and by what the sum is.
 -- Assumes nothing.
-use borrow.Author.Needs.{needs}
+use native.Mathlib.Omega.{arith}
 use Rattle.machine_isa.proofs.action_of.Statement.{statement}
 use Rattle.machine_isa.proofs.action_of.Tie as tie
 
@@ -25,6 +25,8 @@ returns-6 c = rw (c .before .before .i5 .given .1, c .wrapping-add-u326 .ensures
 pub action-of-spec : {M : Type 1} → statement M
 action-of-spec =
     tie.close
-    (tie.spec (search needs) (search needs) (search needs) (search needs) (search needs) (search needs) (search needs)
-    (search needs) (search needs) (search needs) (search needs) (search needs) returns returns-2 returns-3 returns-4
+    (tie.spec (λ c. omega arith) (λ c. omega arith) (λ c. omega arith) (λ c. omega arith) (λ c. omega arith)
+    (λ c. omega arith) (λ c. omega arith)
+    (λ c. omega arith) (λ c. omega arith) (λ c. omega arith) (λ c. omega arith) (λ c. omega arith) returns returns-2 returns-3
+    returns-4
     returns-5 returns-6)

@@ -23,4 +23,5 @@ returns-2 c =
 pub entry-fits-spec : {M : Type 1} → statement M
 entry-fits-spec =
     tie.close
-    (tie.spec (search needs) (search needs) (search needs) returns (search needs) (search needs) returns-2)
+    (tie.spec (λ c. omega arith) (λ c. omega arith) (λ c. omega arith) returns (λ c. omega arith) (λ c. omega arith)
+    returns-2)

@@ -1,5 +1,6 @@
 -- `machine_isa::entry_kind` meets its contract: an executed entry's kind goes by its code. Assumes nothing.
 use mathlib.Core.Path.{sym}
+use native.Mathlib.Omega.{arith}
 use borrow.Author.Needs.{needs}
 use Rattle.machine_model.proofs.Comparing.{kind-code}
 use Rattle.machine_isa.proofs.entry_kind.Statement.{statement}
@@ -14,4 +15,5 @@ returns-2 c =
 pub entry-kind-spec : {M : Type 1} → statement M
 entry-kind-spec =
     tie.close
-    (tie.spec (search needs) (search needs) (λ c κs. search needs) (λ c κs. search needs) (λ c. search needs) returns-2)
+    (tie.spec (λ c. omega arith) (λ c. omega arith) (λ c κs. search needs) (λ c κs. search needs) (λ c. search needs)
+    returns-2)

@@ -1,5 +1,6 @@
 -- `machine_isa::entry_place` meets its contract: an executed entry's place goes by its code. Assumes nothing.
 use mathlib.Core.Path.{sym}
+use native.Mathlib.Omega.{arith}
 use borrow.Author.Needs.{needs}
 use Rattle.machine_model.proofs.Comparing.{place-code}
 use Rattle.machine_isa.proofs.entry_place.Statement.{statement}
@@ -14,4 +15,5 @@ returns-2 c =
 pub entry-place-spec : {M : Type 1} → statement M
 entry-place-spec =
     tie.close
-    (tie.spec (search needs) (search needs) (λ c κs. search needs) (λ c κs. search needs) (λ c. search needs) returns-2)
+    (tie.spec (λ c. omega arith) (λ c. omega arith) (λ c κs. search needs) (λ c κs. search needs) (λ c. search needs)
+    returns-2)

@@ -15,4 +15,4 @@ returns c =
 pub put-commit-spec : {M : Type 1} → statement M
 put-commit-spec =
     tie.close
-    (tie.spec (λ c κs. search needs) (search needs) (search needs) (search needs) (λ c. search needs) returns)
+    (tie.spec (λ c κs. search needs) (λ c. omega arith) (λ c. omega arith) (λ c. omega arith) (λ c. search needs) returns)

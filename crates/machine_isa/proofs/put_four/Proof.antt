@@ -27,5 +27,6 @@ returns c =
 pub put-four-spec : {M : Type 1} → statement M
 put-four-spec =
     tie.close
-    (tie.spec (search needs) (search needs) (search needs) (search needs) slice-write-list-2 (search needs)
-    (search needs) slice-write-list-3 (search needs) (search needs) slice-write-list-4 (search needs) returns)
+    (tie.spec (λ c. omega arith) (λ c. omega arith) (λ c. omega arith) (λ c. omega arith) slice-write-list-2
+    (λ c. omega arith)
+    (λ c. omega arith) slice-write-list-3 (λ c. omega arith) (λ c. omega arith) slice-write-list-4 (search needs) returns)
