@@ -4,12 +4,12 @@
 // refuses, and hands everything back as it was passed.
 ghost use Rattle.std.specs.Prelude.{◌≡◌, ◌≤◌, ◌<◌, length};
 ghost use Rattle.marks.specs.Stages.{has};
-ghost use Rattle.table.specs.Limits.{stagesMost};
-ghost use Rattle.buffer_model.specs.Answers.{executeSays};
-ghost use Rattle.buffer_model.specs.Calls.{execute, executeLoad, executeStore, executePart, executeOther};
+ghost use Rattle.table.specs.Limits.{stages_most};
+ghost use Rattle.buffer_model.specs.Answers.{execute_says};
+ghost use Rattle.buffer_model.specs.Calls.{execute, execute_load, execute_store, execute_part, execute_other};
 ghost use Rattle.buffer_model.specs.Contract.{Meets};
-ghost use Rattle.table.specs.computed.Naming.{named_by};
-ghost use Rattle.buffer_model.specs.computed.Parts.{executeRefusal, cutFrom};
+ghost use Rattle.table.specs.Computed.Naming.{named_by};
+ghost use Rattle.buffer_model.specs.Computed.Parts.{execute_refusal, cut_from};
 
 use buffer_model::{ExecuteAnswer, ExecuteResult, Squashed};
 use engine::{Action, Part};
@@ -27,9 +27,9 @@ fn execution_refusal<'a>(
     number: u32,
     words_lent: usize,
 ) -> u32
-    requires { (oldest < stages) × (stages ≤ stagesMost) × (length numbers.now ≡ stagesMost) }
+    requires { (oldest < stages) × (stages ≤ stages_most) × (length numbers.now ≡ stages_most) }
     ensures { result
-        ≡ executeRefusal words words_lent (named_by oldest stages live numbers.now s number) (has executed s) }
+        ≡ execute_refusal words words_lent (named_by oldest stages live numbers.now s number) (has executed s) }
 {
     if words_lent != words {
         return 3;
@@ -51,8 +51,8 @@ fn squashed_from<'a>(
     left: usize,
     numbers: &'a [u32; STAGES],
 ) -> Squashed
-    requires { (oldest < stages) × (live ≤ stages) × (stages ≤ stagesMost) × (length numbers.now ≡ stagesMost) }
-    ensures { result ≡ cutFrom oldest stages live left numbers.now }
+    requires { (oldest < stages) × (live ≤ stages) × (stages ≤ stages_most) × (length numbers.now ≡ stages_most) }
+    ensures { result ≡ cut_from oldest stages live left numbers.now }
 {
     if left < live {
         let s = marks::stage_at(oldest, stages, left);
@@ -66,7 +66,7 @@ fn squashed_from<'a>(
 
 // The reference that the ticket names executes `action`.
 pub fn execute(mut t: Table, ticket: Ticket, action: Action, memory: &[u32]) -> ExecuteResult
-    ensures { Meets t (execute ticket action) memory.now (executeSays result.answer) result.table
+    ensures { Meets t (execute ticket action) memory.now (execute_says result.answer) result.table
         memory.now }
 {
     if !table_rules::keeps_rules(
@@ -154,7 +154,7 @@ pub fn execute(mut t: Table, ticket: Ticket, action: Action, memory: &[u32]) -> 
 
 // It executes as a load of `address`.
 pub fn execute_load(t: Table, ticket: Ticket, address: u32, memory: &[u32]) -> ExecuteResult
-    ensures { Meets t (executeLoad ticket address) memory.now (executeSays result.answer) result.table
+    ensures { Meets t (execute_load ticket address) memory.now (execute_says result.answer) result.table
         memory.now }
 {
     execute(t, ticket, Action::LoadAt(address), memory)
@@ -168,7 +168,7 @@ pub fn execute_store(
     value: u32,
     memory: &[u32],
 ) -> ExecuteResult
-    ensures { Meets t (executeStore ticket address value) memory.now (executeSays result.answer) result.table
+    ensures { Meets t (execute_store ticket address value) memory.now (execute_says result.answer) result.table
         memory.now }
 {
     execute(t, ticket, Action::StoreAt(address, value), memory)
@@ -183,7 +183,7 @@ pub fn execute_part(
     value: u32,
     memory: &[u32],
 ) -> ExecuteResult
-    ensures { Meets t (executePart ticket part byte value) memory.now (executeSays result.answer) result.table
+    ensures { Meets t (execute_part ticket part byte value) memory.now (execute_says result.answer) result.table
         memory.now }
 {
     execute(t, ticket, Action::PartAt(part, byte, value), memory)
@@ -191,7 +191,7 @@ pub fn execute_part(
 
 // It executes without memory.
 pub fn execute_other(t: Table, ticket: Ticket, memory: &[u32]) -> ExecuteResult
-    ensures { Meets t (executeOther ticket) memory.now (executeSays result.answer) result.table
+    ensures { Meets t (execute_other ticket) memory.now (execute_says result.answer) result.table
         memory.now }
 {
     execute(t, ticket, Action::Compute(0), memory)

@@ -10,12 +10,12 @@ use Rattle.marks.specs.Circle.{firsts}
 use Rattle.marks.specs.Counting.{every}
 use Rattle.table.specs.declared.Table.{Table}
 use Rattle.table.specs.Bank.{home, bank}
-use Rattle.table.specs.Limits.{sizesFit}
+use Rattle.table.specs.Limits.{sizes_fit}
 use Rattle.table.specs.Reference.{Fate}
-use Rattle.table.specs.View.{tabulate, markFate}
+use Rattle.table.specs.View.{tabulate, mark_fate}
 use Rattle.table.specs.Rules.{Rules}
-use Rattle.table.specs.computed.Check.{marksBelow, rowFits, lawfulBy, lawful}
-use Rattle.table.proofs.Lawful.{lawful-rules, lawful-broken}
+use Rattle.table.specs.Computed.Check.{marks_below, row_fits, lawful_by, lawful}
+use Rattle.table.proofs.Lawful.{lawful_rules, lawful_broken}
 use Rattle.engine.specs.Contract.{refused}
 use Rattle.buffer_model.specs.Answers.{Answer}
 use Rattle.buffer_model.specs.Calls.{Call}
@@ -23,9 +23,9 @@ use Rattle.buffer_model.specs.Contract.{Meets}
 use Rattle.buffer_model.specs.Damaged.{Case, keeps, breaks, shows, fates, Told, AllTold, cases}
 
 -- every call on a table that breaks its rules is refused with 2, and hands back table and memory as they were
-pub broken-refused : (t : Table) → (Rules t → ⊥) → (c : Call) (m v : List ℕ) (said : Answer) (u : Table)
+pub broken_refused : (t : Table) → (Rules t → ⊥) → (c : Call) (m v : List ℕ) (said : Answer) (u : Table)
     → Meets t c m said u v → (said ≡ refused 2) × (u ≡ t) × (v ≡ m)
-broken-refused t broken c m v said u meets = let same = meets.broken broken in (same.0, same.1, same.2)
+broken_refused t broken c m v said u meets = let same = meets.broken broken in (same.0, same.1, same.2)
 
 -- what the test of the rules gives and the fates that a case is to show, and what they should be
 data Seen : Type 0 where
@@ -43,9 +43,9 @@ wanted (shows t all) = seen true all
 
 told : (d : Case) → tested d ≡ wanted d → Told d
 unfolding tested wanted
-told (keeps t) e = lawful-rules t cc
-told (breaks t) e = broken-refused t (lawful-broken t cc)
-told (shows t all) e = (lawful-rules t cc, cc)
+told (keeps t) e = lawful_rules t cc
+told (breaks t) e = broken_refused t (lawful_broken t cc)
+told (shows t all) e = (lawful_rules t cc, cc)
 
 -- an equation of lists is one of each case
 each : (all : List Case) → map tested all ≡ map wanted all → AllTold all
@@ -53,5 +53,5 @@ each [] h = tt
 each (d ∷ all) h = (told d cc, each all cc)
 
 pub damaged : AllTold cases
-unfolding cases tested wanted lawfulBy rowFits marksBelow every firsts sizesFit home bank tabulate markFate
+unfolding cases tested wanted lawful_by row_fits marks_below every firsts sizes_fit home bank tabulate mark_fate
 damaged = each cases refl

@@ -10,44 +10,44 @@ use Rattle.table.specs.declared.Table.{Table}
 use Rattle.table.specs.Reference.{State}
 use Rattle.table.specs.View.{view}
 use Rattle.table.specs.Rules.{Rules}
-use Rattle.table.specs.computed.Check.{lawful}
-use Rattle.table.proofs.Lawful.{lawful-rules, lawful-broken}
+use Rattle.table.specs.Computed.Check.{lawful}
+use Rattle.table.proofs.Lawful.{lawful_rules, lawful_broken}
 use Rattle.engine.specs.Contract.{refused, judged}
 use Rattle.engine.proofs.Meeting
-use Rattle.engine.proofs.Meeting.{judged-refused, judged-accepted, Accepts}
+use Rattle.engine.proofs.Meeting.{judged_refused, judged_accepted, Accepts}
 use Rattle.buffer_model.specs.Answers.{Answer}
-use Rattle.buffer_model.specs.Calls.{Call, issue, execute, squash, commit, acceptedResult, refusalOf, respond}
+use Rattle.buffer_model.specs.Calls.{Call, issue, execute, squash, commit, accepted_result, refusal_of, respond}
 use Rattle.buffer_model.specs.Contract.{Meets}
 
 -- what an accepted call answers is no refusal
-pub accepts : (c : Call) (P : State) (m : List ℕ) → Accepts (acceptedResult c P m).answer
+pub accepts : (c : Call) (P : State) (m : List ℕ) → Accepts (accepted_result c P m).answer
 accepts issue P m = tt
 accepts (execute τ act) P m = tt
 accepts (squash τ) P m = tt
 accepts commit P m = tt
 
 -- what the code's check of the rules says: they hold, or the call is refused with 2
-pub checked-rules : (t : Table) {keeps : Bool} → keeps ≡ lawful t → not keeps ≡ false → Rules t
-checked-rules t {keeps} e h = lawful-rules t (sym e ∙ not-false keeps h)
+pub checked_rules : (t : Table) {keeps : Bool} → keeps ≡ lawful t → not keeps ≡ false → Rules t
+checked_rules t {keeps} e h = lawful_rules t (sym e ∙ not-false keeps h)
 
 module _ (t : Table) (c : Call) (m : List ℕ) where
-  pub broken-meets : {keeps : Bool} → keeps ≡ lawful t → not keeps ≡ true → Meets t c m (refused 2) t m
-  broken-meets {keeps} e h =
-      Meeting.broken-meets Rules view t (respond c (view t) m) m [] (lawful-broken t (sym e ∙ not-true keeps h))
+  pub broken_meets : {keeps : Bool} → keeps ≡ lawful t → not keeps ≡ true → Meets t c m (refused 2) t m
+  broken_meets {keeps} e h =
+      Meeting.broken_meets Rules view t (respond c (view t) m) m [] (lawful_broken t (sym e ∙ not-true keeps h))
 
-  pub refused-meets : Rules t → (k : ℕ) → refusalOf c (view t) m ≡ k → (k ≡ 0 → ⊥) → Meets t c m (refused k) t m
+  pub refused_meets : Rules t → (k : ℕ) → refusal_of c (view t) m ≡ k → (k ≡ 0 → ⊥) → Meets t c m (refused k) t m
   unfolding respond
-  refused-meets rules k e some =
-      Meeting.refused-meets Rules view t (respond c (view t) m) m [] k rules
-      (ap (λ (j : ℕ). judged j (view t) m [] (acceptedResult c (view t) m)) e
-      ∙ judged-refused k (view t) m [] (acceptedResult c (view t) m) some)
+  refused_meets rules k e some =
+      Meeting.refused_meets Rules view t (respond c (view t) m) m [] k rules
+      (ap (λ (j : ℕ). judged j (view t) m [] (accepted_result c (view t) m)) e
+      ∙ judged_refused k (view t) m [] (accepted_result c (view t) m) some)
 
-  pub accepted-meets : Rules t → refusalOf c (view t) m ≡ 0 → (said : Answer) (u : Table) (v : List ℕ)
-      → said ≡ (acceptedResult c (view t) m).answer → view u ≡ (acceptedResult c (view t) m).state → v ≡ (acceptedResult c (view t)
+  pub accepted_meets : Rules t → refusal_of c (view t) m ≡ 0 → (said : Answer) (u : Table) (v : List ℕ)
+      → said ≡ (accepted_result c (view t) m).answer → view u ≡ (accepted_result c (view t) m).state → v ≡ (accepted_result c (view t)
       m).memory
-      → [] ≡ (acceptedResult c (view t) m).list → Rules u → Meets t c m said u v
+      → [] ≡ (accepted_result c (view t) m).list → Rules u → Meets t c m said u v
   unfolding respond
-  accepted-meets rules e said u v a s w l after =
-      Meeting.accepted-meets Rules view t (respond c (view t) m) m [] u v [] said (acceptedResult c (view t) m) rules
-      (judged-accepted (refusalOf c (view t) m) (view t) m [] (acceptedResult c (view t) m) e)
+  accepted_meets rules e said u v a s w l after =
+      Meeting.accepted_meets Rules view t (respond c (view t) m) m [] u v [] said (accepted_result c (view t) m) rules
+      (judged_accepted (refusal_of c (view t) m) (view t) m [] (accepted_result c (view t) m) e)
       (accepts c (view t) m) a s w l after

@@ -8,19 +8,19 @@ use Prim.Native.Nat.{ℕ, ◌<◌}
 use lib.Dec.{eqb, ltb}
 use lib.ListN.{length, get_or}
 use borrow.Author.Tests.{ltb-true}
-use Rattle.marks.proofs.Turns.{stage-position}
+use Rattle.marks.proofs.Turns.{stage_position}
 use Rattle.table.specs.declared.Table.{Table}
 use Rattle.table.specs.declared.Ticket.{Ticket}
 use Rattle.table.specs.Reference.{number_of, at}
-use Rattle.table.specs.View.{stageOf, view}
+use Rattle.table.specs.View.{stage_of, view}
 use Rattle.table.specs.Rules.{Rules}
-use Rattle.table.proofs.Fates.{length-refs, at-refs}
+use Rattle.table.proofs.Fates.{length_refs, at_refs}
 use Rattle.buffer_model.specs.declared.Squashed.TheVariants.{Nothing, From}
-use Rattle.buffer_model.specs.Answers.{squashSays}
+use Rattle.buffer_model.specs.Answers.{squash_says}
 use Rattle.buffer_model.specs.Refusals.{place, names}
-use Rattle.buffer_model.specs.Calls.{ticketAt, squashFrom}
-use Rattle.table.specs.computed.Naming.{named_by}
-use Rattle.buffer_model.specs.computed.Parts.{cutFrom}
+use Rattle.buffer_model.specs.Calls.{ticket_at, squash_from}
+use Rattle.table.specs.Computed.Naming.{named_by}
+use Rattle.buffer_model.specs.Computed.Parts.{cut_from}
 
 -- two conjunctions agree where their first parts do and, under those, their second
 both : (a b x y : Bool) → a ≡ b → (b ≡ true → x ≡ y) → (a && x) ≡ (b && y)
@@ -32,26 +32,26 @@ module _ (t : Table) (rules : Rules t) where
   number_at : (τ : Ticket) → τ.stage < t.stages → place (view t) τ < t.live
       → get_or t.numbers τ.stage 0 ≡ number_of (at (view t).refs (place (view t) τ))
   number_at τ h l =
-      rw (at-refs t (place (view t) τ) l) (ap (λ (s : ℕ). get_or t.numbers s 0)
-      (sym (stage-position t.oldest t.stages rules.start τ.stage h)))
+      rw (at_refs t (place (view t) τ) l) (ap (λ (s : ℕ). get_or t.numbers s 0)
+      (sym (stage_position t.oldest t.stages rules.start τ.stage h)))
 
-  pub named-names : (τ : Ticket)
+  pub named_names : (τ : Ticket)
       → named_by t.oldest t.stages t.live t.numbers τ.stage τ.number ≡ names (view t) τ
-  named-names τ =
+  named_names τ =
       both (ltb τ.stage t.stages) (ltb τ.stage t.stages) _ _ refl
       (λ (h : ltb τ.stage t.stages ≡ true).
       both (ltb (place (view t) τ) t.live) (ltb (place (view t) τ) (length (view t).refs)) _ _
-      (ap (ltb (place (view t) τ)) (sym (length-refs t)))
+      (ap (ltb (place (view t) τ)) (sym (length_refs t)))
       (λ (l : ltb (place (view t) τ) (length (view t).refs) ≡ true).
       ap (λ (n : ℕ). eqb n τ.number)
-      (number_at τ (ltb-true _ _ h) (rw (length-refs t) at (ltb-true (place (view t) τ) (length (view t).refs) l)))))
+      (number_at τ (ltb-true _ _ h) (rw (length_refs t) at (ltb-true (place (view t) τ) (length (view t).refs) l)))))
 
-  pub squash-from : (left : ℕ)
-      → squashSays (cutFrom t.oldest t.stages t.live left t.numbers) ≡ squashFrom (view t) left
-  squash-from left = rw (length-refs t) (go (ltb left t.live) refl)
+  pub squash_from_lem : (left : ℕ)
+      → squash_says (cut_from t.oldest t.stages t.live left t.numbers) ≡ squash_from (view t) left
+  squash_from_lem left = rw (length_refs t) (go (ltb left t.live) refl)
     where
       go : (b : Bool) → ltb left t.live ≡ b
-          → squashSays (cond b (From (record { stage = stageOf t left; number = get_or t.numbers (stageOf t left) 0 })) Nothing)
-          ≡ cond b (some (ticketAt (view t) left)) none
-      go true e = rw (at-refs t left (ltb-true _ _ e))
+          → squash_says (cond b (From (record { stage = stage_of t left; number = get_or t.numbers (stage_of t left) 0 })) Nothing)
+          ≡ cond b (some (ticket_at (view t) left)) none
+      go true e = rw (at_refs t left (ltb-true _ _ e))
       go false e = refl

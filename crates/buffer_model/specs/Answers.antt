@@ -18,21 +18,21 @@ abbrev pub Answer : Type 0
 Answer = Contract.Answer Ticket
 
 -- of opening and of squash
-abbrev pub doneSays : DoneAnswer → Answer
-doneSays (done-answer.Refused k) = refused k
-doneSays done-answer.Done = done
+abbrev pub done_says : DoneAnswer → Answer
+done_says (done-answer.Refused k) = refused k
+done_says done-answer.Done = done
 
 -- of issue and of commit
-abbrev pub ticketSays : TicketAnswer → Answer
-ticketSays (ticket-answer.Refused k) = refused k
-ticketSays (ticket-answer.Named τ) = named τ
+abbrev pub ticket_says : TicketAnswer → Answer
+ticket_says (ticket-answer.Refused k) = refused k
+ticket_says (ticket-answer.Named τ) = named τ
 
 -- the ticket from which references were squashed, or that none was
-abbrev pub squashSays : Squashed → Option Ticket
-squashSays Nothing = none
-squashSays (From τ) = some τ
+abbrev pub squash_says : Squashed → Option Ticket
+squash_says Nothing = none
+squash_says (From τ) = some τ
 
 -- of the executes
-abbrev pub executeSays : ExecuteAnswer → Answer
-executeSays (execute-answer.Refused k) = refused k
-executeSays (execute-answer.Executed v d s) = executed v d (squashSays s)
+abbrev pub execute_says : ExecuteAnswer → Answer
+execute_says (execute-answer.Refused k) = refused k
+execute_says (execute-answer.Executed v d s) = executed v d (squash_says s)

@@ -4,8 +4,8 @@ use Rattle.std.specs.Prelude.{cond, List, [], ℕ, ltb, length}
 use Rattle.std.proofs.Math.Option.{Option, none, some}
 use Rattle.marks.specs.Circle.{stage}
 use Rattle.table.specs.declared.Ticket.{Ticket}
-use Rattle.table.specs.Reference.{Fate, number_of, fateOf, at, State}
-use Rattle.table.specs.Moves.{issued, squashTo, retire}
+use Rattle.table.specs.Reference.{Fate, number_of, fate_of, at, State}
+use Rattle.table.specs.Moves.{issued, squash_to, retire}
 use Rattle.lookup.specs.Forwarding.{forwarded, distance}
 use Rattle.lookup.specs.Outcome.{survivors, executes}
 use Rattle.engine.specs.declared.Action.{Action}
@@ -14,8 +14,8 @@ use Rattle.engine.specs.declared.Part.{Part}
 use Rattle.engine.specs.Conditions.{Check, refusal}
 use Rattle.engine.specs.Contract
 use Rattle.engine.specs.Contract.{done, named, executed, judged}
-use Rattle.engine.specs.Execution.{fateBy, answer_of, written}
-use Rattle.buffer_model.specs.Refusals.{place, issueChecks, executeChecks, squashChecks, commitChecks}
+use Rattle.engine.specs.Execution.{fate_by, answer_of, written}
+use Rattle.buffer_model.specs.Refusals.{place, issue_checks, execute_checks, squash_checks, commit_checks}
 
 pub data Call : Type 0 where
   issue : Call
@@ -25,70 +25,70 @@ pub data Call : Type 0 where
 
 -- the executes by name: a load of an address, a store at an address of a word, a store at a byte number of a word's part, a
 -- reference that touches no memory
-abbrev pub executeLoad : Ticket → ℕ → Call
-executeLoad τ a = execute τ (LoadAt a)
+abbrev pub execute_load : Ticket → ℕ → Call
+execute_load τ a = execute τ (LoadAt a)
 
-abbrev pub executeStore : Ticket → ℕ → ℕ → Call
-executeStore τ a v = execute τ (StoreAt a v)
+abbrev pub execute_store : Ticket → ℕ → ℕ → Call
+execute_store τ a v = execute τ (StoreAt a v)
 
-abbrev pub executePart : Ticket → Part → ℕ → ℕ → Call
-executePart τ part b v = execute τ (PartAt part b v)
+abbrev pub execute_part : Ticket → Part → ℕ → ℕ → Call
+execute_part τ part b v = execute τ (PartAt part b v)
 
-abbrev pub executeOther : Ticket → Call
-executeOther τ = execute τ (Compute 0)
+abbrev pub execute_other : Ticket → Call
+execute_other τ = execute τ (Compute 0)
 
 abbrev pub Result : Type 0
 Result = Contract.Result State Ticket
 
 -- the ticket of the reference at position p
-abbrev pub ticketAt : State → ℕ → Ticket
-ticketAt P p = record { stage = stage P.oldest P.stages p; number = number_of (at P.refs p) }
+abbrev pub ticket_at : State → ℕ → Ticket
+ticket_at P p = record { stage = stage P.oldest P.stages p; number = number_of (at P.refs p) }
 
 -- of the live references the first k stay
-abbrev pub squashFrom : State → ℕ → Option Ticket
-squashFrom P k = cond (ltb k (length P.refs)) (some (ticketAt P k)) none
+abbrev pub squash_from : State → ℕ → Option Ticket
+squash_from P k = cond (ltb k (length P.refs)) (some (ticket_at P k)) none
 
 -- the fate of the ticket's reference once it has executed this, on memory as the older references leave it
-abbrev pub comesTo : State → List ℕ → Ticket → Action → Fate
-comesTo P memory τ act = fateBy (forwarded P memory (place P τ)) act
+abbrev pub comes_to : State → List ℕ → Ticket → Action → Fate
+comes_to P memory τ act = fate_by (forwarded P memory (place P τ)) act
 
 -- what each call that is not refused comes to
-abbrev pub acceptedResult : Call → State → List ℕ → Result
-acceptedResult issue P memory =
+abbrev pub accepted_result : Call → State → List ℕ → Result
+accepted_result issue P memory =
     record {
       answer = named (record { stage = stage P.oldest P.stages (length P.refs); number = P.next });
       state = issued P;
       memory = memory;
       list = [];
     }
-acceptedResult (execute τ act) P memory =
+accepted_result (execute τ act) P memory =
     record {
       answer =
           executed (answer_of (forwarded P memory (place P τ)) act)
           (answer_of (distance P.refs (place P τ)) act)
-          (squashFrom P (survivors P (place P τ) (comesTo P memory τ act)));
-      state = executes P (place P τ) (comesTo P memory τ act);
+          (squash_from P (survivors P (place P τ) (comes_to P memory τ act)));
+      state = executes P (place P τ) (comes_to P memory τ act);
       memory = memory;
       list = [];
     }
-acceptedResult (squash τ) P memory = record { answer = done; state = squashTo P (place P τ); memory = memory; list = [] }
-acceptedResult commit P memory =
+accepted_result (squash τ) P memory = record { answer = done; state = squash_to P (place P τ); memory = memory; list = [] }
+accepted_result commit P memory =
     record {
-      answer = named (ticketAt P 0);
+      answer = named (ticket_at P 0);
       state = retire P;
-      memory = written memory (fateOf (at P.refs 0));
+      memory = written memory (fate_of (at P.refs 0));
       list = [];
     }
 
 -- the conditions of each call
-abbrev pub checksOf : Call → State → List ℕ → List Check
-checksOf issue P memory = issueChecks P
-checksOf (execute τ act) P memory = executeChecks P memory τ (comesTo P memory τ act)
-checksOf (squash τ) P memory = squashChecks P τ
-checksOf commit P memory = commitChecks P memory
+abbrev pub checks_of : Call → State → List ℕ → List Check
+checks_of issue P memory = issue_checks P
+checks_of (execute τ act) P memory = execute_checks P memory τ (comes_to P memory τ act)
+checks_of (squash τ) P memory = squash_checks P τ
+checks_of commit P memory = commit_checks P memory
 
-abbrev pub refusalOf : Call → State → List ℕ → ℕ
-refusalOf c P memory = refusal (checksOf c P memory)
+abbrev pub refusal_of : Call → State → List ℕ → ℕ
+refusal_of c P memory = refusal (checks_of c P memory)
 
 unfoldable pub respond : Call → State → List ℕ → Result
-respond c P memory = judged (refusalOf c P memory) P memory [] (acceptedResult c P memory)
+respond c P memory = judged (refusal_of c P memory) P memory [] (accepted_result c P memory)

@@ -9,7 +9,7 @@ use Rattle.engine.specs.Contract
 use Rattle.engine.specs.Contract.{refused, done}
 use Rattle.engine.specs.Opening.{opening, fresh}
 use Rattle.buffer_model.specs.Answers.{Answer}
-use Rattle.buffer_model.specs.Refusals.{openChecks}
+use Rattle.buffer_model.specs.Refusals.{open_checks}
 use Rattle.buffer_model.specs.Calls.{Call, respond}
 
 -- The call c on table t and memory m said `said` and handed back table u and memory v. Of an accepted call u may
@@ -22,7 +22,7 @@ Meets t c m said u v = Contract.Meets Rules view t (respond c (view t) m) m [] s
 -- An opening with these sizes on memory m said `said` and handed back table u. A refused opening hands back a table without
 -- stages, which breaks the rules, so that every call on it is refused with 2.
 pub record Opens (banks rows stages words : ℕ) (m : List ℕ) (said : Answer) (u : Table) : Type 0 where
-  pub refuses : (k : ℕ) → (k ≡ 0 → ⊥) → refusal (openChecks banks rows stages words m) ≡ k
+  pub refuses : (k : ℕ) → (k ≡ 0 → ⊥) → refusal (open_checks banks rows stages words m) ≡ k
       → (said ≡ refused k) × (u ≡ fresh 0 0 0 0)
-  pub opens : refusal (openChecks banks rows stages words m) ≡ 0 → (said ≡ done) × (u ≡ fresh banks rows stages words)
-  pub state : refusal (openChecks banks rows stages words m) ≡ 0 → Rules u × (view u ≡ opening banks rows stages words)
+  pub opens : refusal (open_checks banks rows stages words m) ≡ 0 → (said ≡ done) × (u ≡ fresh banks rows stages words)
+  pub state : refusal (open_checks banks rows stages words m) ≡ 0 → Rules u × (view u ≡ opening banks rows stages words)

@@ -6,8 +6,8 @@
 -- Assumes nothing.
 use Rattle.std.specs.Prelude.{◌≡◌, List, [], ◌∷◌, map, ℕ, ◌+◌, ◌*◌, replicate, set}
 use Rattle.table.specs.declared.Table.{Table}
-use Rattle.table.specs.Limits.{rowsMost, stagesMost, slots}
-use Rattle.table.specs.Reference.{Fate, waiting, loaded, stored, merged, fateOf}
+use Rattle.table.specs.Limits.{rows_most, stages_most, slots}
+use Rattle.table.specs.Reference.{Fate, waiting, loaded, stored, merged, fate_of}
 use Rattle.table.specs.View.{view}
 use Rattle.table.specs.Rules.{Rules}
 use Rattle.engine.specs.Contract.{refused}
@@ -22,7 +22,7 @@ pub data Case : Type 0 where
   shows : Table → List Fate → Case
 
 abbrev pub fates : Table → List Fate
-fates t = map fateOf (view t).refs
+fates t = map fate_of (view t).refs
 
 -- so it is of the table, and of every call on it
 abbrev pub Told : Case → Type 0
@@ -46,7 +46,7 @@ table B R n W oldest live executed addresses loads stores values taken =
       live = live;
       next = 0;
       executed = executed;
-      numbers = replicate stagesMost 0;
+      numbers = replicate stages_most 0;
       addresses = addresses;
       loads = loads;
       stores = stores;
@@ -55,8 +55,8 @@ table B R n W oldest live executed addresses loads stores values taken =
     }
 
 -- zeros at every stage
-abbrev pub noWords : List ℕ
-noWords = replicate stagesMost 0
+abbrev pub no_words : List ℕ
+no_words = replicate stages_most 0
 
 -- zeros but for x at row r, and for y at row q
 abbrev pub one : ℕ → ℕ → List ℕ
@@ -67,27 +67,27 @@ two r x q y = set (one r x) q y
 
 -- the first rows of banks 1 and 2
 abbrev pub bank1 : ℕ
-bank1 = rowsMost
+bank1 = rows_most
 
 abbrev pub bank2 : ℕ
-bank2 = 2 * rowsMost
+bank2 = 2 * rows_most
 
 -- a table without marks, with these sizes, oldest and number of live references
 abbrev pub bare : ℕ → ℕ → ℕ → ℕ → ℕ → ℕ → Table
-bare B R n W oldest live = table B R n W oldest live 0 (one 0 0) (one 0 0) (one 0 0) noWords noWords
+bare B R n W oldest live = table B R n W oldest live 0 (one 0 0) (one 0 0) (one 0 0) no_words no_words
 
 -- Two banks of two rows, four stages, of which 2, 3 and 0 are live, from the oldest on.
 abbrev pub window : ℕ → List ℕ → List ℕ → List ℕ → Table
-window executed addresses loads stores = table 2 2 4 8 2 3 executed addresses loads stores noWords noWords
+window executed addresses loads stores = table 2 2 4 8 2 3 executed addresses loads stores no_words no_words
 
 -- these words at stages 0 to 3
-abbrev pub wordsBy : ℕ → ℕ → ℕ → ℕ → List ℕ
-wordsBy v0 v1 v2 v3 = set (set (set (set noWords 0 v0) 1 v1) 2 v2) 3 v3
+abbrev pub words_by : ℕ → ℕ → ℕ → ℕ → List ℕ
+words_by v0 v1 v2 v3 = set (set (set (set no_words 0 v0) 1 v1) 2 v2) 3 v3
 
 -- the same with these words stored, and with 20, 21, 22 and 23 taken by loads
 abbrev pub wording : ℕ → List ℕ → List ℕ → List ℕ → ℕ → ℕ → ℕ → ℕ → Table
 wording executed addresses loads stores v0 v1 v2 v3 =
-    table 2 2 4 8 2 3 executed addresses loads stores (wordsBy v0 v1 v2 v3) (wordsBy 20 21 22 23)
+    table 2 2 4 8 2 3 executed addresses loads stores (words_by v0 v1 v2 v3) (words_by 20 21 22 23)
 
 unfoldable pub cases : List Case
 cases =

@@ -11,4 +11,4 @@ pub mod PartStores
 pub mod Distances
 pub mod SameWords
 pub mod Damaged
-pub mod computed
+pub mod Computed

@@ -23,41 +23,41 @@ pub data TableLife (t : Table) : List Event → Table → Type 0 where
       → TableLife t es u → Meets u c m said w v → TableLife t (event c said (length (view w).refs) ∷ es) w
 
 -- the answer is a ticket: an issue or a commit that was not refused
-abbrev pub isTicket : Answer → Bool
-isTicket (refused k) = false
-isTicket done = false
-isTicket (named τ) = true
-isTicket (executed v d s) = false
-isTicket (committed i c r v d) = false
-isTicket (finished k) = false
+abbrev pub is_ticket : Answer → Bool
+is_ticket (refused k) = false
+is_ticket done = false
+is_ticket (named τ) = true
+is_ticket (executed v d s) = false
+is_ticket (committed i c r v d) = false
+is_ticket (finished k) = false
 
 -- one more issue, where the call is one that was not refused
-abbrev pub withIssue : Event → ℕ → ℕ
-withIssue (event issue said left) n = cond (isTicket said) (suc n) n
-withIssue (event (execute τ act) said left) n = n
-withIssue (event (squash τ) said left) n = n
-withIssue (event commit said left) n = n
+abbrev pub with_issue : Event → ℕ → ℕ
+with_issue (event issue said left) n = cond (is_ticket said) (suc n) n
+with_issue (event (execute τ act) said left) n = n
+with_issue (event (squash τ) said left) n = n
+with_issue (event commit said left) n = n
 
 -- how many issues were not refused
-unfoldable pub issuesIn : List Event → ℕ
-issuesIn [] = 0
-issuesIn (e ∷ es) = withIssue e (issuesIn es)
+unfoldable pub issues_in : List Event → ℕ
+issues_in [] = 0
+issues_in (e ∷ es) = with_issue e (issues_in es)
 
 -- the first `left` references stay, the others are squashed
-abbrev pub unlessSquashed : ℕ → ℕ → Option ℕ
-unlessSquashed left p = cond (ltb p left) (some p) none
+abbrev pub unless_squashed : ℕ → ℕ → Option ℕ
+unless_squashed left p = cond (ltb p left) (some p) none
 
 -- the oldest is committed, the others are one position older
-abbrev pub unlessCommitted : ℕ → Option ℕ
-unlessCommitted zero = none
-unlessCommitted (suc p) = some p
+abbrev pub unless_committed : ℕ → Option ℕ
+unless_committed zero = none
+unless_committed (suc p) = some p
 
 -- the position after this event of the reference that was at position p; none where the call squashed or committed it
 abbrev pub moved_to : Event → ℕ → Option ℕ
-moved_to (event issue said left) p = unlessSquashed left p
-moved_to (event (execute τ act) said left) p = unlessSquashed left p
-moved_to (event (squash τ) said left) p = unlessSquashed left p
-moved_to (event commit said left) p = cond (isTicket said) (unlessCommitted p) (unlessSquashed left p)
+moved_to (event issue said left) p = unless_squashed left p
+moved_to (event (execute τ act) said left) p = unless_squashed left p
+moved_to (event (squash τ) said left) p = unless_squashed left p
+moved_to (event commit said left) p = cond (is_ticket said) (unless_committed p) (unless_squashed left p)
 
 abbrev pub onward : Event → Option ℕ → Option ℕ
 onward e none = none
@@ -70,5 +70,5 @@ followed (e ∷ es) p = onward e (followed es p)
 
 -- the call is given this ticket
 pub data Uses (τ : Ticket) : Call → Type 0 where
-  toExecute : {act : Action} → Uses τ (execute τ act)
-  toSquash : Uses τ (squash τ)
+  to_execute : {act : Action} → Uses τ (execute τ act)
+  to_squash : Uses τ (squash τ)

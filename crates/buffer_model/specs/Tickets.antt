@@ -12,12 +12,12 @@ use Rattle.buffer_model.specs.Answers.{Answer}
 use Rattle.buffer_model.specs.Refusals.{place, names}
 use Rattle.buffer_model.specs.Calls.{Call}
 use Rattle.buffer_model.specs.Contract.{Meets}
-use Rattle.buffer_model.specs.Life.{Event, issuesIn, followed, Uses, toExecute, toSquash}
+use Rattle.buffer_model.specs.Life.{Event, issues_in, followed, Uses, to_execute, to_squash}
 
 -- with which number a call that is given a dead ticket is refused: 7, or 3 where it is lent a memory that is not of W words
-abbrev pub staleNumber : {τ : Ticket} {c : Call} → Uses τ c → ℕ → List ℕ → ℕ
-staleNumber toExecute words m = cond (eqb (length m) words) 7 3
-staleNumber toSquash words m = 7
+abbrev pub stale_number : {τ : Ticket} {c : Call} → Uses τ c → ℕ → List ℕ → ℕ
+stale_number to_execute words m = cond (eqb (length m) words) 7 3
+stale_number to_squash words m = 7
 
 -- In the life of an opened table an issue answered τ; its reference was then the youngest, at position p. The events `later`
 -- came after it, refused calls among them, and led to table w. If none of them squashed or committed the reference, the
@@ -25,7 +25,7 @@ staleNumber toSquash words m = 7
 -- references touches a later one, as long as fewer than 4,294,967,296 issues came after it": every call that is given the
 -- ticket is refused, and hands back table and memory as they were.
 pub record TicketTruth (τ : Ticket) (p : ℕ) (later : List Event) (w : Table) : Type 0 where
-  pub still-named : (q : ℕ) → followed later p ≡ some q → (names (view w) τ ≡ true) × (place (view w) τ ≡ q)
-  pub stale : followed later p ≡ none → issuesIn later < 2 ^ 32
+  pub still_named : (q : ℕ) → followed later p ≡ some q → (names (view w) τ ≡ true) × (place (view w) τ ≡ q)
+  pub stale : followed later p ≡ none → issues_in later < 2 ^ 32
       → {c : Call} {m m' : List ℕ} {x : Table} {said : Answer} → (uses : Uses τ c) → Meets w c m said x m'
-      → (said ≡ refused (staleNumber uses w.words m)) × (x ≡ w) × (m' ≡ m)
+      → (said ≡ refused (stale_number uses w.words m)) × (x ≡ w) × (m' ≡ m)

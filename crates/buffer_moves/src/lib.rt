@@ -3,7 +3,7 @@
 // Inner crate: the calls are those of the crate `buffer`. No call requires anything: what it is given that breaks a rule it
 // refuses, and hands everything back as it was passed.
 ghost use Rattle.std.specs.Prelude.{◌≡◌, ℕ, List};
-ghost use Rattle.buffer_model.specs.Answers.{doneSays, ticketSays};
+ghost use Rattle.buffer_model.specs.Answers.{done_says, ticket_says};
 ghost use Rattle.buffer_model.specs.Calls.{issue, squash, commit};
 ghost use Rattle.buffer_model.specs.Contract.{Meets, Opens};
 
@@ -12,7 +12,7 @@ use table::{Table, Ticket};
 
 // A table of `banks` banks of `rows` rows and `stages` stages over a memory of `words` words.
 pub fn open(banks: usize, rows: usize, stages: usize, words: usize, memory: &[u32]) -> DoneResult
-    ensures { Opens banks rows stages words memory.now (doneSays result.answer) result.table }
+    ensures { Opens banks rows stages words memory.now (done_says result.answer) result.table }
 {
     if !table_rules::sizes_fit(banks, rows, stages, words) {
         return DoneResult {
@@ -34,7 +34,7 @@ pub fn open(banks: usize, rows: usize, stages: usize, words: usize, memory: &[u3
 
 // A new youngest reference in the next stage.
 pub fn issue(mut t: Table) -> TicketResult
-    ensures { (m : List ℕ) → Meets t issue m (ticketSays result.answer) result.table m }
+    ensures { (m : List ℕ) → Meets t issue m (ticket_says result.answer) result.table m }
 {
     if !table_rules::keeps_rules(
         t.banks,
@@ -77,7 +77,7 @@ pub fn issue(mut t: Table) -> TicketResult
 
 // Drops the reference that the ticket names and everything younger.
 pub fn squash(mut t: Table, ticket: Ticket) -> DoneResult
-    ensures { (m : List ℕ) → Meets t (squash ticket) m (doneSays result.answer) result.table m }
+    ensures { (m : List ℕ) → Meets t (squash ticket) m (done_says result.answer) result.table m }
 {
     if !table_rules::keeps_rules(
         t.banks,
@@ -119,7 +119,7 @@ pub fn squash(mut t: Table, ticket: Ticket) -> DoneResult
 
 // Takes the oldest reference out of the window; a store's word goes to memory.
 pub fn commit(mut t: Table, memory: &mut [u32]) -> TicketResult
-    ensures { Meets t commit memory.old (ticketSays result.answer) result.table memory.new }
+    ensures { Meets t commit memory.old (ticket_says result.answer) result.table memory.new }
 {
     if !table_rules::keeps_rules(
         t.banks,

@@ -13,44 +13,44 @@ use Rattle.table.specs.View.{view}
 use Rattle.engine.specs.Conditions.{refusal}
 use Rattle.engine.specs.Contract.{refused, done, named, executed, committed, finished}
 use Rattle.engine.proofs.Meeting.{Accepts}
-use Rattle.engine.proofs.Numbered.{zero-accepts, broken-number, first-number}
+use Rattle.engine.proofs.Numbered.{zero_accepts, broken_number, first_number}
 use Rattle.buffer_model.specs.Answers.{Answer}
-use Rattle.buffer_model.specs.Refusals.{openChecks}
-use Rattle.buffer_model.specs.Calls.{Call, checksOf}
+use Rattle.buffer_model.specs.Refusals.{open_checks}
+use Rattle.buffer_model.specs.Calls.{Call, checks_of}
 use Rattle.buffer_model.specs.Contract.{Meets}
 use Rattle.buffer_model.proofs.Ordered.{decides}
 use Rattle.embed.specs.declared.Done.{Done}
-use Rattle.embed.specs.Crossing.{numbersOf, Starts}
+use Rattle.embed.specs.Crossing.{numbers_of, Starts}
 
 abbrev pub number : Answer → ℕ
-number said = (numbersOf said).refusal
+number said = (numbers_of said).refusal
 
-accepted-zero : (said : Answer) → Accepts said → number said ≡ 0
-accepted-zero (refused k) ok = absurd ok
-accepted-zero done ok = refl
-accepted-zero (named τ) ok = refl
-accepted-zero (executed v d none) ok = refl
-accepted-zero (executed v d (some τ)) ok = refl
-accepted-zero (committed i c r v d) ok = refl
-accepted-zero (finished n) ok = refl
+accepted_zero : (said : Answer) → Accepts said → number said ≡ 0
+accepted_zero (refused k) ok = absurd ok
+accepted_zero done ok = refl
+accepted_zero (named τ) ok = refl
+accepted_zero (executed v d none) ok = refl
+accepted_zero (executed v d (some τ)) ok = refl
+accepted_zero (committed i c r v d) ok = refl
+accepted_zero (finished n) ok = refl
 
 module _ (t : Table) (c : Call) (m : List ℕ) {said : Answer} {u : Table} {v : List ℕ} (meets : Meets t c m said u v) where
-  pub number-crosses : Rules t → number said ≡ refusal (checksOf c (view t) m)
-  number-crosses rules = first-number (decides t c m meets) number (λ k. refl) accepted-zero rules
+  pub number_crosses : Rules t → number said ≡ refusal (checks_of c (view t) m)
+  number_crosses rules = first_number (decides t c m meets) number (λ k. refl) accepted_zero rules
 
-  pub broken-crosses : (Rules t → ⊥) → number said ≡ 2
-  broken-crosses breaks = broken-number (decides t c m meets) number (λ k. refl) accepted-zero breaks
+  pub broken_crosses : (Rules t → ⊥) → number said ≡ 2
+  broken_crosses breaks = broken_number (decides t c m meets) number (λ k. refl) accepted_zero breaks
 
-  pub zero-accepted : number said ≡ 0 → Accepts said
-  zero-accepted z = zero-accepts (decides t c m meets) number (λ k. refl) accepted-zero z
+  pub zero_accepted : number said ≡ 0 → Accepts said
+  zero_accepted z = zero_accepts (decides t c m meets) number (λ k. refl) accepted_zero z
 
 -- the same of an opening
-pub opening-crosses : (banks rows stages words : ℕ) (m : List ℕ) {r : Done} → Starts banks rows stages words m r
-    → r.refusal ≡ refusal (openChecks banks rows stages words m)
-opening-crosses banks rows stages words m started = started.numbers-are ∙ go (eqb k 0) refl
+pub opening_crosses : (banks rows stages words : ℕ) (m : List ℕ) {r : Done} → Starts banks rows stages words m r
+    → r.refusal ≡ refusal (open_checks banks rows stages words m)
+opening_crosses banks rows stages words m started = started.numbers_are ∙ go (eqb k 0) refl
   where
     k : ℕ
-    k = refusal (openChecks banks rows stages words m)
+    k = refusal (open_checks banks rows stages words m)
 
     go : (b : Bool) → eqb k 0 ≡ b → number started.said ≡ k
     go true e = let z = eqb-true k 0 e in ap number (started.opens.opens z).0 ∙ sym z

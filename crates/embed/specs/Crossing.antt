@@ -18,19 +18,19 @@ abbrev pub numbered : ℕ → ℕ → ℕ → ℕ → Ticket → Numbers
 numbered refusal value distance squashed ticket =
     record { ticket = ticket; refusal = refusal; value = value; distance = distance; squashed = squashed }
 
-abbrev pub noTicket : Ticket
-noTicket = record { stage = 0; number = 0 }
+abbrev pub no_ticket : Ticket
+no_ticket = record { stage = 0; number = 0 }
 
 -- A refusal crosses as its number, and any other answer as 0 and what it carries, with 0 for what it lacks. The buffer makes no
 -- machine's commit and no finish.
-abbrev pub numbersOf : Answer → Numbers
-numbersOf (refused k) = numbered k 0 0 0 noTicket
-numbersOf done = numbered 0 0 0 0 noTicket
-numbersOf (named τ) = numbered 0 0 0 0 τ
-numbersOf (executed v d none) = numbered 0 v d 0 noTicket
-numbersOf (executed v d (some τ)) = numbered 0 v d 1 τ
-numbersOf (committed i c r v d) = numbered 0 0 0 0 noTicket
-numbersOf (finished n) = numbered 0 0 0 0 noTicket
+abbrev pub numbers_of : Answer → Numbers
+numbers_of (refused k) = numbered k 0 0 0 no_ticket
+numbers_of done = numbered 0 0 0 0 no_ticket
+numbers_of (named τ) = numbered 0 0 0 0 τ
+numbers_of (executed v d none) = numbered 0 v d 0 no_ticket
+numbers_of (executed v d (some τ)) = numbered 0 v d 1 τ
+numbers_of (committed i c r v d) = numbered 0 0 0 0 no_ticket
+numbers_of (finished n) = numbered 0 0 0 0 no_ticket
 
 -- The answer to call c that these numbers tell (proofs/Told.antt: the one that was given).
 abbrev pub acceptance : Call → Numbers → Answer
@@ -46,17 +46,17 @@ told c n = cond (eqb n.refusal 0) (acceptance c n) (refused n.refusal)
 pub record Crosses (t : Table) (c : Call) (m : List ℕ) (u : Table) (v : List ℕ) (Told : Answer → Type 0) : Type 0 where
   pub said : Answer
   pub meets : Meets t c m said u v
-  pub numbers-are : Told said
+  pub numbers_are : Told said
 
 -- how an answer crossed: all of its numbers, its number and ticket, its number alone
 abbrev pub WithAll : Executed → Answer → Type 0
-WithAll r said = r.numbers ≡ numbersOf said
+WithAll r said = r.numbers ≡ numbers_of said
 
 abbrev pub WithTicket : Named → Answer → Type 0
-WithTicket r said = (r.refusal ≡ (numbersOf said).refusal) × (r.ticket ≡ (numbersOf said).ticket)
+WithTicket r said = (r.refusal ≡ (numbers_of said).refusal) × (r.ticket ≡ (numbers_of said).ticket)
 
 abbrev pub WithNumber : Done → Answer → Type 0
-WithNumber r said = r.refusal ≡ (numbersOf said).refusal
+WithNumber r said = r.refusal ≡ (numbers_of said).refusal
 
 -- an execution, which leaves the memory; an issue or a commit; a squash; an opening
 abbrev pub Runs : Table → Call → List ℕ → Executed → Type 0
@@ -71,4 +71,4 @@ Does t c m r = Crosses t c m r.table m (WithNumber r)
 pub record Starts (banks rows stages words : ℕ) (m : List ℕ) (r : Done) : Type 0 where
   pub said : Answer
   pub opens : Opens banks rows stages words m said r.table
-  pub numbers-are : WithNumber r said
+  pub numbers_are : WithNumber r said

@@ -4,9 +4,9 @@
 // requires anything; each contract is the buffer's own, of an answer with these numbers (specs/Crossing.antt).
 ghost use Rattle.std.specs.Prelude.{◌≡◌, List, ℕ};
 ghost use Rattle.engine.specs.declared.Part.TheVariants.{Byte, Half};
-ghost use Rattle.buffer_model.specs.Answers.{doneSays, ticketSays, executeSays};
-ghost use Rattle.buffer_model.specs.Calls.{issue, squash, commit, executeLoad, executeStore, executePart, executeOther};
-ghost use Rattle.embed.specs.Crossing.{numbersOf, Does, Names, Runs, Starts};
+ghost use Rattle.buffer_model.specs.Answers.{done_says, ticket_says, execute_says};
+ghost use Rattle.buffer_model.specs.Calls.{issue, squash, commit, execute_load, execute_store, execute_part, execute_other};
+ghost use Rattle.embed.specs.Crossing.{numbers_of, Does, Names, Runs, Starts};
 
 use buffer::{DoneAnswer, ExecuteAnswer, Part, Squashed, TicketAnswer};
 use table::{Table, Ticket};
@@ -48,7 +48,7 @@ pub struct Executed {
 }
 
 fn done_number(answer: DoneAnswer) -> u32
-    ensures { result ≡ (numbersOf (doneSays answer)).refusal }
+    ensures { result ≡ (numbers_of (done_says answer)).refusal }
 {
     match answer {
         DoneAnswer::Refused(k) => k,
@@ -57,7 +57,7 @@ fn done_number(answer: DoneAnswer) -> u32
 }
 
 fn named_number(answer: TicketAnswer) -> u32
-    ensures { result ≡ (numbersOf (ticketSays answer)).refusal }
+    ensures { result ≡ (numbers_of (ticket_says answer)).refusal }
 {
     match answer {
         TicketAnswer::Refused(k) => k,
@@ -66,7 +66,7 @@ fn named_number(answer: TicketAnswer) -> u32
 }
 
 fn named_ticket(answer: TicketAnswer) -> Ticket
-    ensures { result ≡ (numbersOf (ticketSays answer)).ticket }
+    ensures { result ≡ (numbers_of (ticket_says answer)).ticket }
 {
     match answer {
         TicketAnswer::Refused(_) => Ticket {
@@ -78,7 +78,7 @@ fn named_ticket(answer: TicketAnswer) -> Ticket
 }
 
 fn execute_numbers(answer: ExecuteAnswer) -> Numbers
-    ensures { result ≡ numbersOf (executeSays answer) }
+    ensures { result ≡ numbers_of (execute_says answer) }
 {
     let none = Ticket {
         stage: 0,
@@ -147,7 +147,7 @@ pub extern "C" fn arb_v_issue(t: Table) -> Named
 
 #[unsafe(no_mangle)]
 pub extern "C" fn arb_v_load(t: Table, ticket: Ticket, address: u32, memory: &[u32]) -> Executed
-    ensures { Runs t (executeLoad ticket address) memory.now result }
+    ensures { Runs t (execute_load ticket address) memory.now result }
 {
     let done = buffer::execute_load(t, ticket, address, memory);
     let said = done.answer;
@@ -164,7 +164,7 @@ pub extern "C" fn arb_v_store(
     value: u32,
     memory: &[u32],
 ) -> Executed
-    ensures { Runs t (executeStore ticket address value) memory.now result }
+    ensures { Runs t (execute_store ticket address value) memory.now result }
 {
     let done = buffer::execute_store(t, ticket, address, value, memory);
     let said = done.answer;
@@ -181,7 +181,7 @@ pub extern "C" fn arb_v_byte(
     value: u32,
     memory: &[u32],
 ) -> Executed
-    ensures { Runs t (executePart ticket Byte byte value) memory.now result }
+    ensures { Runs t (execute_part ticket Byte byte value) memory.now result }
 {
     let done = buffer::execute_part(t, ticket, Part::Byte, byte, value, memory);
     let said = done.answer;
@@ -198,7 +198,7 @@ pub extern "C" fn arb_v_half(
     value: u32,
     memory: &[u32],
 ) -> Executed
-    ensures { Runs t (executePart ticket Half byte value) memory.now result }
+    ensures { Runs t (execute_part ticket Half byte value) memory.now result }
 {
     let done = buffer::execute_part(t, ticket, Part::Half, byte, value, memory);
     let said = done.answer;
@@ -209,7 +209,7 @@ pub extern "C" fn arb_v_half(
 
 #[unsafe(no_mangle)]
 pub extern "C" fn arb_v_other(t: Table, ticket: Ticket, memory: &[u32]) -> Executed
-    ensures { Runs t (executeOther ticket) memory.now result }
+    ensures { Runs t (execute_other ticket) memory.now result }
 {
     let done = buffer::execute_other(t, ticket, memory);
     let said = done.answer;

@@ -9,45 +9,45 @@ use Prim.Native.Nat.{ℕ}
 use Rattle.engine.specs.Conditions.{refusal}
 use Rattle.engine.specs.Contract.{refused, done, named, executed, committed, finished}
 use Rattle.engine.proofs.Meeting.{Accepts}
-use Rattle.engine.proofs.Numbered.{refused-or, zero-accepts, broken-number, first-number}
-use Rattle.machine_model.specs.Calls.{Call, Answer, checksOf}
+use Rattle.engine.proofs.Numbered.{refused_or, zero_accepts, broken_number, first_number}
+use Rattle.machine_model.specs.Calls.{Call, Answer, checks_of}
 use Rattle.machine_model.specs.Contract.{plain, Sound}
 use Rattle.machine_model.proofs.Ordered.{decides}
 use Rattle.embed_image.specs.declared.Image.{Image}
 use Rattle.embed_image.specs.declared.Numbers.{Numbers}
 use Rattle.embed_image.specs.declared.Answered.{Answered}
-use Rattle.embed_image.specs.Slots.{machineBy}
-use Rattle.embed_image.specs.Telling.{numbersOf}
+use Rattle.embed_image.specs.Slots.{machine_by}
+use Rattle.embed_image.specs.Telling.{numbers_of}
 use Rattle.embed_image.specs.Crossing.{Crosses}
 
 abbrev pub number : Answer → ℕ
-number said = (numbersOf said).refusal
+number said = (numbers_of said).refusal
 
-accepted-zero : (said : Answer) → Accepts said → number said ≡ 0
-accepted-zero (refused k) ok = absurd ok
-accepted-zero done ok = refl
-accepted-zero (named p) ok = refl
-accepted-zero (executed v d none) ok = refl
-accepted-zero (executed v d (some p)) ok = refl
-accepted-zero (committed i c r v d) ok = refl
-accepted-zero (finished n) ok = refl
+accepted_zero : (said : Answer) → Accepts said → number said ≡ 0
+accepted_zero (refused k) ok = absurd ok
+accepted_zero done ok = refl
+accepted_zero (named p) ok = refl
+accepted_zero (executed v d none) ok = refl
+accepted_zero (executed v d (some p)) ok = refl
+accepted_zero (committed i c r v d) ok = refl
+accepted_zero (finished n) ok = refl
 
-pub number-refuses : (said : Answer) → (number said ≡ 0 → ⊥) → (k : ℕ) × (said ≡ refused k)
-number-refuses said not-zero = ⊎_elim (λ w. w) (λ ok. absurd (not-zero (accepted-zero said ok))) (refused-or said)
+pub number_refuses : (said : Answer) → (number said ≡ 0 → ⊥) → (k : ℕ) × (said ≡ refused k)
+number_refuses said not-zero = ⊎_elim (λ w. w) (λ ok. absurd (not-zero (accepted_zero said ok))) (refused_or said)
 
 module _ (program : List ℕ) (passed : Image) (c : Call) (w : List ℕ) {r : Answered} {v kept : List ℕ}
     (x : Crosses program passed c w r v kept) where
   crossed : r.numbers.refusal ≡ number x.said
-  crossed = ap (λ (n : Numbers). n.refusal) x.numbers-are
+  crossed = ap (λ (n : Numbers). n.refusal) x.numbers_are
 
-  pub number-crosses : Sound (machineBy passed) → r.numbers.refusal ≡ refusal (checksOf program c (plain (machineBy passed)) w)
-  number-crosses sound =
-      crossed ∙ first-number (decides program (machineBy passed) c w x.meets) number (λ k. refl) accepted-zero sound
+  pub number_crosses : Sound (machine_by passed) → r.numbers.refusal ≡ refusal (checks_of program c (plain (machine_by passed)) w)
+  number_crosses sound =
+      crossed ∙ first_number (decides program (machine_by passed) c w x.meets) number (λ k. refl) accepted_zero sound
 
-  pub broken-crosses : (Sound (machineBy passed) → ⊥) → r.numbers.refusal ≡ 2
-  broken-crosses breaks =
-      crossed ∙ broken-number (decides program (machineBy passed) c w x.meets) number (λ k. refl) accepted-zero breaks
+  pub broken_crosses : (Sound (machine_by passed) → ⊥) → r.numbers.refusal ≡ 2
+  broken_crosses breaks =
+      crossed ∙ broken_number (decides program (machine_by passed) c w x.meets) number (λ k. refl) accepted_zero breaks
 
-  pub zero-accepted : r.numbers.refusal ≡ 0 → Accepts x.said
-  zero-accepted z =
-      zero-accepts (decides program (machineBy passed) c w x.meets) number (λ k. refl) accepted-zero (sym crossed ∙ z)
+  pub zero_accepted : r.numbers.refusal ≡ 0 → Accepts x.said
+  zero_accepted z =
+      zero_accepts (decides program (machine_by passed) c w x.meets) number (λ k. refl) accepted_zero (sym crossed ∙ z)

@@ -4,4 +4,4 @@ pub mod Slots
 pub mod Telling
 pub mod Crossing
 pub mod Lives
-pub mod computed
+pub mod Computed

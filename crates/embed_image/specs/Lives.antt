@@ -4,7 +4,7 @@
 -- Assumes nothing.
 use Rattle.std.specs.Prelude.{List, [], ◌∷◌, ◌++◌, ℕ, ◌+◌}
 use Rattle.machine_model.specs.Calls.{Call, Answer}
-use Rattle.sequential.specs.Play.{recorded, commitsIn}
+use Rattle.sequential.specs.Play.{recorded, commits_in}
 use Rattle.embed_image.specs.declared.Image.{Image}
 use Rattle.embed_image.specs.declared.Answered.{Answered}
 use Rattle.embed_image.specs.Telling.{told}
@@ -18,4 +18,4 @@ pub data ImageLife (program : List ℕ) (i : Image) (w : List ℕ)
   called : {cs : List Call} {answers : List Answer} {u : Image} {v y : List ℕ} {record' list : List ℕ} {n : ℕ} {r : Answered}
       (c : Call) → ImageLife program i w cs answers u v record' n → Crosses program u c v r y list
       → ImageLife program i w (cs ++ (c ∷ [])) (answers ++ (told c r.numbers ∷ [])) r.image y
-      (record' ++ recorded (told c r.numbers) list) (n + commitsIn (told c r.numbers))
+      (record' ++ recorded (told c r.numbers) list) (n + commits_in (told c r.numbers))

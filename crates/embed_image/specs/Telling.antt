@@ -22,14 +22,14 @@ numbered refusal position squashed commits index code target value distance =
 
 -- A refusal crosses as its number, and any other answer as 0 and what it carries, with 0 for what it lacks: the position issued
 -- or squashed from, that one was, a finish's commits, a commit's index, code and target, value and distance.
-abbrev pub numbersOf : Answer → Numbers
-numbersOf (refused k) = numbered k 0 0 0 0 0 0 0 0
-numbersOf done = numbered 0 0 0 0 0 0 0 0 0
-numbersOf (named p) = numbered 0 p 0 0 0 0 0 0 0
-numbersOf (executed v d none) = numbered 0 0 0 0 0 0 0 v d
-numbersOf (executed v d (some p)) = numbered 0 p 1 0 0 0 0 v d
-numbersOf (committed i c r v d) = numbered 0 0 0 0 i c r v d
-numbersOf (finished n) = numbered 0 0 0 n 0 0 0 0 0
+abbrev pub numbers_of : Answer → Numbers
+numbers_of (refused k) = numbered k 0 0 0 0 0 0 0 0
+numbers_of done = numbered 0 0 0 0 0 0 0 0 0
+numbers_of (named p) = numbered 0 p 0 0 0 0 0 0 0
+numbers_of (executed v d none) = numbered 0 0 0 0 0 0 0 v d
+numbers_of (executed v d (some p)) = numbered 0 p 1 0 0 0 0 v d
+numbers_of (committed i c r v d) = numbered 0 0 0 0 i c r v d
+numbers_of (finished n) = numbered 0 0 0 n 0 0 0 0 0
 
 -- The answer to call c that these numbers tell (proofs/Told.antt: the one that was given).
 abbrev pub acceptance : Call → Numbers → Answer

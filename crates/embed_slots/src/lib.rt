@@ -1,12 +1,12 @@
 // Images of the window machine for C read and written, and answers in numbers: what the exported calls of embed_machine share.
 ghost use Rattle.std.specs.Prelude.{◌≡◌, map};
-ghost use Rattle.machine_model.specs.Over.{valueBy};
-ghost use Rattle.machine_model.specs.Program.{code_of, dOf, sOf, immOf};
-ghost use Rattle.machine_model.specs.Window.{addressBy};
-ghost use Rattle.machine_model.specs.Contract.{doneSays, issueSays, executeSays, commitSays, finishSays};
-ghost use Rattle.embed_image.specs.Slots.{instructionBy, fateBy, executedOf, entryBy, slotOf, machineBy, image_of};
-ghost use Rattle.embed_image.specs.Telling.{numbered, numbersOf};
-ghost use Rattle.embed_image.specs.computed.Handing.{answeredBy};
+ghost use Rattle.machine_model.specs.Over.{value_by};
+ghost use Rattle.machine_model.specs.Program.{code_of, d_of, s_of, imm_of};
+ghost use Rattle.machine_model.specs.Window.{address_by};
+ghost use Rattle.machine_model.specs.Contract.{done_says, issue_says, execute_says, commit_says, finish_says};
+ghost use Rattle.embed_image.specs.Slots.{instruction_by, fate_by, executed_of, entry_by, slot_of, machine_by, image_of};
+ghost use Rattle.embed_image.specs.Telling.{numbered, numbers_of};
+ghost use Rattle.embed_image.specs.Computed.Handing.{answered_by};
 
 use embed_image::{Answered, Image, Numbers, Slot};
 use machine_model::{
@@ -17,7 +17,7 @@ use table::STAGES;
 
 // The instruction with these numbers; of a code that there is not, one that no program has.
 fn instruction_by(code: u8, d: u8, s: u8, imm: u32) -> Instruction
-    ensures { result ≡ instructionBy code d s imm }
+    ensures { result ≡ instruction_by code d s imm }
 {
     if !((1 <= code) & (code <= 6)) {
         return Instruction::Add(255, 255, 0);
@@ -26,7 +26,7 @@ fn instruction_by(code: u8, d: u8, s: u8, imm: u32) -> Instruction
 }
 
 fn fate_by(executed: u8, value: u32, address: u32) -> Fate
-    ensures { result ≡ fateBy executed value address }
+    ensures { result ≡ fate_by executed value address }
 {
     if executed == 0 {
         return Fate::Waiting;
@@ -35,7 +35,7 @@ fn fate_by(executed: u8, value: u32, address: u32) -> Fate
 }
 
 fn entry_by(x: Slot) -> Entry
-    ensures { result ≡ entryBy x }
+    ensures { result ≡ entry_by x }
 {
     let instruction = instruction_by(x.code, x.d, x.s, x.imm);
     let fate = fate_by(x.executed, x.value, x.address);
@@ -57,7 +57,7 @@ struct Four {
 }
 
 fn four_of(i: Instruction) -> Four
-    ensures { (result.code ≡ code_of i) × (result.d ≡ dOf i) × (result.s ≡ sOf i) × (result.imm ≡ immOf i) }
+    ensures { (result.code ≡ code_of i) × (result.d ≡ d_of i) × (result.s ≡ s_of i) × (result.imm ≡ imm_of i) }
 {
     match i {
         Instruction::Add(d, s, imm) => Four { code: 1, d, s, imm },
@@ -78,7 +78,7 @@ struct Three {
 }
 
 fn three_of(f: Fate) -> Three
-    ensures { (result.executed ≡ executedOf f) × (result.value ≡ valueBy f) × (result.address ≡ addressBy f) }
+    ensures { (result.executed ≡ executed_of f) × (result.value ≡ value_by f) × (result.address ≡ address_by f) }
 {
     match f {
         Fate::Waiting => Three {
@@ -95,7 +95,7 @@ fn three_of(f: Fate) -> Three
 }
 
 fn slot_of(e: Entry) -> Slot
-    ensures { result ≡ slotOf e }
+    ensures { result ≡ slot_of e }
 {
     let i = e.instruction;
     let fate = e.fate;
@@ -115,7 +115,7 @@ fn slot_of(e: Entry) -> Slot
 }
 
 fn window_by(w: [Slot; STAGES]) -> [Entry; STAGES]
-    ensures { result ≡ map entryBy w }
+    ensures { result ≡ map entry_by w }
 {
     let mut a = [Entry {
         instruction: Instruction::Add(0, 0, 0),
@@ -133,7 +133,7 @@ fn window_by(w: [Slot; STAGES]) -> [Entry; STAGES]
 }
 
 fn window_of(w: [Entry; STAGES]) -> [Slot; STAGES]
-    ensures { result ≡ map slotOf w }
+    ensures { result ≡ map slot_of w }
 {
     let mut a = [Slot {
         code: 0,
@@ -156,7 +156,7 @@ fn window_of(w: [Entry; STAGES]) -> [Slot; STAGES]
 }
 
 pub fn machine_by(m: Image) -> Machine
-    ensures { result ≡ machineBy m }
+    ensures { result ≡ machine_by m }
 {
     let table = m.table;
     let w = m.window;
@@ -189,7 +189,7 @@ pub fn image_of(m: Machine) -> Image
 
 // What crosses: of a refusal the image that was passed.
 pub fn crossed(passed: Image, m: Machine, numbers: Numbers) -> Answered
-    ensures { result ≡ answeredBy passed m numbers }
+    ensures { result ≡ answered_by passed m numbers }
 {
     if numbers.refusal != 0 {
         return Answered {
@@ -229,7 +229,7 @@ fn numbers_by(
 }
 
 pub fn done_numbers(answer: DoneAnswer) -> Numbers
-    ensures { result ≡ numbersOf (doneSays answer) }
+    ensures { result ≡ numbers_of (done_says answer) }
 {
     match answer {
         DoneAnswer::Refused(k) => numbers_by(k, 0, 0, 0, 0, 0, 0, 0, 0),
@@ -238,7 +238,7 @@ pub fn done_numbers(answer: DoneAnswer) -> Numbers
 }
 
 pub fn issue_numbers(answer: IssueAnswer) -> Numbers
-    ensures { result ≡ numbersOf (issueSays answer) }
+    ensures { result ≡ numbers_of (issue_says answer) }
 {
     match answer {
         IssueAnswer::Refused(k) => numbers_by(k, 0, 0, 0, 0, 0, 0, 0, 0),
@@ -247,7 +247,7 @@ pub fn issue_numbers(answer: IssueAnswer) -> Numbers
 }
 
 pub fn execute_numbers(answer: ExecuteAnswer) -> Numbers
-    ensures { result ≡ numbersOf (executeSays answer) }
+    ensures { result ≡ numbers_of (execute_says answer) }
 {
     match answer {
         ExecuteAnswer::Refused(k) => numbers_by(k, 0, 0, 0, 0, 0, 0, 0, 0),
@@ -259,7 +259,7 @@ pub fn execute_numbers(answer: ExecuteAnswer) -> Numbers
 }
 
 pub fn commit_numbers(answer: CommitAnswer) -> Numbers
-    ensures { result ≡ numbersOf (commitSays answer) }
+    ensures { result ≡ numbers_of (commit_says answer) }
 {
     match answer {
         CommitAnswer::Refused(k) => numbers_by(k, 0, 0, 0, 0, 0, 0, 0, 0),
@@ -268,7 +268,7 @@ pub fn commit_numbers(answer: CommitAnswer) -> Numbers
 }
 
 pub fn finish_numbers(answer: FinishAnswer) -> Numbers
-    ensures { result ≡ numbersOf (finishSays answer) }
+    ensures { result ≡ numbers_of (finish_says answer) }
 {
     match answer {
         FinishAnswer::Refused(k) => numbers_by(k, 0, 0, 0, 0, 0, 0, 0, 0),

@@ -23,27 +23,27 @@ abbrev pub order : List ℕ
 order = 1 ∷ 2 ∷ 3 ∷ 4 ∷ 5 ∷ 6 ∷ 7 ∷ 8 ∷ 9 ∷ 10 ∷ 11 ∷ 12 ∷ 13 ∷ 14 ∷ []
 
 -- the place of k among these numbers, the first of which has place n; 0 where it is none of them
-abbrev pub rankFrom : ℕ → List ℕ → ℕ → ℕ
-rankFrom n [] k = 0
-rankFrom n (j ∷ js) k = cond (eqb j k) n (rankFrom (suc n) js k)
+abbrev pub rank_from : ℕ → List ℕ → ℕ → ℕ
+rank_from n [] k = 0
+rank_from n (j ∷ js) k = cond (eqb j k) n (rank_from (suc n) js k)
 
 -- the place of k in the order, from 1 on; 0 where it does not stand there, as 0 does not, which is no refusal
 abbrev pub rank : ℕ → ℕ
-rank k = rankFrom 1 order k
+rank k = rank_from 1 order k
 
 -- these conditions are in that order, and behind number `low`
-abbrev pub risingFrom : ℕ → List Check → Bool
-risingFrom low [] = true
-risingFrom low (when c k ∷ checks) = ltb (rank low) (rank k) && risingFrom k checks
+abbrev pub rising_from : ℕ → List Check → Bool
+rising_from low [] = true
+rising_from low (when c k ∷ checks) = ltb (rank low) (rank k) && rising_from k checks
 
 -- Checks go in the order, and each number stands in it. Then the number of a refusal is the first of those whose condition
 -- holds (proofs/Refusing.antt), and the smallest, as the order rises (proofs/Smallest.antt).
 abbrev pub rising : List Check → Bool
-rising checks = risingFrom 0 checks
+rising checks = rising_from 0 checks
 
 -- memory length is not W
-abbrev pub wrongLength : ℕ → List ℕ → Check
-wrongLength words memory = when (not (eqb (length memory) words)) 3
+abbrev pub wrong_length : ℕ → List ℕ → Check
+wrong_length words memory = when (not (eqb (length memory) words)) 3
 
 -- it executed at an address of W or more
 abbrev pub faults : ℕ → Fate → Bool

@@ -8,11 +8,11 @@ use Rattle.engine.specs.Part.{word_of, whole}
 
 -- The fate of a reference that executed this where the memory is seen as μ: a load keeps the word that it took. A store of a
 -- part loads the word and then stores the whole of it.
-abbrev pub fateBy : (ℕ → ℕ) → Action → Fate
-fateBy μ (Compute v) = other
-fateBy μ (LoadAt a) = loaded a (μ a)
-fateBy μ (StoreAt a v) = stored a v
-fateBy μ (PartAt part b v) = merged (word_of b) (μ (word_of b)) (whole part b (μ (word_of b)) v)
+abbrev pub fate_by : (ℕ → ℕ) → Action → Fate
+fate_by μ (Compute v) = other
+fate_by μ (LoadAt a) = loaded a (μ a)
+fate_by μ (StoreAt a v) = stored a v
+fate_by μ (PartAt part b v) = merged (word_of b) (μ (word_of b)) (whole part b (μ (word_of b)) v)
 
 -- The number that its execution answers: of a load what f says of its address, else 0. For the value f is the memory as seen,
 -- for the distance how far a word of it came.
@@ -23,12 +23,12 @@ answer_of f (StoreAt a v) = 0
 answer_of f (PartAt part b v) = 0
 
 -- memory with a store's word at address a, if there is one
-abbrev pub writtenAt : List ℕ → ℕ → Side → List ℕ
-writtenAt memory a lacks = memory
-writtenAt memory a (holds v) = set memory a v
+abbrev pub written_at : List ℕ → ℕ → Side → List ℕ
+written_at memory a lacks = memory
+written_at memory a (holds v) = set memory a v
 
 -- memory after the commit of a reference with this fate: a store writes its word
 abbrev pub written : List ℕ → Fate → List ℕ
 written memory waiting = memory
 written memory other = memory
-written memory (accessed a l s) = writtenAt memory a s
+written memory (accessed a l s) = written_at memory a s

@@ -5,14 +5,14 @@
 // was passed with these.
 ghost use Rattle.std.specs.Prelude.{◌≡◌, false, cond, ◌≤◌, ◌<◌, length, get_or, set};
 ghost use Rattle.marks.specs.Stages.{width};
-ghost use Rattle.table.specs.Limits.{banksMost, rowsMost, stagesMost, slots, rowsIn};
-ghost use Rattle.lookup.specs.computed.Search.{markedFate};
+ghost use Rattle.table.specs.Limits.{banks_most, rows_most, stages_most, slots, rows_in};
+ghost use Rattle.lookup.specs.Computed.Search.{marked_fate};
 ghost use Rattle.engine.specs.Conditions.{faults};
 ghost use Rattle.engine.specs.Opening.{fresh};
 ghost use Rattle.engine.specs.Execution.{written};
 ghost use Rattle.engine.specs.Part.{whole};
-ghost use Rattle.engine.specs.computed.Steps.{within, cutMarks, marking, keeping};
-ghost use Rattle.engine.specs.computed.Effect.{addressIn, isPart, wordAddress, wordBelow, effect_of, answered};
+ghost use Rattle.engine.specs.Computed.Steps.{within, cut_marks, marking, keeping};
+ghost use Rattle.engine.specs.Computed.Effect.{address_in, is_part, word_address, word_below, effect_of, answered};
 
 use engine::{Action, Effect, Part};
 use lookup::Mark;
@@ -68,7 +68,7 @@ fn merge(part: Part, b: u32, w: u32, v: u32) -> u32
 
 // The action's address as it stands in it, of a part's store the byte number; any, 0, where it has none.
 fn address_in(action: Action) -> u32
-    ensures { result ≡ addressIn action }
+    ensures { result ≡ address_in action }
 {
     match action {
         Action::Compute(_) => 0,
@@ -80,7 +80,7 @@ fn address_in(action: Action) -> u32
 
 // Whether it is a store of a part.
 fn is_part(action: Action) -> bool
-    ensures { result ≡ isPart action }
+    ensures { result ≡ is_part action }
 {
     match action {
         Action::Compute(_) => false,
@@ -93,7 +93,7 @@ fn is_part(action: Action) -> bool
 // The number of the word that the action goes to. One test on the number that every action has: a match with an arm for each
 // would be one jump more that depends on what is executed.
 pub fn word_address(action: Action) -> u32
-    ensures { result ≡ wordAddress action }
+    ensures { result ≡ word_address action }
 {
     let n = address_in(action);
     if is_part(action) {
@@ -104,7 +104,7 @@ pub fn word_address(action: Action) -> u32
 
 // The memory's word there: what stands below the table.
 pub fn word_below(memory: &[u32], action: Action) -> u32
-    ensures { result ≡ wordBelow memory.now action }
+    ensures { result ≡ word_below memory.now action }
 {
     lookup_marks::word(memory, word_address(action))
 }
@@ -125,10 +125,10 @@ pub fn effect_of<'a>(
     action: Action,
     below: u32,
 ) -> Effect
-    requires banks_nonzero { (0 < banks) × (banks ≤ banksMost) × (0 < rows) × (rows ≤ rowsMost)
-        × (oldest < stages) × (live ≤ stages) × (stages ≤ stagesMost) × (p < live) }
+    requires banks_nonzero { (0 < banks) × (banks ≤ banks_most) × (0 < rows) × (rows ≤ rows_most)
+        × (oldest < stages) × (live ≤ stages) × (stages ≤ stages_most) × (p < live) }
     requires addresses_len { (length addresses.now ≡ slots) × (length loads.now ≡ slots) × (length stores.now ≡ slots)
-        × (length values.now ≡ stagesMost) × (length taken.now ≡ stagesMost) }
+        × (length values.now ≡ stages_most) × (length taken.now ≡ stages_most) }
     ensures { result
         ≡ effect_of banks rows stages oldest live addresses.now loads.now stores.now
         values.now taken.now p below action }
@@ -211,8 +211,8 @@ pub fn effect_of<'a>(
 
 // Drops every mark outside the set `stay`.
 pub fn keep(words: &mut [u32; SLOTS], banks: usize, stay: u32)
-    requires { (banks ≤ banksMost) × (length words.old ≡ slots) }
-    ensures { words.new ≡ within (rowsIn banks) words.old stay }
+    requires { (banks ≤ banks_most) × (length words.old ≡ slots) }
+    ensures { words.new ≡ within (rows_in banks) words.old stay }
 {
     let end = banks * ROWS;
     let mut i = 0;
@@ -231,9 +231,9 @@ pub fn cut(
     live: usize,
     left: usize,
 )
-    requires banks_le_banks_most { (banks ≤ banksMost) × (length words.old ≡ slots) }
+    requires banks_le_banks_most { (banks ≤ banks_most) × (length words.old ≡ slots) }
     requires oldest_lt_stages { (oldest < stages) × (left ≤ stages) × (stages ≤ width) }
-    ensures { words.new ≡ cutMarks banks oldest stages live left words.old }
+    ensures { words.new ≡ cut_marks banks oldest stages live left words.old }
 {
     if left < live {
         keep(words, banks, marks::first_stages(oldest, stages, left));
@@ -242,7 +242,7 @@ pub fn cut(
 
 // What stands at stage `s` of an array by stage.
 pub fn at_stage(a: &[u32; STAGES], s: usize) -> u32
-    requires { (s < stagesMost) × (length a.now ≡ stagesMost) }
+    requires { (s < stages_most) × (length a.now ≡ stages_most) }
     ensures { result ≡ get_or a.now s 0 }
 {
     a[s]
@@ -250,7 +250,7 @@ pub fn at_stage(a: &[u32; STAGES], s: usize) -> u32
 
 // Element `i` of an array by stage becomes `v`.
 pub fn set_number(a: &mut [u32; STAGES], i: usize, v: u32)
-    requires { i < stagesMost }
+    requires { i < stages_most }
     ensures { a.new ≡ set a.old i v }
 {
     a[i] = v;
@@ -267,7 +267,7 @@ pub fn set_word(a: &mut [u32; SLOTS], on: bool, i: usize, v: u32)
 }
 
 pub fn set_value(a: &mut [u32; STAGES], on: bool, i: usize, v: u32)
-    requires { i < stagesMost }
+    requires { i < stages_most }
     ensures { a.new ≡ keeping a.old on i v }
 {
     if on {
@@ -301,7 +301,7 @@ pub fn answered(load: bool, store: bool, value: u32) -> u32
 
 // Whether the mark's address is `words` or more.
 pub fn mark_faults(mark: Mark, words: usize) -> bool
-    ensures { result ≡ faults words (markedFate mark) }
+    ensures { result ≡ faults words (marked_fate mark) }
 {
     match mark {
         Mark::Absent => false,
@@ -312,8 +312,8 @@ pub fn mark_faults(mark: Mark, words: usize) -> bool
 
 // Writes a store's word to memory.
 pub fn write_back(memory: &mut [u32], mark: Mark)
-    requires { faults (length memory.old) (markedFate mark) ≡ false }
-    ensures { memory.new ≡ written memory.old (markedFate mark) }
+    requires { faults (length memory.old) (marked_fate mark) ≡ false }
+    ensures { memory.new ≡ written memory.old (marked_fate mark) }
 {
     if let Mark::Store(a, v) = mark {
         memory[a as usize] = v;

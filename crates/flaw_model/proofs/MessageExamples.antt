@@ -5,15 +5,15 @@ use mathlib.Core.Path.{◌≡◌, refl}
 use mathlib.Core.List.{List, [], ◌∷◌}
 use Prim.Native.String.{String, ◌++◌ as ◌&◌}
 use Rattle.text.specs.Decimal.{digits, decimal}
-use Rattle.text.specs.Fields.{largest, fieldsText, bytes}
+use Rattle.text.specs.Fields.{largest, fields_text, bytes}
 use Rattle.text.specs.Lines.{lines_from}
-use Rattle.text.proofs.Trip.{written-fields}
+use Rattle.text.proofs.Trip.{written_fields}
 use Rattle.flaw_model.specs.declared.Reason.TheVariants.{TooLong, Full}
 use Rattle.flaw_model.specs.declared.Flaw.{Flaw}
-use Rattle.script_model.specs.Language.{codeFrom}
-use Rattle.flaw_model.specs.Flaw.{commas, noNumber, flawAt, flawFrom, flawOf}
+use Rattle.script_model.specs.Language.{code_from}
+use Rattle.flaw_model.specs.Flaw.{commas, no_number, flaw_at, flaw_from, flaw_of}
 use Rattle.text.specs.Ascii.{ascii}
-use Rattle.flaw_model.specs.Message.{largestText, messageText}
+use Rattle.flaw_model.specs.Message.{largest_text, message_text}
 
 -- what is found, and the message that it should have
 record Row : Type 0 where
@@ -26,7 +26,7 @@ number = "expected a number from 0 to 4294967295 without extra leading zeros\n"
 
 infix 30 ◌gives◌
 abbrev ◌gives◌ : String → String → Row
-script gives message = record { found = flawOf (ascii script); says = message }
+script gives message = record { found = flaw_of (ascii script); says = message }
 
 abbrev rows : List Row
 rows =
@@ -62,28 +62,28 @@ rows =
     ∷ ("N,1,1,1,1\nH,8,0,4\n" gives "arb: line 2: field 2 (d) of 'H,d,s,imm': found 8, expected a register from 0 to 7\n")
     ∷ ("N,1,1,1,1\nP,1,0,8\n" gives "arb: line 2: field 4 (imm) of 'P,d,s,imm': found 8, expected a register from 0 to 7\n")
     ∷ ("N,1,1,1,1\ni\nA,1,0,5\n" gives "arb: line 3: found an instruction after a step, expected a step\n")
-    ∷ (record { found = flawAt 0 TooLong; says = "arb: line 0: found over 65536 bytes of input, expected at most 65536\n" })
-    ∷ (record { found = flawAt 258 Full; says = "arb: line 258: found a 257th instruction, expected at most 256\n" })
+    ∷ (record { found = flaw_at 0 TooLong; says = "arb: line 0: found over 65536 bytes of input, expected at most 65536\n" })
+    ∷ (record { found = flaw_at 258 Full; says = "arb: line 258: found a 257th instruction, expected at most 256\n" })
     ∷ []
 
 -- the message of each row is as it says
 abbrev Hold : List Row → Type 0
 Hold [] = Unit {0}
-Hold (r ∷ rs) = (messageText r.found ≡ ascii r.says) × Hold rs
+Hold (r ∷ rs) = (message_text r.found ≡ ascii r.says) × Hold rs
 
 infixr 20 ◌also◌
 abbrev ◌also◌ : {A B : Type 0} → A → B → A × B
 a also b = (a, b)
 
-messages-are : Hold rows
-unfolding flawOf lines_from bytes codeFrom commas noNumber flawFrom ascii digits
-messages-are =
+messages_are : Hold rows
+unfolding flaw_of lines_from bytes code_from commas no_number flaw_from ascii digits
+messages_are =
     refl also refl also refl also refl also refl also refl also refl also refl also refl also refl also
     refl also refl also refl also refl also refl also refl also refl also refl also refl also refl also
     refl also refl also refl also refl also refl also refl also refl also refl also refl also refl also
     refl also refl also refl also tt
 
 -- "4294967295" reads as the largest number, and what reads as a number is its decimal
-pub largest-written : largestText ≡ decimal largest
-unfolding ascii bytes fieldsText
-largest-written = (written-fields largest largestText (largest ∷ []) refl).0
+pub largest_written : largest_text ≡ decimal largest
+unfolding ascii bytes fields_text
+largest_written = (written_fields largest largest_text (largest ∷ []) refl).0

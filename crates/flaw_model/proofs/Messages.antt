@@ -11,6 +11,6 @@ pub writes_as : {out into xs ys : List ℕ} {at e : ℕ} → Writes out at ys in
 writes_as {out} {into} {xs} {ys} {at} {e} w h = subst (λ (zs : List ℕ). Writes out at zs into e) (sym h) w
 
 -- and within a wider bound
-pub writes-in : {out into xs ys : List ℕ} {at e m n : ℕ} → Writes out at ys into e × (e ≤ at + m) → xs ≡ ys → m ≤ n
+pub writes_in : {out into xs ys : List ℕ} {at e m n : ℕ} → Writes out at ys into e × (e ≤ at + m) → xs ≡ ys → m ≤ n
     → Writes out at xs into e × (e ≤ at + n)
-writes-in p h l = (writes_as p.0 h, omega (arith, p.1))
+writes_in p h l = (writes_as p.0 h, omega (arith, p.1))

@@ -8,8 +8,8 @@ use Rattle.std.specs.Prelude.{Bool, true, false, cond, ◌&&◌, ◌||◌, List,
 use Rattle.std.proofs.Math.Option.{Option, none, some}
 use Rattle.text.specs.Fields.{largest, Open, empty, value}
 use Rattle.text.specs.Lines.{Lines, lines_of}
-use Rattle.table.specs.Limits.{banksMost, rowsMost, stagesMost, wordsMost}
-use Rattle.machine_model.specs.Program.{instructionsMost, lastRegister, wellFormed}
+use Rattle.table.specs.Limits.{banks_most, rows_most, stages_most, words_most}
+use Rattle.machine_model.specs.Program.{instructions_most, last_register, well_formed}
 use Rattle.machine_model.specs.Calls.{Opening, banked}
 use Rattle.script_model.specs.declared.Item.{Item}
 use Rattle.script_model.specs.declared.Item.TheVariants.{Malformed, Sizes, Operation, Issue, Execute, Squash, Commit}
@@ -22,7 +22,7 @@ use Rattle.flaw_model.specs.declared.Took.TheVariants.{Ends, Grows, Wrong}
 use Rattle.flaw_model.specs.declared.Reason.{Reason}
 use Rattle.flaw_model.specs.declared.Reason.TheVariants as why
 use Rattle.flaw_model.specs.declared.Flaw.{Flaw}
-use Rattle.script_model.specs.Language.{letterCode, parsedLine}
+use Rattle.script_model.specs.Language.{letter_code, parsed_line}
 use Rattle.script_model.specs.Output.{most}
 
 -- ---- a line that is none of the forms
@@ -33,7 +33,7 @@ abbrev pub arity : ℕ → ℕ
 arity b =
     cond (eqb b 105 || eqb b 99) 1
     (cond (eqb b 101 || eqb b 113 || eqb b 120) 2
-    (cond (ltb 0 (letterCode b)) 4 (cond (eqb b 78) 5 0)))
+    (cond (ltb 0 (letter_code b)) 4 (cond (eqb b 78) 5 0)))
 
 -- how many commas there are
 unfoldable pub commas : List ℕ → ℕ
@@ -41,17 +41,17 @@ commas [] = 0
 commas (b ∷ bs) = cond (eqb b 44) (suc (commas bs)) (commas bs)
 
 -- a comma after an open field; a digit d; any byte
-abbrev pub commaTook : Open → Took
-commaTook empty = Wrong Missing
-commaTook (value x) = Ends
+abbrev pub comma_took : Open → Took
+comma_took empty = Wrong Missing
+comma_took (value x) = Ends
 
-abbrev pub digitTook : Open → ℕ → Took
-digitTook empty d = Grows d
-digitTook (value x) d =
+abbrev pub digit_took : Open → ℕ → Took
+digit_took empty d = Grows d
+digit_took (value x) d =
     cond (ltb 0 x) (cond (leb (x * 10 + d) largest) (Grows (x * 10 + d)) (Wrong Large)) (Wrong Zero)
 
 abbrev pub took : Open → ℕ → Took
-took o b = cond (eqb b 44) (commaTook o) (cond (leb 48 b && leb b 57) (digitTook o (b - 48)) (Wrong (Stray b)))
+took o b = cond (eqb b 44) (comma_took o) (cond (leb 48 b && leb b 57) (digit_took o (b - 48)) (Wrong (Stray b)))
 
 abbrev pub following : ℕ → ℕ → Took → Reason → (ℕ → Reason) → Reason
 following letter k Ends next grown = next
@@ -59,18 +59,18 @@ following letter k (Grows x) next grown = grown x
 following letter k (Wrong d) next grown = why.Field letter k d
 
 -- the first of these fields, of which the open one is field k, that is no number
-unfoldable pub noNumber : ℕ → ℕ → Open → List ℕ → Reason
-noNumber letter k empty [] = why.Field letter k Missing
-noNumber letter k (value x) [] = why.Fine
-noNumber letter k o (b ∷ bs) =
-    following letter k (took o b) (noNumber letter (suc k) empty bs) (λ (x : ℕ). noNumber letter k (value x) bs)
+unfoldable pub no_number : ℕ → ℕ → Open → List ℕ → Reason
+no_number letter k empty [] = why.Field letter k Missing
+no_number letter k (value x) [] = why.Fine
+no_number letter k o (b ∷ bs) =
+    following letter k (took o b) (no_number letter (suc k) empty bs) (λ (x : ℕ). no_number letter k (value x) bs)
 
 -- what stands behind a letter
 abbrev pub behind : ℕ → List ℕ → Reason
 behind letter [] = why.Count letter 1
 behind letter (c ∷ bs) =
     cond (eqb c 44)
-    (cond (eqb (commas bs + 2) (arity letter)) (noNumber letter 2 empty bs) (why.Count letter (commas bs + 2)))
+    (cond (eqb (commas bs + 2) (arity letter)) (no_number letter 2 empty bs) (why.Count letter (commas bs + 2)))
     (why.Glued letter c)
 
 abbrev pub malformed : List ℕ → Reason
@@ -82,17 +82,17 @@ malformed (b ∷ bs) =
 -- ---- a line at its place
 
 -- the first line that is no line of sizes
-abbrev pub noSizes : List ℕ → Reason
-noSizes [] = why.Blank
-noSizes (b ∷ bs) = cond (eqb b 78) (malformed (b ∷ bs)) (why.NoSizes b)
+abbrev pub no_sizes : List ℕ → Reason
+no_sizes [] = why.Blank
+no_sizes (b ∷ bs) = cond (eqb b 78) (malformed (b ∷ bs)) (why.NoSizes b)
 
 -- the leftmost of an opening's sizes outside its limits
 abbrev pub unfit : Opening → Reason
 unfit (banked banks rows stages words) =
-    cond (eqb banks 1 || eqb banks 2 || eqb banks 4 || eqb banks banksMost)
-    (cond (leb 1 rows && leb rows rowsMost)
-    (cond (leb 1 stages && leb stages stagesMost)
-    (cond (leb 1 words && leb words wordsMost) why.Fine (why.Field 78 5 (Beyond words)))
+    cond (eqb banks 1 || eqb banks 2 || eqb banks 4 || eqb banks banks_most)
+    (cond (leb 1 rows && leb rows rows_most)
+    (cond (leb 1 stages && leb stages stages_most)
+    (cond (leb 1 words && leb words words_most) why.Fine (why.Field 78 5 (Beyond words)))
     (why.Field 78 4 (Beyond stages)))
     (why.Field 78 3 (Beyond rows)))
     (why.Field 78 2 (Beyond banks))
@@ -100,105 +100,105 @@ unfit (banked banks rows stages words) =
 -- the leftmost register that is none
 abbrev pub unformed : ℕ → ℕ → ℕ → ℕ → ℕ → Reason
 unformed letter code d s imm =
-    cond (wellFormed code d s imm) why.Fine
-    (cond (leb d lastRegister)
-    (cond (leb s lastRegister) (why.Field letter 4 (Beyond imm)) (why.Field letter 3 (Beyond s)))
+    cond (well_formed code d s imm) why.Fine
+    (cond (leb d last_register)
+    (cond (leb s last_register) (why.Field letter 4 (Beyond imm)) (why.Field letter 3 (Beyond s)))
     (why.Field letter 2 (Beyond d)))
 
 -- what is wrong with each kind of line in each part
-abbrev pub ofMalformed : Part → List ℕ → Reason
-ofMalformed First line = noSizes line
-ofMalformed (Program room) line = malformed line
-ofMalformed Steps line = malformed line
+abbrev pub of_malformed : Part → List ℕ → Reason
+of_malformed First line = no_sizes line
+of_malformed (Program room) line = malformed line
+of_malformed Steps line = malformed line
 
-abbrev pub ofSizes : Part → Opening → Reason
-ofSizes First o = unfit o
-ofSizes (Program room) o = why.SizesAgain
-ofSizes Steps o = why.SizesAgain
+abbrev pub of_sizes : Part → Opening → Reason
+of_sizes First o = unfit o
+of_sizes (Program room) o = why.SizesAgain
+of_sizes Steps o = why.SizesAgain
 
-abbrev pub ofOperation : Part → ℕ → ℕ → ℕ → ℕ → ℕ → Reason
-ofOperation First letter code d s imm = why.NoSizes letter
-ofOperation (Program room) letter code d s imm = cond (ltb 0 room) (unformed letter code d s imm) why.Full
-ofOperation Steps letter code d s imm = why.Late
+abbrev pub of_operation : Part → ℕ → ℕ → ℕ → ℕ → ℕ → Reason
+of_operation First letter code d s imm = why.NoSizes letter
+of_operation (Program room) letter code d s imm = cond (ltb 0 room) (unformed letter code d s imm) why.Full
+of_operation Steps letter code d s imm = why.Late
 
-abbrev pub ofStep : Part → ℕ → Reason
-ofStep First letter = why.NoSizes letter
-ofStep (Program room) letter = why.Fine
-ofStep Steps letter = why.Fine
+abbrev pub of_step : Part → ℕ → Reason
+of_step First letter = why.NoSizes letter
+of_step (Program room) letter = why.Fine
+of_step Steps letter = why.Fine
 
-abbrev pub reasonIn : Part → Item → List ℕ → Reason
-reasonIn part Malformed line = ofMalformed part line
-reasonIn part (Sizes banks rows stages words) line = ofSizes part (banked banks rows stages words)
-reasonIn part (Operation code d s imm) line = ofOperation part (get_or line 0 0) code d s imm
-reasonIn part Issue line = ofStep part (get_or line 0 0)
-reasonIn part (Execute k) line = ofStep part (get_or line 0 0)
-reasonIn part (Squash k) line = ofStep part (get_or line 0 0)
-reasonIn part Commit line = ofStep part (get_or line 0 0)
-reasonIn part (Finish k) line = ofStep part (get_or line 0 0)
+abbrev pub reason_in : Part → Item → List ℕ → Reason
+reason_in part Malformed line = of_malformed part line
+reason_in part (Sizes banks rows stages words) line = of_sizes part (banked banks rows stages words)
+reason_in part (Operation code d s imm) line = of_operation part (get_or line 0 0) code d s imm
+reason_in part Issue line = of_step part (get_or line 0 0)
+reason_in part (Execute k) line = of_step part (get_or line 0 0)
+reason_in part (Squash k) line = of_step part (get_or line 0 0)
+reason_in part Commit line = of_step part (get_or line 0 0)
+reason_in part (Finish k) line = of_step part (get_or line 0 0)
 
 -- ---- the whole script
 
 -- the part of the line after an instruction, and after a step
-abbrev pub afterOperation : Part → Part
-afterOperation First = Program instructionsMost
-afterOperation (Program room) = Program (room - 1)
-afterOperation Steps = Steps
+abbrev pub after_operation : Part → Part
+after_operation First = Program instructions_most
+after_operation (Program room) = Program (room - 1)
+after_operation Steps = Steps
 
-abbrev pub afterOther : Part → Part
-afterOther First = Program instructionsMost
-afterOther (Program room) = Steps
-afterOther Steps = Steps
+abbrev pub after_other : Part → Part
+after_other First = Program instructions_most
+after_other (Program room) = Steps
+after_other Steps = Steps
 
-abbrev pub nextPart : Part → Item → Part
-nextPart part Malformed = afterOther part
-nextPart part (Sizes banks rows stages words) = afterOther part
-nextPart part (Operation code d s imm) = afterOperation part
-nextPart part Issue = afterOther part
-nextPart part (Execute k) = afterOther part
-nextPart part (Squash k) = afterOther part
-nextPart part Commit = afterOther part
-nextPart part (Finish k) = afterOther part
+abbrev pub next_part : Part → Item → Part
+next_part part Malformed = after_other part
+next_part part (Sizes banks rows stages words) = after_other part
+next_part part (Operation code d s imm) = after_operation part
+next_part part Issue = after_other part
+next_part part (Execute k) = after_other part
+next_part part (Squash k) = after_other part
+next_part part Commit = after_other part
+next_part part (Finish k) = after_other part
 
-abbrev pub isFine : Reason → Bool
-isFine why.Fine = true
-isFine why.TooLong = false
-isFine why.NoInput = false
-isFine why.Blank = false
-isFine why.Unended = false
-isFine why.CarriageReturn = false
-isFine (why.NoSizes b) = false
-isFine why.SizesAgain = false
-isFine (why.Letter b) = false
-isFine (why.Glued b c) = false
-isFine (why.Count b n) = false
-isFine (why.Field b k d) = false
-isFine why.Full = false
-isFine why.Late = false
+abbrev pub is_fine : Reason → Bool
+is_fine why.Fine = true
+is_fine why.TooLong = false
+is_fine why.NoInput = false
+is_fine why.Blank = false
+is_fine why.Unended = false
+is_fine why.CarriageReturn = false
+is_fine (why.NoSizes b) = false
+is_fine why.SizesAgain = false
+is_fine (why.Letter b) = false
+is_fine (why.Glued b c) = false
+is_fine (why.Count b n) = false
+is_fine (why.Field b k d) = false
+is_fine why.Full = false
+is_fine why.Late = false
 
-abbrev pub flawAt : ℕ → Reason → Flaw
-flawAt n r = record { line = n; reason = r }
+abbrev pub flaw_at : ℕ → Reason → Flaw
+flaw_at n r = record { line = n; reason = r }
 
 -- no line is left: on line 1 there was no input
-abbrev pub ofEnd : Part → Reason
-ofEnd First = why.NoInput
-ofEnd (Program room) = why.Fine
-ofEnd Steps = why.Fine
+abbrev pub of_end : Part → Reason
+of_end First = why.NoInput
+of_end (Program room) = why.Fine
+of_end Steps = why.Fine
 
 -- these lines from number n on, the first of which stands in this part, and the bytes after the last line feed
-unfoldable pub flawFrom : ℕ → Part → List (List ℕ) → List ℕ → Flaw
-flawFrom n part [] [] = flawAt n (ofEnd part)
-flawFrom n part [] (b ∷ rest) = flawAt n why.Unended
-flawFrom n part (line ∷ lines) rest =
-    cond (isFine (reasonIn part (parsedLine line) line))
-    (flawFrom (suc n) (nextPart part (parsedLine line)) lines rest)
-    (flawAt n (reasonIn part (parsedLine line) line))
+unfoldable pub flaw_from : ℕ → Part → List (List ℕ) → List ℕ → Flaw
+flaw_from n part [] [] = flaw_at n (of_end part)
+flaw_from n part [] (b ∷ rest) = flaw_at n why.Unended
+flaw_from n part (line ∷ lines) rest =
+    cond (is_fine (reason_in part (parsed_line line) line))
+    (flaw_from (suc n) (next_part part (parsed_line line)) lines rest)
+    (flaw_at n (reason_in part (parsed_line line) line))
 
-abbrev pub flawIn : ℕ → Part → Lines → Flaw
-flawIn n part ls = flawFrom n part ls.whole ls.rest
+abbrev pub flaw_in : ℕ → Part → Lines → Flaw
+flaw_in n part ls = flaw_from n part ls.whole ls.rest
 
-unfoldable pub flawOf : List ℕ → Flaw
-flawOf text = cond (ltb most (length text)) (flawAt 0 why.TooLong) (flawIn 1 First (lines_of text))
+unfoldable pub flaw_of : List ℕ → Flaw
+flaw_of text = cond (ltb most (length text)) (flaw_at 0 why.TooLong) (flaw_in 1 First (lines_of text))
 
 -- the number of the bad line, if there is one
-abbrev pub badNumber : Flaw → Option ℕ
-badNumber f = cond (isFine f.reason) none (some f.line)
+abbrev pub bad_number : Flaw → Option ℕ
+bad_number f = cond (is_fine f.reason) none (some f.line)

@@ -3,7 +3,7 @@
 -- Assumes nothing.
 use Rattle.std.specs.Prelude.{Bool, false, ◌&&◌, ◌||◌, not, List, [], ◌∷◌, ℕ, eqb, length, take}
 use Rattle.marks.specs.Counting.{count, last}
-use Rattle.table.specs.Reference.{Fate, waiting, other, accessed, Ref, ref, fateOf, at}
+use Rattle.table.specs.Reference.{Fate, waiting, other, accessed, Ref, ref, fate_of, at}
 
 -- a reference with this fate has executed to address a
 abbrev pub touches : ℕ → Fate → Bool
@@ -17,23 +17,23 @@ touched a [] = false
 touched a (ref n f ∷ refs) = touches a f || touched a refs
 
 -- address b is of bank h, and none of these older references has executed to it
-abbrev pub firstAccess : (ℕ → ℕ) → ℕ → ℕ → List Ref → Bool
-firstAccess β h b older = eqb (β b) h && not (touched b older)
+abbrev pub first_access : (ℕ → ℕ) → ℕ → ℕ → List Ref → Bool
+first_access β h b older = eqb (β b) h && not (touched b older)
 
 -- a reference with this fate, after these older ones, is the oldest mark of a row of bank h
-abbrev pub allocatesBy : (ℕ → ℕ) → ℕ → List Ref → Fate → Bool
-allocatesBy β h older waiting = false
-allocatesBy β h older other = false
-allocatesBy β h older (accessed b l s) = firstAccess β h b older
+abbrev pub allocates_by : (ℕ → ℕ) → ℕ → List Ref → Fate → Bool
+allocates_by β h older waiting = false
+allocates_by β h older other = false
+allocates_by β h older (accessed b l s) = first_access β h b older
 
 -- the reference at position p is the oldest mark of a row of bank h
-abbrev pub allocatesRow : (ℕ → ℕ) → ℕ → List Ref → ℕ → Bool
-allocatesRow β h refs p = allocatesBy β h (take p refs) (fateOf (at refs p))
+abbrev pub allocates_row : (ℕ → ℕ) → ℕ → List Ref → ℕ → Bool
+allocates_row β h refs p = allocates_by β h (take p refs) (fate_of (at refs p))
 
 -- how many rows of bank h are in use
-abbrev pub rowsInUse : (ℕ → ℕ) → ℕ → List Ref → ℕ
-rowsInUse β h refs = count (allocatesRow β h refs) (length refs)
+abbrev pub rows_in_use : (ℕ → ℕ) → ℕ → List Ref → ℕ
+rows_in_use β h refs = count (allocates_row β h refs) (length refs)
 
 -- the oldest mark of the row of bank h whose oldest mark is youngest
-abbrev pub youngestRow : (ℕ → ℕ) → ℕ → List Ref → ℕ
-youngestRow β h refs = last (allocatesRow β h refs) (length refs)
+abbrev pub youngest_row : (ℕ → ℕ) → ℕ → List Ref → ℕ
+youngest_row β h refs = last (allocates_row β h refs) (length refs)

@@ -2,8 +2,8 @@
 //
 // Inner crate: helpers on lent arrays. Positions are of the window of `stages` stages from stage `oldest` on.
 ghost use Rattle.std.specs.Prelude.{◌≡◌, ◌-◌, ◌≤◌, ◌<◌, length, get_or};
-ghost use Rattle.table.specs.Limits.{banksMost, stagesMost, slots, rowsIn};
-ghost use Rattle.lookup.specs.computed.Search.{seek, marked, nearest, forward, violationPoint, mark_of};
+ghost use Rattle.table.specs.Limits.{banks_most, stages_most, slots, rows_in};
+ghost use Rattle.lookup.specs.Computed.Search.{seek, marked, nearest, forward, violation_point, mark_of};
 
 use lookup::{Mark, Taken};
 use table::{ROWS, SLOTS, STAGES};
@@ -18,7 +18,7 @@ pub fn word(memory: &[u32], address: u32) -> u32
 
 // How many positions older than position `p` the nearest mark of `stores` is, or 0.
 pub fn nearest_store(oldest: usize, stages: usize, stores: u32, p: usize) -> usize
-    requires { (oldest < stages) × (p ≤ stages) × (stages ≤ stagesMost) }
+    requires { (oldest < stages) × (p ≤ stages) × (stages ≤ stages_most) }
     ensures { result ≡ nearest oldest stages stores p }
 {
     let mut q = p;
@@ -41,8 +41,8 @@ pub fn forwarded<'a>(
     p: usize,
     memory: u32,
 ) -> Taken
-    requires oldest_lt_stages { (oldest < stages) × (p ≤ stages) × (stages ≤ stagesMost) × (r < slots) }
-    requires stores_len { (length stores.now ≡ slots) × (length values.now ≡ stagesMost) }
+    requires oldest_lt_stages { (oldest < stages) × (p ≤ stages) × (stages ≤ stages_most) × (r < slots) }
+    requires stores_len { (length stores.now ≡ slots) × (length values.now ≡ stages_most) }
     ensures { result ≡ forward oldest stages stores.now values.now r p memory }
 {
     let d = nearest_store(oldest, stages, stores[r], p);
@@ -61,7 +61,7 @@ pub fn forwarded<'a>(
 
 // The first position from `from` on, below `live`, that is marked in `set`; `live` where none is.
 pub fn next_mark(oldest: usize, stages: usize, live: usize, set: u32, from: usize) -> usize
-    requires { (oldest < stages) × (live ≤ stages) × (stages ≤ stagesMost) × (from ≤ live) }
+    requires { (oldest < stages) × (live ≤ stages) × (stages ≤ stages_most) × (from ≤ live) }
     ensures { (result ≤ live) × (result ≡ seek (marked oldest stages set) (live - from) from) }
 {
     let mut q = from;
@@ -85,8 +85,8 @@ pub fn first_met(
     p: usize,
     v: u32,
 ) -> usize
-    requires { (oldest < stages) × (live ≤ stages) × (stages ≤ stagesMost) × (p < live) × (length taken.now ≡ stagesMost) }
-    ensures { result ≡ violationPoint oldest stages live load store taken.now p v }
+    requires { (oldest < stages) × (live ≤ stages) × (stages ≤ stages_most) × (p < live) × (length taken.now ≡ stages_most) }
+    ensures { result ≡ violation_point oldest stages live load store taken.now p v }
 {
     let q = next_mark(oldest, stages, live, load | store, p + 1);
     if q < live {
@@ -107,10 +107,10 @@ pub fn mark_at<'a>(
     values: &'a [u32; STAGES],
     s: usize,
 ) -> Mark
-    requires banks_le_banks_most { (banks ≤ banksMost) × (s < stagesMost) × (length addresses.now ≡ slots) × (length loads.now ≡ slots) }
-    requires stores_len { (length stores.now ≡ slots) × (length values.now ≡ stagesMost) }
+    requires banks_le_banks_most { (banks ≤ banks_most) × (s < stages_most) × (length addresses.now ≡ slots) × (length loads.now ≡ slots) }
+    requires stores_len { (length stores.now ≡ slots) × (length values.now ≡ stages_most) }
     ensures { result
-        ≡ mark_of addresses.now loads.now stores.now values.now s (rowsIn banks) }
+        ≡ mark_of addresses.now loads.now stores.now values.now s (rows_in banks) }
 {
     let mut i = banks * ROWS;
     while 0 < i {

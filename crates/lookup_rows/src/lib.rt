@@ -2,18 +2,18 @@
 //
 // Inner crate: helpers on lent arrays. Positions are of the window of `stages` stages from stage `oldest` on.
 ghost use Rattle.std.specs.Prelude.{◌≡◌, ◌-◌, ◌≤◌, ◌<◌, length};
-ghost use Rattle.table.specs.Limits.{banksMost, rowsMost, stagesMost, slots};
+ghost use Rattle.table.specs.Limits.{banks_most, rows_most, stages_most, slots};
 ghost use Rattle.table.specs.Bank.{bank};
-ghost use Rattle.lookup.specs.computed.Search.{
+ghost use Rattle.lookup.specs.Computed.Search.{
   find,
   free,
-  bankMarks,
-  openedAt,
+  bank_marks,
+  opened_at,
   evicted,
-  allocatedRow,
+  allocated_row,
   row_of,
-  placeFor,
-  leftAfter,
+  place_for,
+  left_after,
 };
 
 use lookup::Place;
@@ -21,8 +21,8 @@ use table::{ROWS, SLOTS, STAGES};
 
 // The marks of bank `b`, as one set of stages.
 fn bank_marks<'a>(rows: usize, loads: &'a [u32; SLOTS], stores: &'a [u32; SLOTS], b: usize) -> u32
-    requires { (rows ≤ rowsMost) × (b < banksMost) × (length loads.now ≡ slots) × (length stores.now ≡ slots) }
-    ensures { result ≡ bankMarks loads.now stores.now b rows }
+    requires { (rows ≤ rows_most) × (b < banks_most) × (length loads.now ≡ slots) × (length stores.now ≡ slots) }
+    ensures { result ≡ bank_marks loads.now stores.now b rows }
 {
     let mut set = 0;
     let mut i = 0;
@@ -45,10 +45,10 @@ fn row_opened<'a>(
     b: usize,
     q: usize,
 ) -> usize
-    requires oldest_lt_stages { (oldest < stages) × (live ≤ stages) × (stages ≤ stagesMost) × (q < live)
-        × (rows ≤ rowsMost) × (b < banksMost) }
+    requires oldest_lt_stages { (oldest < stages) × (live ≤ stages) × (stages ≤ stages_most) × (q < live)
+        × (rows ≤ rows_most) × (b < banks_most) }
     requires loads_len { (length loads.now ≡ slots) × (length stores.now ≡ slots) }
-    ensures { (result ≤ rows) × (result ≡ openedAt oldest stages live rows loads.now stores.now b q) }
+    ensures { (result ≤ rows) × (result ≡ opened_at oldest stages live rows loads.now stores.now b q) }
 {
     let older = marks::first_stages(oldest, stages, q);
     let s = marks::stage_at(oldest, stages, q);
@@ -76,7 +76,7 @@ fn evict_row<'a>(
     b: usize,
     p: usize,
 ) -> Place
-    requires oldest_lt_stages { (oldest < stages) × (live ≤ stages) × (stages ≤ stagesMost) × (rows ≤ rowsMost) × (b < banksMost) }
+    requires oldest_lt_stages { (oldest < stages) × (live ≤ stages) × (stages ≤ stages_most) × (rows ≤ rows_most) × (b < banks_most) }
     requires loads_len { (length loads.now ≡ slots) × (length stores.now ≡ slots) }
     ensures { result ≡ evicted oldest stages live rows loads.now stores.now b p }
 {
@@ -101,7 +101,7 @@ fn evict_row<'a>(
 
 // One more than the place in bank `b` of a free row, or 0.
 fn free_row<'a>(rows: usize, loads: &'a [u32; SLOTS], stores: &'a [u32; SLOTS], b: usize) -> usize
-    requires { (rows ≤ rowsMost) × (b < banksMost) × (length loads.now ≡ slots) × (length stores.now ≡ slots) }
+    requires { (rows ≤ rows_most) × (b < banks_most) × (length loads.now ≡ slots) × (length stores.now ≡ slots) }
     ensures { (result ≤ rows) × (result ≡ find (free loads.now stores.now b) rows) }
 {
     let mut i = rows;
@@ -126,9 +126,9 @@ pub fn take_row<'a>(
     b: usize,
     p: usize,
 ) -> Place
-    requires oldest_lt_stages { (oldest < stages) × (live ≤ stages) × (stages ≤ stagesMost) × (rows ≤ rowsMost) × (b < banksMost) }
+    requires oldest_lt_stages { (oldest < stages) × (live ≤ stages) × (stages ≤ stages_most) × (rows ≤ rows_most) × (b < banks_most) }
     requires loads_len { (length loads.now ≡ slots) × (length stores.now ≡ slots) }
-    ensures { result ≡ allocatedRow oldest stages live rows loads.now stores.now b p }
+    ensures { result ≡ allocated_row oldest stages live rows loads.now stores.now b p }
 {
     let i = free_row(rows, loads, stores, b);
     if i != 0 {
@@ -149,7 +149,7 @@ pub fn row_of<'a>(
     b: usize,
     a: u32,
 ) -> usize
-    requires rows_le_rows_most { (rows ≤ rowsMost) × (b < banksMost) }
+    requires rows_le_rows_most { (rows ≤ rows_most) × (b < banks_most) }
     requires addresses_len { (length addresses.now ≡ slots) × (length loads.now ≡ slots) × (length stores.now ≡ slots) }
     ensures { (result ≤ rows) × (result ≡ row_of rows addresses.now loads.now stores.now b a) }
 {
@@ -177,12 +177,12 @@ pub fn place_of<'a>(
     a: u32,
     p: usize,
 ) -> Place
-    requires banks_nonzero { (0 < banks) × (banks ≤ banksMost) × (rows ≤ rowsMost)
-        × (oldest < stages) × (live ≤ stages) × (stages ≤ stagesMost) }
+    requires banks_nonzero { (0 < banks) × (banks ≤ banks_most) × (rows ≤ rows_most)
+        × (oldest < stages) × (live ≤ stages) × (stages ≤ stages_most) }
     requires addresses_len { (length addresses.now ≡ slots) × (length loads.now ≡ slots) × (length stores.now ≡ slots) }
     ensures { (result.row < slots)
         × (result
-        ≡ placeFor oldest stages live rows addresses.now loads.now stores.now
+        ≡ place_for oldest stages live rows addresses.now loads.now stores.now
         (bank banks a) a p) }
 {
     let b = table_rules::bank_of(banks, a);
@@ -210,10 +210,10 @@ pub fn left_after<'a>(
     p: usize,
     v: u32,
 ) -> usize
-    requires oldest_lt_stages { (oldest < stages) × (live ≤ stages) × (stages ≤ stagesMost) × (p < live) × (r < slots) }
-    requires loads_len { (length loads.now ≡ slots) × (length stores.now ≡ slots) × (length taken.now ≡ stagesMost) }
+    requires oldest_lt_stages { (oldest < stages) × (live ≤ stages) × (stages ≤ stages_most) × (p < live) × (r < slots) }
+    requires loads_len { (length loads.now ≡ slots) × (length stores.now ≡ slots) × (length taken.now ≡ stages_most) }
     ensures { result
-        ≡ leftAfter oldest stages live loads.now stores.now taken.now r left p v }
+        ≡ left_after oldest stages live loads.now stores.now taken.now r left p v }
 {
     if left < live {
         return left;

@@ -1,13 +1,13 @@
 // The call `commit`, which requires nothing; its contract is `Meets` of crates/machine_model/specs/Contract.antt.
 ghost use Rattle.std.specs.Prelude.{[]};
 ghost use Rattle.machine_model.specs.Calls.{commit};
-ghost use Rattle.machine_model.specs.Contract.{commitSays, Meets};
+ghost use Rattle.machine_model.specs.Contract.{commit_says, Meets};
 
 use machine_model::{CommitAnswer, CommitResult, Machine};
 
 // Commits the oldest entry: its register, or for S, B and H its memory word, takes the value.
 pub fn commit(mut m: Machine, program: &[u32], memory: &mut [u32]) -> CommitResult
-    ensures { Meets program.now m commit memory.old (commitSays result.answer) result.machine
+    ensures { Meets program.now m commit memory.old (commit_says result.answer) result.machine
         memory.new [] }
 {
     let window = m.window;

@@ -8,17 +8,17 @@ use mathlib.Core.List.{List, [], ◌∷◌, map}
 use Rattle.marks.specs.Circle.{firsts}
 use Rattle.marks.specs.Counting.{every}
 use Rattle.table.specs.Bank.{home, bank}
-use Rattle.table.specs.Limits.{sizesFit}
-use Rattle.table.specs.View.{markFate}
-use Rattle.table.specs.computed.Check.{marksBelow, rowFits, lawfulBy, lawful}
+use Rattle.table.specs.Limits.{sizes_fit}
+use Rattle.table.specs.View.{mark_fate}
+use Rattle.table.specs.Computed.Check.{marks_below, row_fits, lawful_by, lawful}
 use Rattle.machine_model.specs.declared.Machine.{Machine}
 use Rattle.machine_model.specs.Contract.{Sound}
 use Rattle.machine_examples.specs.Broken.{RefusesAll, Case, sound, broken, AllTold, cases}
-use Rattle.machine_model.proofs.Sounding.{agreeing, tests-sound, broken-tests}
+use Rattle.machine_model.proofs.Sounding.{agreeing, tests_sound, broken_tests}
 
 -- whatever call is made on a machine that breaks the rules is refused with 2
-pub broken-refuses : (m : Machine) → (Sound m → ⊥) → RefusesAll m
-broken-refuses m breaks program c w said u v kept meets = meets.broken breaks
+pub broken_refuses : (m : Machine) → (Sound m → ⊥) → RefusesAll m
+broken_refuses m breaks program c w said u v kept meets = meets.broken breaks
 
 -- the tests of a case, and what they are to say
 abbrev passes : Machine → Bool
@@ -34,9 +34,9 @@ says (broken m) = false
 
 each : (rows : List Case) → map tested rows ≡ map says rows → AllTold rows
 each [] h = tt
-each (sound m ∷ rows) h = (tests-sound m cc, each rows cc)
-each (broken m ∷ rows) h = let breaks = broken-tests m cc in ((breaks, broken-refuses m breaks), each rows cc)
+each (sound m ∷ rows) h = (tests_sound m cc, each rows cc)
+each (broken m ∷ rows) h = let breaks = broken_tests m cc in ((breaks, broken_refuses m breaks), each rows cc)
 
 pub all_told : AllTold cases
-unfolding cases lawfulBy rowFits marksBelow firsts every sizesFit home bank markFate
+unfolding cases lawful_by row_fits marks_below firsts every sizes_fit home bank mark_fate
 all_told = each cases refl

@@ -10,40 +10,40 @@ use native.Mathlib.Omega.{arith}
 use lib.ListN.{replicate, get_or-replicate}
 use Rattle.marks.specs.Counting.{every, count, last}
 use Rattle.table.specs.Bank.{home, bank}
-use Rattle.table.specs.Limits.{sizesFit}
+use Rattle.table.specs.Limits.{sizes_fit}
 use Rattle.lookup.specs.Forwarding.{seen, distance}
-use Rattle.lookup.specs.Violation.{keptYounger}
+use Rattle.lookup.specs.Violation.{kept_younger}
 use Rattle.lookup.specs.Rows.{touched}
-use Rattle.machine_model.specs.Program.{perInstruction, wellFormedAt, programFits}
-use Rattle.machine_model.specs.Window.{registerSeen}
+use Rattle.machine_model.specs.Program.{per_instruction, well_formed_at, program_fits}
+use Rattle.machine_model.specs.Window.{register_seen}
 use Rattle.machine_model.specs.Over
 use Rattle.machine_model.specs.Calls.{finishes, respond}
-use Rattle.machine_examples.specs.Examples.{Example, toldBy, seenOf, AllShown, told, played, shorter, examples}
+use Rattle.machine_examples.specs.Examples.{Example, told_by, seen_of, AllShown, told, played, shorter, examples}
 use Rattle.machine_examples.specs.Examples.{openings, refusals, unlikes, runs, parts, distances, same_words, numberings}
 use Rattle.machine_examples.specs.Examples.{longest, damaged}
 
 -- an equation of lists is one of each row
-each : (rows : List Example) → map seenOf rows ≡ map toldBy rows → AllShown rows
+each : (rows : List Example) → map seen_of rows ≡ map told_by rows → AllShown rows
 each [] h = tt
 each (e ∷ rows) h = (cc, each rows cc)
 
 -- instructions of the numbers 1, 1, 1, 1, of which the code alone leaves the last free
-ones : (n k : ℕ) → k * perInstruction ≤ n → every (wellFormedAt (replicate n 1)) k ≡ true
+ones : (n k : ℕ) → k * per_instruction ≤ n → every (well_formed_at (replicate n 1)) k ≡ true
 unfolding every
 ones n zero h = refl
 ones n (suc k) h =
     rw (
       ones n k (omega arith),
-      get_or-replicate {A = ℕ} n (k * perInstruction) 1 0 (omega arith),
-      get_or-replicate {A = ℕ} n (k * perInstruction + 1) 1 0 (omega arith),
-      get_or-replicate {A = ℕ} n (k * perInstruction + 2) 1 0 (omega arith),
+      get_or-replicate {A = ℕ} n (k * per_instruction) 1 0 (omega arith),
+      get_or-replicate {A = ℕ} n (k * per_instruction + 1) 1 0 (omega arith),
+      get_or-replicate {A = ℕ} n (k * per_instruction + 2) 1 0 (omega arith),
     ) refl
 
-longest-shown : seenOf longest ≡ toldBy longest
-unfolding longest programFits told played sizesFit
-longest-shown = rw (ones 1024 256 (omega arith)) refl
+longest_shown : seen_of longest ≡ told_by longest
+unfolding longest program_fits told played sizes_fit
+longest_shown = rw (ones 1024 256 (omega arith)) refl
 
 pub shown : AllShown examples
 unfolding openings refusals unlikes runs parts distances same_words numberings damaged told played Over.respond Over.finishes seen distance
-    keptYounger touched every count last home bank sizesFit programFits registerSeen
-shown = (longest-shown, each shorter refl)
+    kept_younger touched every count last home bank sizes_fit program_fits register_seen
+shown = (longest_shown, each shorter refl)

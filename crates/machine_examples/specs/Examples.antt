@@ -8,7 +8,7 @@ use Rattle.std.specs.Prelude.{◌≡◌, cond, List, [], ◌∷◌, ◌++◌, ma
 use Rattle.std.proofs.Math.Option.{Option, none, some}
 use Rattle.table.specs.Reference
 use Rattle.table.specs.Reference.{State, number_of, loaded, stored, merged}
-use Rattle.table.specs.Moves.{moved, withFate}
+use Rattle.table.specs.Moves.{moved, with_fate}
 use Rattle.engine.specs.Conditions.{refusal}
 use Rattle.engine.specs.Contract.{refused, done, named, executed, committed, finished}
 use Rattle.machine_model.specs.declared.Instruction.{Instruction}
@@ -16,10 +16,10 @@ use Rattle.machine_model.specs.declared.Instruction.TheVariants.{Add, Sum, Load,
 use Rattle.machine_model.specs.declared.Fate.{Fate}
 use Rattle.machine_model.specs.declared.Fate.TheVariants.{Waiting, Executed}
 use Rattle.machine_model.specs.declared.Entry.{Entry}
-use Rattle.machine_model.specs.Program.{instructionAt, sOf}
-use Rattle.machine_model.specs.Window.{blankEntry, reference}
-use Rattle.machine_model.specs.Calls.{Plain, Call, issue, execute, squash, commit, finish, lentTo, Answer, respond}
-use Rattle.machine_model.specs.Calls.{Opening, banked, openChecks, opened}
+use Rattle.machine_model.specs.Program.{instruction_at, s_of}
+use Rattle.machine_model.specs.Window.{blank_entry, reference}
+use Rattle.machine_model.specs.Calls.{Plain, Call, issue, execute, squash, commit, finish, lent_to, Answer, respond}
+use Rattle.machine_model.specs.Calls.{Opening, banked, open_checks, opened}
 
 -- A call and its answer, a list lent to it coming back as it was; a finish with its limit and list, its answer, and the list
 -- as it left it; the committed registers and the memory; the next issue number and those of the live references, oldest first.
@@ -49,7 +49,7 @@ pub data Sight : Type 0 where
 -- what the steps say is seen
 unfoldable pub told : List Step → List Sight
 told [] = []
-told (asks c a ∷ steps) = says a (lentTo c) ∷ told steps
+told (asks c a ∷ steps) = says a (lent_to c) ∷ told steps
 told (drains k list a left ∷ steps) = says a left ∷ told steps
 told (looks registers memory ∷ steps) = shows registers memory ∷ told steps
 told (numbers next live ∷ steps) = counts next live ∷ told steps
@@ -72,19 +72,19 @@ played program X memory (lend other words ∷ steps) = played other X words step
 played program X memory (damage f ∷ steps) = played program (f X) memory steps
 
 -- what a row says is seen, and what is, the opening first
-abbrev pub toldBy : Example → List Sight
-toldBy e = says e.answer [] ∷ told e.steps
+abbrev pub told_by : Example → List Sight
+told_by e = says e.answer [] ∷ told e.steps
 
-abbrev pub seenOf : Example → List Sight
-seenOf e =
-    let k = refusal (openChecks e.opening e.program e.memory) in
+abbrev pub seen_of : Example → List Sight
+seen_of e =
+    let k = refusal (open_checks e.opening e.program e.memory) in
     cond (eqb k 0) (says done [] ∷ played e.program (opened e.opening e.program) e.memory e.steps)
     (says (refused k) [] ∷ [])
 
 -- each row of a table comes out
 abbrev pub AllShown : List Example → Type 0
 AllShown [] = Unit {0}
-AllShown (e ∷ rows) = (seenOf e ≡ toldBy e) × AllShown rows
+AllShown (e ∷ rows) = (seen_of e ≡ told_by e) × AllShown rows
 
 -- ---- how the rows are written
 
@@ -142,11 +142,11 @@ entry i index f = record { instruction = i; index = index; fate = f; distance = 
 
 -- the entry at a position is another one, and its reference with it, whose load took 0
 abbrev pub spoil : ℕ → Entry → Step
-spoil p e = damage (λ X. over X (withFate X.buffer p (reference e)) (set X.entries p e))
+spoil p e = damage (λ X. over X (with_fate X.buffer p (reference e)) (set X.entries p e))
 
 -- the reference at a position has another fate, and its entry stays: the table's words alone
 abbrev pub refile : ℕ → Reference.Fate → Step
-refile p f = damage (λ X. over X (withFate X.buffer p f) X.entries)
+refile p f = damage (λ X. over X (with_fate X.buffer p f) X.entries)
 
 -- the next issue number is another
 abbrev pub renumber : ℕ → Step
@@ -258,7 +258,7 @@ refusals =
     (asks (execute 0) (refused 7) ∷ asks (squash 0) (refused 7) ∷ asks issue (named 0)
     ∷ asks (execute 1) (refused 7) ∷ asks (squash 1) (refused 7)
     ∷ asks (execute 4294967295) (refused 7) ∷ asks (squash 4294967295) (refused 7) ∷ [])
-    ∷ usual (A (sOf blankEntry.instruction) 0 5) (asks issue (named 0) ∷ asks (execute 1) (refused 7) ∷ [])
+    ∷ usual (A (s_of blank_entry.instruction) 0 5) (asks issue (named 0) ∷ asks (execute 1) (refused 7) ∷ [])
     -- 8; with 9 and with 10, of entries that only a damaged machine has
     ∷ usual script (asks issue (named 0) ∷ asks (execute 0) (executed 0 0 none) ∷ asks (execute 0) (refused 8) ∷ [])
     ∷ usual (A 1 0 5 ++ A 2 1 0)
@@ -313,13 +313,13 @@ unlike p i index =
     (four (spoil p (entry i index Waiting) ∷ refuse 4 4 []))
 
 -- the same of B and H
-abbrev pub unlikePart : ℕ → Instruction → ℕ → Example
-unlikePart p i index =
+abbrev pub unlike_part : ℕ → Instruction → ℕ → Example
+unlike_part p i index =
     usual (B 1 2 3 ++ H 1 2 3) (two (spoil p (entry i index Waiting) ∷ refuse 4 4 []))
 
 -- what is read where no instruction is
 abbrev pub missing : Instruction
-missing = instructionAt [] 0
+missing = instruction_at [] 0
 
 unfoldable pub unlikes : List Example
 unlikes =
@@ -330,9 +330,9 @@ unlikes =
     ∷ unlike 0 (Sum 1 2 3) 0 ∷ unlike 1 (Load 1 2 3) 1 ∷ unlike 2 (Store 1 2 3) 2 ∷ unlike 3 (Add 1 2 3) 3
     -- the index of another instruction; the opened count, and one past it
     ∷ unlike 0 (Add 1 2 3) 1 ∷ unlike 3 (Store 1 2 3) 4 ∷ unlike 3 missing 4 ∷ unlike 3 missing 5
-    ∷ unlikePart 0 (Byte 1 2 4) 0 ∷ unlikePart 1 (Half 1 2 4) 1 ∷ unlikePart 0 (Byte 2 2 3) 0 ∷ unlikePart 1 (Half 2 2 3) 1
-    ∷ unlikePart 0 (Byte 1 1 3) 0 ∷ unlikePart 1 (Half 1 1 3) 1 ∷ unlikePart 0 (Half 1 2 3) 0 ∷ unlikePart 1 (Byte 1 2 3) 1
-    ∷ unlikePart 0 (Store 1 2 3) 0
+    ∷ unlike_part 0 (Byte 1 2 4) 0 ∷ unlike_part 1 (Half 1 2 4) 1 ∷ unlike_part 0 (Byte 2 2 3) 0 ∷ unlike_part 1 (Half 2 2 3) 1
+    ∷ unlike_part 0 (Byte 1 1 3) 0 ∷ unlike_part 1 (Half 1 1 3) 1 ∷ unlike_part 0 (Half 1 2 3) 0 ∷ unlike_part 1 (Byte 1 2 3) 1
+    ∷ unlike_part 0 (Store 1 2 3) 0
     -- an equal instruction at another index is like it
     ∷ usual (A 1 2 3 ++ A 1 2 3)
     (asks issue (named 0) ∷ spoil 0 (entry (Add 1 2 3) 1 Waiting) ∷ asks issue (named 1) ∷ [])

@@ -1,13 +1,13 @@
 // The call `execute`, which requires nothing; its contract is `Meets` of crates/machine_model/specs/Contract.antt.
 ghost use Rattle.std.specs.Prelude.{[]};
 ghost use Rattle.machine_model.specs.Calls.{execute};
-ghost use Rattle.machine_model.specs.Contract.{executeSays, Meets};
+ghost use Rattle.machine_model.specs.Contract.{execute_says, Meets};
 
 use machine_model::{ExecuteAnswer, ExecuteResult, Machine};
 
 // Executes the entry at position `p`.
 pub fn execute(mut m: Machine, program: &[u32], p: usize, memory: &[u32]) -> ExecuteResult
-    ensures { Meets program.now m (execute p) memory.now (executeSays result.answer) result.machine
+    ensures { Meets program.now m (execute p) memory.now (execute_says result.answer) result.machine
         memory.now [] }
 {
     let window = m.window;

@@ -1,6 +1,6 @@
 // The call `finish`, which requires nothing; its contract is `Meets` of crates/machine_model/specs/Contract.antt.
 ghost use Rattle.machine_model.specs.Calls.{finish};
-ghost use Rattle.machine_model.specs.Contract.{finishSays, Meets};
+ghost use Rattle.machine_model.specs.Contract.{finish_says, Meets};
 
 use machine_model::{FinishAnswer, FinishResult, Machine, PER_COMMIT};
 
@@ -17,7 +17,7 @@ pub fn finish(
     memory: &mut [u32],
     list: &mut [u32],
 ) -> FinishResult
-    ensures { Meets program.now m (finish k list.old) memory.old (finishSays result.answer)
+    ensures { Meets program.now m (finish k list.old) memory.old (finish_says result.answer)
         result.machine memory.new list.new }
 {
     let window = m.window;

@@ -2,12 +2,12 @@
 // asks with them, and what an entry says of itself. Inner: `instruction_at` requires what its callers have shown.
 ghost use Rattle.std.specs.Prelude.{◌≡◌, ◌+◌, ◌*◌, ◌<◌, ◌≤◌, [], ◌∷◌, length, slice_index};
 ghost use Rattle.std.proofs.lemmas.List.Edits.{sets};
-ghost use Rattle.machine_model.specs.Program.{decoded, instructionAt, wellFormed, programFits, code_of, dOf, sOf, immOf};
+ghost use Rattle.machine_model.specs.Program.{decoded, instruction_at, well_formed, program_fits, code_of, d_of, s_of, imm_of};
 ghost use Rattle.machine_model.specs.Program.{kind, destination};
 ghost use Rattle.machine_model.specs.Contract.{kind_of, place_of};
-ghost use Rattle.machine_model.specs.Window.{addressBy, misaligned, reference};
-ghost use Rattle.machine_model.specs.Calls.{pending, valueBy, answerBy, target, perCommit};
-ghost use Rattle.machine_laws.specs.computed.Parts.{registerNumber, kindBy, placeBy, likeBy, actionOf, second};
+ghost use Rattle.machine_model.specs.Window.{address_by, misaligned, reference};
+ghost use Rattle.machine_model.specs.Calls.{pending, value_by, answer_by, target, per_commit};
+ghost use Rattle.machine_laws.specs.Computed.Parts.{register_number, kind_by, place_by, like_by, action_of, second};
 
 use engine::{Action, Part};
 use machine_model::{Entry, Fate, Instruction, Kind};
@@ -38,7 +38,7 @@ fn numbers_at(program: &[u32], i: usize) -> Numbers
 
 // Those of an instruction.
 fn numbers_of(i: Instruction) -> Numbers
-    ensures { (result.code ≡ code_of i) × (result.d ≡ dOf i) × (result.s ≡ sOf i) × (result.imm ≡ immOf i) }
+    ensures { (result.code ≡ code_of i) × (result.d ≡ d_of i) × (result.s ≡ s_of i) × (result.imm ≡ imm_of i) }
 {
     match i {
         Instruction::Add(d, s, imm) => Numbers {
@@ -106,7 +106,7 @@ pub fn decode(code: u32, d: u8, s: u8, imm: u32) -> Instruction
 pub fn instruction_at(program: &[u32], i: usize) -> Instruction
     requires { (i * 4 + 3 < length program.now) × (slice_index program.now (i * 4 + 1) < 8) × (slice_index program.now (i * 4 + 2) <
         8) }
-    ensures { result ≡ instructionAt program.now i }
+    ensures { result ≡ instruction_at program.now i }
 {
     let k = i * 4;
     decode(
@@ -119,14 +119,14 @@ pub fn instruction_at(program: &[u32], i: usize) -> Instruction
 
 // Whether these four numbers are an instruction.
 pub fn well_formed(code: u32, d: u32, s: u32, imm: u32) -> bool
-    ensures { result ≡ wellFormed code d s imm }
+    ensures { result ≡ well_formed code d s imm }
 {
     ((1 <= code) & (code <= 6)) & ((d <= 7) & (s <= 7)) & (!(code == 2) | (imm <= 7))
 }
 
 // Whether the program is whole instructions, each well formed.
 pub fn program_fits(program: &[u32]) -> bool
-    ensures { result ≡ programFits program.now }
+    ensures { result ≡ program_fits program.now }
 {
     if program.len() % 4 != 0 {
         return false;
@@ -152,14 +152,14 @@ pub fn code_of(i: Instruction) -> u32
 
 // An instruction's d and s.
 fn d_of(i: Instruction) -> u32
-    ensures { result ≡ dOf i }
+    ensures { result ≡ d_of i }
 {
     let n = numbers_of(i);
     n.d
 }
 
 pub fn s_of(i: Instruction) -> u32
-    ensures { result ≡ sOf i }
+    ensures { result ≡ s_of i }
 {
     let n = numbers_of(i);
     n.s
@@ -168,7 +168,7 @@ pub fn s_of(i: Instruction) -> u32
 // Whether the entry's instruction has the four numbers at its index in the program. They are compared as they stand: of a
 // well-formed program that is the instruction decoded.
 pub fn entry_fits(program: &[u32], e: Entry) -> bool
-    ensures { result ≡ likeBy program.now e }
+    ensures { result ≡ like_by program.now e }
 {
     let at = e.index as usize;
     if at * 4 + 3 >= program.len() {
@@ -182,7 +182,7 @@ pub fn entry_fits(program: &[u32], e: Entry) -> bool
 
 // The kind and the address of an executed entry with this code. By comparisons: a jump by the instruction would be one to guess.
 fn kind_by(code: u32) -> u32
-    ensures { result ≡ kindBy code }
+    ensures { result ≡ kind_by code }
 {
     if code < 3 {
         return 0;
@@ -194,7 +194,7 @@ fn kind_by(code: u32) -> u32
 }
 
 fn place_by(code: u32, a: u32) -> u32
-    ensures { result ≡ placeBy code a }
+    ensures { result ≡ place_by code a }
 {
     if code < 3 {
         return 0;
@@ -244,7 +244,7 @@ pub fn kind_of(i: Instruction) -> Kind
 
 // The register that an instruction writes; 8 where it writes none.
 pub fn destination_of(i: Instruction) -> u32
-    ensures { result ≡ registerNumber (destination i) }
+    ensures { result ≡ register_number (destination i) }
 {
     let kind = kind_of(i);
     match kind {
@@ -271,7 +271,7 @@ pub fn second_of(i: Instruction) -> u32
 
 // What the instruction asks with these operands; sums wrap.
 pub fn action_of(i: Instruction, x: u32, y: u32) -> Action
-    ensures { result ≡ actionOf i x y }
+    ensures { result ≡ action_of i x y }
 {
     match i {
         Instruction::Add(_, _, imm) => Action::Compute(std::num::wrapping_add_u32(x, imm)),
@@ -300,7 +300,7 @@ pub fn is_pending(e: Entry) -> bool
 
 // The value of an entry.
 pub fn value_of(e: Entry) -> u32
-    ensures { result ≡ valueBy e.fate }
+    ensures { result ≡ value_by e.fate }
 {
     let fate = e.fate;
     match fate {
@@ -311,7 +311,7 @@ pub fn value_of(e: Entry) -> u32
 
 // The address of an entry.
 fn address_of(e: Entry) -> u32
-    ensures { result ≡ addressBy e.fate }
+    ensures { result ≡ address_by e.fate }
 {
     let fate = e.fate;
     match fate {
@@ -322,7 +322,7 @@ fn address_of(e: Entry) -> u32
 
 // The third number of a commit: the register, for S, B and H the address.
 pub fn target_of(e: Entry) -> u32
-    ensures { result ≡ target e.instruction (addressBy e.fate) }
+    ensures { result ≡ target e.instruction (address_by e.fate) }
 {
     let i = e.instruction;
     let kind = kind_of(i);
@@ -344,7 +344,7 @@ pub fn is_misaligned(e: Entry) -> bool
 
 // The fifth number of a commit: how far a load's word came, else 0.
 pub fn distance_of(e: Entry) -> u32
-    ensures { result ≡ answerBy (kind e.instruction) e.distance }
+    ensures { result ≡ answer_by (kind e.instruction) e.distance }
 {
     let i = e.instruction;
     let kind = kind_of(i);
@@ -369,7 +369,7 @@ pub fn put_four(list: &mut [u32], at: usize, i: u32, c: u32, r: u32, v: u32)
 
 // A commit's numbers from place `at` of the list on.
 pub fn put_commit(list: &mut [u32], at: usize, i: u32, c: u32, r: u32, v: u32, d: u32)
-    requires { at + perCommit ≤ length list.old }
+    requires { at + per_commit ≤ length list.old }
     ensures { list.new ≡ sets list.old at (i ∷ c ∷ r ∷ v ∷ d ∷ []) }
 {
     put_four(list, at, i, c, r, v);

@@ -3,7 +3,7 @@
 ghost use Rattle.std.specs.Prelude.{◌≡◌, ℕ, List, []};
 ghost use Rattle.engine.specs.Contract.{refused};
 ghost use Rattle.machine_model.specs.Calls.{banked, issue, squash};
-ghost use Rattle.machine_model.specs.Contract.{doneSays, issueSays, emptyMachine, freshMachine, Meets, Opens};
+ghost use Rattle.machine_model.specs.Contract.{done_says, issue_says, empty_machine, fresh_machine, Meets, Opens};
 
 use machine_model::{
     DoneAnswer, DoneResult, Entry, Fate, Instruction, IssueAnswer, IssueResult, Machine,
@@ -13,7 +13,7 @@ use table::{STAGES, Table};
 
 // A machine of `count` instructions over this table, with nothing in its window.
 fn empty(table: Table, count: u32) -> Machine
-    ensures { result ≡ emptyMachine table count }
+    ensures { result ≡ empty_machine table count }
 {
     Machine {
         table,
@@ -31,7 +31,7 @@ fn empty(table: Table, count: u32) -> Machine
 
 // A refused opening: a machine without stages.
 fn unopened(why: u32) -> DoneResult
-    ensures { (doneSays result.answer ≡ refused why) × (result.machine ≡ freshMachine (banked 0 0 0 0) 0) }
+    ensures { (done_says result.answer ≡ refused why) × (result.machine ≡ fresh_machine (banked 0 0 0 0) 0) }
 {
     DoneResult {
         answer: DoneAnswer::Refused(why),
@@ -48,7 +48,7 @@ pub fn open(
     program: &[u32],
     memory: &[u32],
 ) -> DoneResult
-    ensures { Opens (banked banks rows stages words) program.now memory.now (doneSays result.answer)
+    ensures { Opens (banked banks rows stages words) program.now memory.now (done_says result.answer)
         result.machine }
 {
     if !(table_rules::sizes_fit(banks, rows, stages, words) & (program.len() <= PROGRAM)) {
@@ -71,7 +71,7 @@ pub fn open(
 
 // Puts the next instruction in the next stage.
 pub fn issue(mut m: Machine, program: &[u32]) -> IssueResult
-    ensures { (w : List ℕ) → Meets program.now m issue w (issueSays result.answer) result.machine w [] }
+    ensures { (w : List ℕ) → Meets program.now m issue w (issue_says result.answer) result.machine w [] }
 {
     let window = m.window;
     let why = machine_window::validate(
@@ -124,7 +124,7 @@ pub fn issue(mut m: Machine, program: &[u32]) -> IssueResult
 
 // Drops the entry at position `p` and everything younger; issue goes on there.
 pub fn squash(mut m: Machine, program: &[u32], p: usize) -> DoneResult
-    ensures { (w : List ℕ) → Meets program.now m (squash p) w (doneSays result.answer) result.machine w [] }
+    ensures { (w : List ℕ) → Meets program.now m (squash p) w (done_says result.answer) result.machine w [] }
 {
     let window = m.window;
     let why = machine_window::validate(

@@ -13,41 +13,41 @@ use lib.Dec.{eqb, leb}
 use lib.ListN.{length, take, set, length-append}
 use lib.Seq.{length-take-le}
 use borrow.Author.Tests.{lt-ltb, le-leb, lt-leb, ne_eqb}
-use Rattle.table.specs.Limits.{stagesMost}
+use Rattle.table.specs.Limits.{stages_most}
 use Rattle.table.specs.Reference.{ref, waiting}
-use Rattle.table.specs.View.{stageOf, view}
-use Rattle.table.specs.Moves.{issued, squashTo}
+use Rattle.table.specs.View.{stage_of, view}
+use Rattle.table.specs.Moves.{issued, squash_to}
 use Rattle.table.proofs.Sizes.{sizes}
-use Rattle.table.proofs.Lists.{tabulate-take}
-use Rattle.table.proofs.Fates.{length-refs}
-use Rattle.engine.specs.computed.Steps.{cut, grown}
+use Rattle.table.proofs.Lists.{tabulate_take}
+use Rattle.table.proofs.Fates.{length_refs}
+use Rattle.engine.specs.Computed.Steps.{cut, grown}
 use Rattle.engine.proofs.Lengths.{Lengths}
-use Rattle.engine.proofs.Narrowing.{cut-rules, cut-view}
-use Rattle.engine.proofs.Growing.{grown-rules, grown-view}
+use Rattle.engine.proofs.Narrowing.{cut_rules, cut_view}
+use Rattle.engine.proofs.Growing.{grown_rules, grown_view}
 use Rattle.engine.specs.Contract.{refused, named, done, judged}
 use Rattle.engine.specs.Conditions.{refusal}
-use Rattle.engine.proofs.Meeting.{judged-refused}
+use Rattle.engine.proofs.Meeting.{judged_refused}
 use Rattle.machine_model.specs.declared.Entry.{Entry}
 use Rattle.machine_model.specs.declared.Machine.{Machine}
 use Rattle.machine_model.specs.Window.{entry_at}
 use Rattle.machine_model.specs.Over
-use Rattle.machine_model.specs.Calls.{buffered, issue, squash, newEntry, issuing, squashChecks, squashing}
-use Rattle.machine_model.specs.Calls.{refetchIndex, respond}
+use Rattle.machine_model.specs.Calls.{buffered, issue, squash, new_entry, issuing, squash_checks, squashing}
+use Rattle.machine_model.specs.Calls.{refetch_index, respond}
 use Rattle.machine_model.specs.Contract.{entry_of, plain, Meets}
-use Rattle.machine_laws.specs.computed.Parts.{entriesOf, issueNumber}
-use Rattle.machine_model.proofs.Sounding.{length-entries, entry-at}
-use Rattle.machine_model.proofs.Answering.{Passed, refused-meets, accepted-meets}
-use Rattle.machine_laws.proofs.Refusals.{issue-number}
-use Rattle.machine_laws.proofs.PlainOfView.{plain_by, entries-grow, sound-agreed, reached, agreed-grow, agreed-take}
+use Rattle.machine_laws.specs.Computed.Parts.{entries_of, issue_number}
+use Rattle.machine_model.proofs.Sounding.{length_entries, entry_at_lem}
+use Rattle.machine_model.proofs.Answering.{Passed, refused_meets, accepted_meets}
+use Rattle.machine_laws.proofs.Refusals.{issue_number_lem}
+use Rattle.machine_laws.proofs.PlainOfView.{plain_by, entries_grow, sound_agreed, reached, agreed_grow, agreed_take}
 
 -- ---- issue
 
 -- the machine after an issue
-abbrev pub issuedOver : List ℕ → Machine → Machine
-issuedOver program m =
+abbrev pub issued_over : List ℕ → Machine → Machine
+issued_over program m =
     record {
       table = grown m.table;
-      window = set m.window (stageOf m.table m.table.live) (newEntry program m.next);
+      window = set m.window (stage_of m.table m.table.live) (new_entry program m.next);
       registers = m.registers;
       count = m.count;
       next = m.next + 1;
@@ -55,63 +55,63 @@ issuedOver program m =
 
 module _ (program : List ℕ) (m : Machine) (passed : Passed m program m.table.words) (w : List ℕ) where
   -- the number of the conditions 5 and 6, as the code finds it
-  abbrev pub issueWhy : ℕ
-  issueWhy = issueNumber (eqb m.table.live m.table.stages) m.count m.next
+  abbrev pub issue_why : ℕ
+  issue_why = issue_number (eqb m.table.live m.table.stages) m.count m.next
 
   -- what the definition says, by that number
-  issue-responds : (k : ℕ) → k ≡ issueWhy
+  issue_responds : (k : ℕ) → k ≡ issue_why
       → respond program issue (plain m) w ≡ judged k (plain m) w [] (issuing program (plain m) w)
   unfolding Over.respond
-  issue-responds k found =
+  issue_responds k found =
       ap (λ (j : ℕ). judged j (plain m) w [] (issuing program (plain m) w))
-      (issue-number buffered program (plain m) passed.opened
-      ∙ ap (λ (j : ℕ). issueNumber (eqb j m.table.stages) m.count m.next) (length-entries m)
+      (issue_number_lem buffered program (plain m) passed.opened
+      ∙ ap (λ (j : ℕ). issue_number (eqb j m.table.stages) m.count m.next) (length_entries m)
       ∙ sym found)
 
   -- the refusals 5 and 6
-  pub issue-refused : (k : ℕ) → k ≡ issueWhy → (k ≡ 0 → ⊥) → Meets program m issue w (refused k) m w []
-  issue-refused k found other =
-      refused-meets program m issue w k passed.sound
-      (issue-responds k found ∙ judged-refused k (plain m) w [] (issuing program (plain m) w) other)
+  pub issue_refused : (k : ℕ) → k ≡ issue_why → (k ≡ 0 → ⊥) → Meets program m issue w (refused k) m w []
+  issue_refused k found other =
+      refused_meets program m issue w k passed.sound
+      (issue_responds k found ∙ judged_refused k (plain m) w [] (issuing program (plain m) w) other)
 
-  pub issue-meets : Lengths m.table → length m.window ≡ stagesMost → m.table.live < m.table.stages → m.next < m.count
-      → Meets program m issue w (named m.table.live) (issuedOver program m) w []
-  issue-meets lengths long room left =
+  pub issue_meets : Lengths m.table → length m.window ≡ stages_most → m.table.live < m.table.stages → m.next < m.count
+      → Meets program m issue w (named m.table.live) (issued_over program m) w []
+  issue_meets lengths long room left =
       let rules = passed.sound.rules in
-      let u = issuedOver program m in
+      let u = issued_over program m in
       let refs = (view m.table).refs in
-      let e = newEntry program m.next in
+      let e = new_entry program m.next in
       let more : length (issued (view m.table)).refs ≡ suc m.table.live =
-      length-append refs (ref m.table.next waiting ∷ []) ∙ ap (λ (k : ℕ). k + 1) (length-refs m.table)
+      length-append refs (ref m.table.next waiting ∷ []) ∙ ap (λ (k : ℕ). k + 1) (length_refs m.table)
       ∙ add-one m.table.live in
       let wide : m.table.stages ≤ length m.window = omega (arith, (sizes _ _ _ _ rules.sizes).stages) in
-      let entries : entriesOf u.window m.table.oldest m.table.stages (length (issued (view m.table)).refs)
+      let entries : entries_of u.window m.table.oldest m.table.stages (length (issued (view m.table)).refs)
       ≡ (plain m).entries ++ (e ∷ []) =
-      ap (entriesOf u.window m.table.oldest m.table.stages) more
-      ∙ entries-grow m.window m.table.oldest m.table.stages rules.start m.table.live e room wide in
+      ap (entries_of u.window m.table.oldest m.table.stages) more
+      ∙ entries_grow m.window m.table.oldest m.table.stages rules.start m.table.live e room wide in
       let state : plain u ≡ (issuing program (plain m) w).state =
-      plain_by u (issued (view m.table)) (grown-view m.table rules lengths room)
+      plain_by u (issued (view m.table)) (grown_view m.table rules lengths room)
       ∙ ap₂
       (λ (es : List Entry) (k : ℕ).
       record { buffer = issued (view m.table); entries = es; registers = m.registers; count = m.count; next = k })
       entries (add-one m.next) in
-      accepted-meets program m issue w u w [] (named m.table.live) (issuing program (plain m) w) passed.sound
-      (issue-responds 0
+      accepted_meets program m issue w u w [] (named m.table.live) (issuing program (plain m) w) passed.sound
+      (issue_responds 0
       (rw (ne_eqb m.table.live m.table.stages (ne_of_lt room), lt-leb m.count m.next left)))
       tt
-      (ap named (sym (length-entries m)))
+      (ap named (sym (length_entries m)))
       state
       refl
       refl
-      (reached u (issuing program (plain m) w).state (grown-rules m.table rules lengths room) state
-      (agreed-grow (plain m).entries refs (sound-agreed m passed.sound) e (ref m.table.next waiting)
-      (length-entries m ∙ sym (length-refs m.table)) refl))
+      (reached u (issuing program (plain m) w).state (grown_rules m.table rules lengths room) state
+      (agreed_grow (plain m).entries refs (sound_agreed m passed.sound) e (ref m.table.next waiting)
+      (length_entries m ∙ sym (length_refs m.table)) refl))
 
 -- ---- squash
 
 -- the machine after a squash at position p
-abbrev pub squashedOver : Machine → ℕ → Machine
-squashedOver m p =
+abbrev pub squashed_over : Machine → ℕ → Machine
+squashed_over m p =
     record {
       table = cut m.table p;
       window = m.window;
@@ -121,44 +121,44 @@ squashedOver m p =
     }
 
 module _ (program : List ℕ) (m : Machine) (passed : Passed m program m.table.words) (w : List ℕ) (p : ℕ) where
-  squash-number : (b : Bool) → leb m.table.live p ≡ b → refusal (squashChecks program (plain m) p) ≡ cond b 7 0
-  squash-number b e = rw (passed.opened, length-entries m, e)
+  squash_number : (b : Bool) → leb m.table.live p ≡ b → refusal (squash_checks program (plain m) p) ≡ cond b 7 0
+  squash_number b e = rw (passed.opened, length_entries m, e)
 
-  squash-responds : (b : Bool) → leb m.table.live p ≡ b
+  squash_responds : (b : Bool) → leb m.table.live p ≡ b
       → respond program (squash p) (plain m) w ≡ judged (cond b 7 0) (plain m) w [] (squashing (plain m) w p)
   unfolding Over.respond
-  squash-responds b e = ap (λ (k : ℕ). judged k (plain m) w [] (squashing (plain m) w p)) (squash-number b e)
+  squash_responds b e = ap (λ (k : ℕ). judged k (plain m) w [] (squashing (plain m) w p)) (squash_number b e)
 
-  pub squash-beyond : m.table.live ≤ p → Meets program m (squash p) w (refused 7) m w []
-  squash-beyond h =
-      refused-meets program m (squash p) w 7 passed.sound (squash-responds true (le-leb m.table.live p h))
+  pub squash_beyond : m.table.live ≤ p → Meets program m (squash p) w (refused 7) m w []
+  squash_beyond h =
+      refused_meets program m (squash p) w 7 passed.sound (squash_responds true (le-leb m.table.live p h))
 
-  pub squash-meets : p < m.table.live → Meets program m (squash p) w done (squashedOver m p) w []
-  squash-meets h =
+  pub squash_meets : p < m.table.live → Meets program m (squash p) w done (squashed_over m p) w []
+  squash_meets h =
       let rules = passed.sound.rules in
-      let u = squashedOver m p in
+      let u = squashed_over m p in
       let refs = (view m.table).refs in
-      let few : length (take p refs) ≡ p = length-take-le p refs (omega (arith, length-refs m.table)) in
-      let entries : entriesOf m.window m.table.oldest m.table.stages (length (take p refs))
+      let few : length (take p refs) ≡ p = length-take-le p refs (omega (arith, length_refs m.table)) in
+      let entries : entries_of m.window m.table.oldest m.table.stages (length (take p refs))
       ≡ take p (plain m).entries =
-      ap (entriesOf m.window m.table.oldest m.table.stages) few
-      ∙ sym (tabulate-take (entry_of m) m.table.live p (le_of_lt h)) in
-      let next : (entry_of m p).index ≡ refetchIndex (plain m) p =
-      ap (λ (x : Entry). x.index) (sym (entry-at m p h))
+      ap (entries_of m.window m.table.oldest m.table.stages) few
+      ∙ sym (tabulate_take (entry_of m) m.table.live p (le_of_lt h)) in
+      let next : (entry_of m p).index ≡ refetch_index (plain m) p =
+      ap (λ (x : Entry). x.index) (sym (entry_at_lem m p h))
       ∙ ap (λ (b : Bool). cond b (entry_at (plain m).entries p).index m.next)
-      (sym (lt-ltb p (length (plain m).entries) (omega (arith, length-entries m)))) in
+      (sym (lt-ltb p (length (plain m).entries) (omega (arith, length_entries m)))) in
       let state : plain u ≡ (squashing (plain m) w p).state =
-      plain_by u (squashTo (view m.table) p) (cut-view m.table rules p (le_of_lt h))
+      plain_by u (squash_to (view m.table) p) (cut_view m.table rules p (le_of_lt h))
       ∙ ap₂
       (λ (es : List Entry) (k : ℕ).
-      record { buffer = squashTo (view m.table) p; entries = es; registers = m.registers; count = m.count; next = k })
+      record { buffer = squash_to (view m.table) p; entries = es; registers = m.registers; count = m.count; next = k })
       entries next in
-      accepted-meets program m (squash p) w u w [] done (squashing (plain m) w p) passed.sound
-      (squash-responds false (lt-leb m.table.live p h))
+      accepted_meets program m (squash p) w u w [] done (squashing (plain m) w p) passed.sound
+      (squash_responds false (lt-leb m.table.live p h))
       tt
       refl
       state
       refl
       refl
-      (reached u (squashing (plain m) w p).state (cut-rules m.table rules p (le_of_lt h)) state
-      (agreed-take (plain m).entries refs (sound-agreed m passed.sound) p))
+      (reached u (squashing (plain m) w p).state (cut_rules m.table rules p (le_of_lt h)) state
+      (agreed_take (plain m).entries refs (sound_agreed m passed.sound) p))

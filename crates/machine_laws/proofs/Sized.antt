@@ -8,23 +8,23 @@ use mir.Val.{Val}
 use denote.Laws.{Is}
 use denote.Struct.Declared.{row}
 use borrow.Author.Rules.{rules}
-use Rattle.machine_model.specs.Program.{registersMost}
-use Rattle.table.specs.Limits.{stagesMost}
-use Rattle.engine.proofs.Lengths.{Lengths, lengths-of}
+use Rattle.machine_model.specs.Program.{registers_most}
+use Rattle.table.specs.Limits.{stages_most}
+use Rattle.engine.proofs.Lengths.{Lengths, lengths_of}
 use Rattle.machine_model.specs.declared.Machine.{Machine}
 use Rattle.machine_model.specs.contracts.Machine.{the_type}
 
 pub record Sized (m : Machine) : Type 0 where
   pub lengths : Lengths m.table
-  pub window : length m.window ≡ stagesMost
-  pub registers : length m.registers ≡ registersMost
+  pub window : length m.window ≡ stages_most
+  pub registers : length m.registers ≡ registers_most
   pub small : m.count < 2 ^ 32
 
 -- a machine that machine values hold has them
 pub sized_of : (m : Machine) {vs : List Val} → Is (row the_type) m vs → Sized m
 sized_of m held =
     record {
-      lengths = lengths-of m.table held.1.1.0;
+      lengths = lengths_of m.table held.1.1.0;
       window = simp length-map at held.1.1.1.0.1.0.1;
       registers = search rules;
       small = search rules;

@@ -1,2 +1,2 @@
 -- How the machine's code computes what crates/machine_model says.
-pub mod computed
+pub mod Computed

@@ -1,6 +1,6 @@
 -- 01's and 02's sentences of an accepted execution, of its answer and of the machine handed back, through the contract. It names
--- a squashed position exactly where the list requires a squash, and that one, and the entries before it stay (squash-comes,
--- squash-only, squash-none); an instruction without memory squashes nothing, nor does a load of an address with a row. What a
+-- a squashed position exactly where the list requires a squash, and that one, and the entries before it stay (squash_comes,
+-- squash_only, squash_none); an instruction without memory squashes nothing, nor does a load of an address with a row. What a
 -- load answers, and how far its word came, is one record (LoadTold). These are the engine's laws (Outcomes) and those of the
 -- plain list (lookup's Sentences) at the fate that the execution came to (Answered).
 -- Assumes nothing.
@@ -17,12 +17,12 @@ use lib.Seq.{get_or-take, get_or-set_same}
 use borrow.Author.Tests.{ltb-true, ltb-false}
 use Rattle.table.specs.Reference
 use Rattle.table.specs.Reference.{State, Side, holds, accessed, ref, at}
-use Rattle.table.proofs.Fates.{length-refs}
+use Rattle.table.proofs.Fates.{length_refs}
 use Rattle.lookup.specs.Forwarding.{forwarded}
 use Rattle.lookup.specs.Rows.{touched}
 use Rattle.lookup.specs.Outcome.{survivors}
 use Rattle.lookup.proofs.Sentences.{CameFrom}
-use Rattle.lookup.proofs.Squashes.{Squashes, required, only-required, row_keeps, firstSquashed}
+use Rattle.lookup.proofs.Squashes.{Squashes, required, only_required, row_keeps, first_squashed}
 use Rattle.engine.specs.Contract.{executed}
 use Rattle.engine.proofs.Outcomes
 use Rattle.machine_model.specs.declared.Instruction.{Instruction}
@@ -34,18 +34,18 @@ use Rattle.machine_model.specs.declared.Fate.TheVariants.{Waiting, Executed}
 use Rattle.machine_model.specs.declared.Entry.{Entry}
 use Rattle.machine_model.specs.declared.Machine.{Machine}
 use Rattle.machine_model.specs.Program.{kind, sum}
-use Rattle.machine_model.specs.Window.{blankEntry, entry_at, entryWith, registerSeen, accessBy, referenceBy, with₂, evaluate}
-use Rattle.machine_model.specs.Calls.{Plain, execute, evaluated, referenceAt, survivorsOf, loadValue, loadDistance}
+use Rattle.machine_model.specs.Window.{blank_entry, entry_at, entry_with, register_seen, access_by, reference_by, with₂, evaluate}
+use Rattle.machine_model.specs.Calls.{Plain, execute, evaluated, reference_at, survivors_of, load_value, load_distance}
 use Rattle.machine_model.specs.Contract.{tabled, plain, Meets}
-use Rattle.machine_model.proofs.Sounding.{length-entries, sound-or}
-use Rattle.machine_model.proofs.Sentences.{from-store, from-memory}
-use Rattle.machine_model.proofs.Answered.{Execution, comes-to, execution}
+use Rattle.machine_model.proofs.Sounding.{length_entries, sound_or}
+use Rattle.machine_model.proofs.Sentences.{from_store, from_memory}
+use Rattle.machine_model.proofs.Answered.{Execution, comes_to_lem, execution}
 
 -- what has no side leaves every reference
-computing-all : (P : State) (p : ℕ) (i : Instruction) (μ : ℕ → ℕ) (f : Fate) → kind i ≡ Computing
-    → survivors P p (referenceBy μ i f) ≡ length P.refs
-computing-all P p i μ Waiting e = refl
-computing-all P p i μ (Executed v a) e = ap (λ (k : Kind). survivors P p (accessBy μ k v a)) e
+computing_all : (P : State) (p : ℕ) (i : Instruction) (μ : ℕ → ℕ) (f : Fate) → kind i ≡ Computing
+    → survivors P p (reference_by μ i f) ≡ length P.refs
+computing_all P p i μ Waiting e = refl
+computing_all P p i μ (Executed v a) e = ap (λ (k : Kind). survivors P p (access_by μ k v a)) e
 
 -- no reference older than position p is an executed store to address a
 abbrev pub NoStore : Machine → ℕ → ℕ → Type 0
@@ -55,22 +55,22 @@ NoStore m p a =
 -- A load at position p executed at address a and answered the value x and the distance d; u is the machine handed back.
 pub record LoadTold (m : Machine) (p : ℕ) (w : List ℕ) (x d : ℕ) (u : Machine) (a : ℕ) : Type 0 where
   -- its entry keeps them
-  pub entry : entry_at (plain u).entries p ≡ entryWith (entry_at (plain m).entries p) (Executed x a) d
+  pub entry : entry_at (plain u).entries p ≡ entry_with (entry_at (plain m).entries p) (Executed x a) d
   pub comes : evaluated (plain m) w p ≡ some (Executed x a)
   -- "with 0 for memory", and then the value is the memory word; "or 0 when the address is W or more"
-  pub from-memory : d ≡ 0 → (x ≡ get_or w a 0) × NoStore m p a
+  pub from_memory : d ≡ 0 → (x ≡ get_or w a 0) × NoStore m p a
   pub outside : m.table.words ≤ a → NoStore m p a → (x ≡ 0) × (d ≡ 0)
   -- "how many positions older that store is", and the value is its word
-  pub from-store : (e : ℕ) → d ≡ suc e → (from : CameFrom (plain m).buffer.refs p (suc e) a (get_or w a 0)) × (x ≡ from.word)
+  pub from_store : (e : ℕ) → d ≡ suc e → (from : CameFrom (plain m).buffer.refs p (suc e) a (get_or w a 0)) × (x ≡ from.word)
 
 -- a load comes to a value and an address
-load-fate : (X : Plain) (w : List ℕ) (p r s imm : ℕ) → (entry_at X.entries p).instruction ≡ Load r s imm → (f : Fate)
+load_fate : (X : Plain) (w : List ℕ) (p r s imm : ℕ) → (entry_at X.entries p).instruction ≡ Load r s imm → (f : Fate)
     → evaluated X w p ≡ some f → (y a : ℕ) × (f ≡ Executed y a)
-load-fate X w p r s imm load f comes =
+load_fate X w p r s imm load f comes =
     go (ρ s) (ap (λ (i : Instruction). evaluate i ρ (forwarded X.buffer w p)) (sym load) ∙ comes)
   where
     ρ : ℕ → Option ℕ
-    ρ k = registerSeen (take p X.entries) k (some (get_or X.registers k 0))
+    ρ k = register_seen (take p X.entries) k (some (get_or X.registers k 0))
 
     go : (o : Option ℕ)
         → with₂ o (some imm) (λ (y z : ℕ). Executed (forwarded X.buffer w p (sum y z)) (sum y z)) ≡ some f
@@ -94,21 +94,21 @@ module _ (program : List ℕ) (m : Machine) (p : ℕ) (w : List ℕ) {x d : ℕ}
 
     -- what it is to the buffer
     abbrev fate : Reference.Fate
-    fate = referenceAt (plain m) w p f
+    fate = reference_at (plain m) w p f
 
     abbrev left : ℕ
-    left = survivorsOf (plain m) w p f
+    left = survivors_of (plain m) w p f
 
     -- its entry
     abbrev new : Entry
-    new = entryWith (entry_at (plain m).entries p) f (loadDistance (plain m) p f)
+    new = entry_with (entry_at (plain m).entries p) f (load_distance (plain m) p f)
 
     -- the entries are as many as the references
     as_many : length (plain m).entries ≡ length buffer.refs
-    as_many = length-entries m ∙ sym (length-refs m.table)
+    as_many = length_entries m ∙ sym (length_refs m.table)
 
-    gone-is : gone ≡ firstSquashed buffer p (λ (k : ℕ). k) fate
-    gone-is =
+    gone_is : gone ≡ first_squashed buffer p (λ (k : ℕ). k) fate
+    gone_is =
         let e = did.answer in
         let is : gone ≡ cond (ltb left (length (plain m).entries)) (some left) none = cc in
         is ∙ ap (λ (n : ℕ). cond (ltb left n) (some left) none) as_many
@@ -118,49 +118,49 @@ module _ (program : List ℕ) (m : Machine) (p : ℕ) (w : List ℕ) {x d : ℕ}
     stays = go (ltb left (length buffer.refs)) refl
       where
         go : (b : Bool) → ltb left (length buffer.refs) ≡ b → p < left
-        go true e = (required buffer p (only-required buffer p fate did.live did.stays (ltb-true _ _ e))).1
+        go true e = (required buffer p (only_required buffer p fate did.live did.stays (ltb-true _ _ e))).1
         go false e = omega (arith, did.live, ltb-false left (length buffer.refs) e)
 
-    entries-are : (plain u).entries ≡ take left (set (plain m).entries p new)
-    entries-are = ap (λ (Y : Plain). Y.entries) did.state
+    entries_are : (plain u).entries ≡ take left (set (plain m).entries p new)
+    entries_are = ap (λ (Y : Plain). Y.entries) did.state
 
     stay : length (plain u).entries ≡ min left (length buffer.refs)
     stay =
-        ap length entries-are ∙ length-take left (set (plain m).entries p new)
+        ap length entries_are ∙ length-take left (set (plain m).entries p new)
         ∙ ap (min left) (length-set (plain m).entries p new ∙ as_many)
 
     -- "a squash nobody called for comes when the list requires it and at no other time", from the position that it requires, and
     -- the entries before it stay
-    pub squash-comes : (k : ℕ) → Squashes buffer p fate k → (gone ≡ some k) × (length (plain u).entries ≡ k)
-    squash-comes = Outcomes.squash-comes did (λ (k : ℕ). k) gone-is stay
+    pub squash_comes : (k : ℕ) → Squashes buffer p fate k → (gone ≡ some k) × (length (plain u).entries ≡ k)
+    squash_comes = Outcomes.squash_comes did (λ (k : ℕ). k) gone_is stay
 
-    pub squash-only : (k : ℕ) → gone ≡ some k → Squashes buffer p fate k
-    squash-only k e =
-        let named = Outcomes.squash-only did (λ (j : ℕ). j) gone-is stay k e in
+    pub squash_only : (k : ℕ) → gone ≡ some k → Squashes buffer p fate k
+    squash_only k e =
+        let named = Outcomes.squash_only did (λ (j : ℕ). j) gone_is stay k e in
         subst (Squashes buffer p fate) (sym named.2) named.1
 
-    pub squash-none : ((k : ℕ) → Squashes buffer p fate k → ⊥)
+    pub squash_none : ((k : ℕ) → Squashes buffer p fate k → ⊥)
         → (gone ≡ none) × (length (plain u).entries ≡ length (plain m).entries)
-    squash-none free =
-        let kept = Outcomes.squash-none did (λ (k : ℕ). k) gone-is stay free in
+    squash_none free =
+        let kept = Outcomes.squash_none did (λ (k : ℕ). k) gone_is stay free in
         (kept.0, kept.1 ∙ sym as_many)
 
     -- an instruction without memory squashes nothing
-    pub computing-keeps : kind own ≡ Computing → (gone ≡ none) × (length (plain u).entries ≡ length (plain m).entries)
-    computing-keeps e =
-        let all : survivorsOf (plain m) w p f ≡ length buffer.refs =
-        computing-all buffer p own (forwarded buffer w p) f e in
-        squash-none (λ k s. let r = required buffer p s in omega (arith, all, r.0, r.2))
+    pub computing_keeps : kind own ≡ Computing → (gone ≡ none) × (length (plain u).entries ≡ length (plain m).entries)
+    computing_keeps e =
+        let all : survivors_of (plain m) w p f ≡ length buffer.refs =
+        computing_all buffer p own (forwarded buffer w p) f e in
+        squash_none (λ k s. let r = required buffer p s in omega (arith, all, r.0, r.2))
 
   -- nor does a load of an address with a row
-  pub row-load-keeps : (r s imm a : ℕ) → own ≡ Load r s imm → evaluated (plain m) w p ≡ some (Executed x a)
+  pub row_load_keeps : (r s imm a : ℕ) → own ≡ Load r s imm → evaluated (plain m) w p ≡ some (Executed x a)
       → touched a buffer.refs ≡ true → (gone ≡ none) × (length (plain u).entries ≡ length (plain m).entries)
-  row-load-keeps r s imm a load comes row =
-      squash-none (Executed x a) comes
+  row_load_keeps r s imm a load comes row =
+      squash_none (Executed x a) comes
       (λ k s.
       row_keeps buffer p a k (holds (forwarded buffer w p a)) row
       (subst (λ (g : Reference.Fate). Squashes buffer p g k)
-      (ap (λ (i : Instruction). accessBy (forwarded buffer w p) (kind i) x a) load)
+      (ap (λ (i : Instruction). access_by (forwarded buffer w p) (kind i) x a) load)
       s))
 
   -- ---- a load
@@ -170,55 +170,55 @@ module _ (program : List ℕ) (m : Machine) (p : ℕ) (w : List ℕ) {x d : ℕ}
       abbrev told : Execution m p w (executed x d gone) u (Executed y a)
       told = execution program m p w meets tt (Executed y a) comes
 
-      value-is : y ≡ x
-      value-is =
+      value_is : y ≡ x
+      value_is =
           let e = told.answer in
-          let is : x ≡ loadValue own (Executed y a) = cc in
-          sym (is ∙ ap (λ (i : Instruction). loadValue i (Executed y a)) load)
+          let is : x ≡ load_value own (Executed y a) = cc in
+          sym (is ∙ ap (λ (i : Instruction). load_value i (Executed y a)) load)
 
-      distance_is : d ≡ loadDistance (plain m) p (Executed y a)
+      distance_is : d ≡ load_distance (plain m) p (Executed y a)
       distance_is = let e = told.answer in cc
 
       inside : p ≤ length (plain m).buffer.refs
       inside = le_of_lt told.live
 
-      memory-told : d ≡ 0 → (y ≡ get_or w a 0) × NoStore m p a
-      memory-told e = from-memory (plain m) w p r s imm y a load comes inside (sym distance_is ∙ e)
+      memory_told : d ≡ 0 → (y ≡ get_or w a 0) × NoStore m p a
+      memory_told e = from_memory (plain m) w p r s imm y a load comes inside (sym distance_is ∙ e)
 
       store_told : (n : ℕ) → d ≡ suc n → (from : CameFrom (plain m).buffer.refs p (suc n) a (get_or w a 0)) × (y ≡ from.word)
-      store_told n e = from-store (plain m) w p r s imm y a load comes inside n (sym distance_is ∙ e)
+      store_told n e = from_store (plain m) w p r s imm y a load comes inside n (sym distance_is ∙ e)
 
       outside_told : m.table.words ≤ a → NoStore m p a → (y ≡ 0) × (d ≡ 0)
       outside_told out free = go d refl
         where
           go : (n : ℕ) → d ≡ n → (y ≡ 0) × (d ≡ 0)
-          go zero e = ((memory-told e).0 ∙ get_or-eq_default w 0 (omega (arith, told.lent, out)), e)
+          go zero e = ((memory_told e).0 ∙ get_or-eq_default w 0 (omega (arith, told.lent, out)), e)
           go (suc n) e =
               let from = (store_told n e).0 in
               absurd (free (p - suc n) from.number from.word from.load (omega (arith, from.older)) from.stores)
 
-      entry-told : entry_at (plain u).entries p ≡ entryWith (entry_at (plain m).entries p) (Executed y a) d
-      entry-told =
+      entry_told : entry_at (plain u).entries p ≡ entry_with (entry_at (plain m).entries p) (Executed y a) d
+      entry_told =
           let old = entry_at (plain m).entries p in
           let now = new (Executed y a) comes in
-          ap (λ (es : List Entry). entry_at es p) (entries-are (Executed y a) comes)
-          ∙ get_or-take (left (Executed y a) comes) (set (plain m).entries p now) p blankEntry (stays (Executed y a) comes)
-          ∙ get_or-set_same (plain m).entries p now blankEntry (omega (arith, told.live, as_many (Executed y a) comes))
-          ∙ ap (entryWith old (Executed y a)) (sym distance_is)
+          ap (λ (es : List Entry). entry_at es p) (entries_are (Executed y a) comes)
+          ∙ get_or-take (left (Executed y a) comes) (set (plain m).entries p now) p blank_entry (stays (Executed y a) comes)
+          ∙ get_or-set_same (plain m).entries p now blank_entry (omega (arith, told.live, as_many (Executed y a) comes))
+          ∙ ap (entry_with old (Executed y a)) (sym distance_is)
 
       load_at : LoadTold m p w y d u a
       load_at =
           record {
-            entry = entry-told;
+            entry = entry_told;
             comes = comes;
-            from-memory = memory-told;
+            from_memory = memory_told;
             outside = outside_told;
-            from-store = store_told;
+            from_store = store_told;
           }
 
     pub load_told : (a : ℕ) × LoadTold m p w x d u a
     load_told =
-        let came = comes-to tabled sound-or program m p w meets tt in
-        let is = load-fate (plain m) w p r s imm load came.0 came.1 in
+        let came = comes_to_lem tabled sound_or program m p w meets tt in
+        let is = load_fate (plain m) w p r s imm load came.0 came.1 in
         let comes : evaluated (plain m) w p ≡ some (Executed is.0 is.1) = came.1 ∙ ap some is.2 in
-        (is.1, subst (λ (y : ℕ). LoadTold m p w y d u is.1) (value-is is.0 is.1 comes) (load_at is.0 is.1 comes))
+        (is.1, subst (λ (y : ℕ). LoadTold m p w y d u is.1) (value_is is.0 is.1 comes) (load_at is.0 is.1 comes))

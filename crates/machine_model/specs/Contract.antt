@@ -3,10 +3,10 @@
 use Rattle.std.specs.Prelude.{◌≡◌, Bool, true, ◌&&◌, List, ℕ, ◌<◌, eqb, get_or, replicate}
 use Rattle.std.proofs.Math.Option.{Option, none, some}
 use Rattle.table.specs.declared.Table.{Table}
-use Rattle.table.specs.Limits.{stagesMost}
+use Rattle.table.specs.Limits.{stages_most}
 use Rattle.table.specs.Reference
-use Rattle.table.specs.Reference.{Side, lacks, holds, waiting, other, accessed, fateOf, at}
-use Rattle.table.specs.View.{stageOf, tabulate, view}
+use Rattle.table.specs.Reference.{Side, lacks, holds, waiting, other, accessed, fate_of, at}
+use Rattle.table.specs.View.{stage_of, tabulate, view}
 use Rattle.table.specs.Rules.{Rules}
 use Rattle.engine.specs.Contract.{refused, done, named, executed, committed, finished}
 use Rattle.engine.specs.Opening.{fresh}
@@ -24,41 +24,41 @@ use Rattle.machine_model.specs.declared.CommitAnswer.{CommitAnswer}
 use Rattle.machine_model.specs.declared.CommitAnswer.TheVariants as commit-answer
 use Rattle.machine_model.specs.declared.FinishAnswer.{FinishAnswer}
 use Rattle.machine_model.specs.declared.FinishAnswer.TheVariants as finish-answer
-use Rattle.machine_model.specs.Window.{blankEntry, reference}
-use Rattle.machine_model.specs.Program.{registersMost}
+use Rattle.machine_model.specs.Window.{blank_entry, reference}
+use Rattle.machine_model.specs.Program.{registers_most}
 use Rattle.machine_model.specs.Over
 use Rattle.machine_model.specs.Over.{Realization}
 use Rattle.machine_model.specs.Calls.{Opening, banked, buffered, Plain, Call, Answer}
 
 -- 01's numbers and values for each case of the code's answers
 
-abbrev pub doneSays : DoneAnswer → Answer
-doneSays (done-answer.Refused k) = refused k
-doneSays done-answer.Done = done
+abbrev pub done_says : DoneAnswer → Answer
+done_says (done-answer.Refused k) = refused k
+done_says done-answer.Done = done
 
-abbrev pub issueSays : IssueAnswer → Answer
-issueSays (issue-answer.Refused k) = refused k
-issueSays (issue-answer.Issued p) = named p
+abbrev pub issue_says : IssueAnswer → Answer
+issue_says (issue-answer.Refused k) = refused k
+issue_says (issue-answer.Issued p) = named p
 
-abbrev pub squashSays : Squashed → Option ℕ
-squashSays squashed.Nothing = none
-squashSays (squashed.From p) = some p
+abbrev pub squash_says : Squashed → Option ℕ
+squash_says squashed.Nothing = none
+squash_says (squashed.From p) = some p
 
-abbrev pub executeSays : ExecuteAnswer → Answer
-executeSays (execute-answer.Refused k) = refused k
-executeSays (execute-answer.Executed v d s) = executed v d (squashSays s)
+abbrev pub execute_says : ExecuteAnswer → Answer
+execute_says (execute-answer.Refused k) = refused k
+execute_says (execute-answer.Executed v d s) = executed v d (squash_says s)
 
-abbrev pub commitSays : CommitAnswer → Answer
-commitSays (commit-answer.Refused k) = refused k
-commitSays (commit-answer.Committed i c r v d) = committed i c r v d
+abbrev pub commit_says : CommitAnswer → Answer
+commit_says (commit-answer.Refused k) = refused k
+commit_says (commit-answer.Committed i c r v d) = committed i c r v d
 
-abbrev pub finishSays : FinishAnswer → Answer
-finishSays (finish-answer.Refused k) = refused k
-finishSays (finish-answer.Finished n) = finished n
+abbrev pub finish_says : FinishAnswer → Answer
+finish_says (finish-answer.Refused k) = refused k
+finish_says (finish-answer.Finished n) = finished n
 
 -- the entry at position p of a machine's window
 abbrev pub entry_of : Machine → ℕ → Entry
-entry_of m p = get_or m.window (stageOf m.table p) blankEntry
+entry_of m p = get_or m.window (stage_of m.table p) blank_entry
 
 -- the plain state of a machine
 abbrev pub plain : Machine → Plain
@@ -72,17 +72,17 @@ plain m =
     }
 
 -- the marks of an access as a number: a load's, a store's, both; 5 stands for neither, which no table has
-abbrev pub markKind : Side → Side → ℕ
-markKind (holds w) lacks = 1
-markKind lacks (holds v) = 2
-markKind (holds w) (holds v) = 3
-markKind lacks lacks = 5
+abbrev pub mark_kind : Side → Side → ℕ
+mark_kind (holds w) lacks = 1
+mark_kind lacks (holds v) = 2
+mark_kind (holds w) (holds v) = 3
+mark_kind lacks lacks = 5
 
 -- a fate as two numbers: executed or not and with which marks, and the address
 abbrev pub kind_of : Reference.Fate → ℕ
 kind_of waiting = 4
 kind_of other = 0
-kind_of (accessed a l s) = markKind l s
+kind_of (accessed a l s) = mark_kind l s
 
 abbrev pub place_of : Reference.Fate → ℕ
 place_of waiting = 0
@@ -96,21 +96,21 @@ agree f g = eqb (kind_of f) (kind_of g) && eqb (place_of f) (place_of g)
 -- the table keeps its own rules, and window and table agree
 pub record Sound (m : Machine) : Type 0 where
   pub rules : Rules m.table
-  pub agrees : (p : ℕ) → p < m.table.live → agree (reference (entry_of m p)) (fateOf (at (view m.table).refs p)) ≡ true
+  pub agrees : (p : ℕ) → p < m.table.live → agree (reference (entry_of m p)) (fate_of (at (view m.table).refs p)) ≡ true
 
 -- a machine of this number of instructions over this table, with nothing in its window
-abbrev pub emptyMachine : Table → ℕ → Machine
-emptyMachine table count =
+abbrev pub empty_machine : Table → ℕ → Machine
+empty_machine table count =
     record {
       table = table;
-      window = replicate stagesMost blankEntry;
-      registers = replicate registersMost 0;
+      window = replicate stages_most blank_entry;
+      registers = replicate registers_most 0;
       count = count;
       next = 0;
     }
 
-abbrev pub freshMachine : Opening → ℕ → Machine
-freshMachine (banked banks rows stages words) count = emptyMachine (fresh banks rows stages words) count
+abbrev pub fresh_machine : Opening → ℕ → Machine
+fresh_machine (banked banks rows stages words) count = empty_machine (fresh banks rows stages words) count
 
 -- The machine over the buffer's table. A refused opening hands back a machine without stages, on which every call is refused
 -- with 2.
@@ -120,8 +120,8 @@ tabled =
       Machine = Machine;
       Sound = Sound;
       plain = plain;
-      fresh = freshMachine;
-      unopened = freshMachine (banked 0 0 0 0) 0;
+      fresh = fresh_machine;
+      unopened = fresh_machine (banked 0 0 0 0) 0;
     }
 
 -- The call c with this program on machine m and memory w said `said` and handed back machine u, memory v and the list as

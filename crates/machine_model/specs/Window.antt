@@ -17,15 +17,15 @@ use Rattle.machine_model.specs.declared.Entry.{Entry}
 use Rattle.machine_model.specs.Program.{code_of, kind, destination, sum}
 
 -- an entry that stands where none is
-abbrev pub blankEntry : Entry
-blankEntry = record { instruction = Add 0 0 0; index = 0; fate = Waiting; distance = 0 }
+abbrev pub blank_entry : Entry
+blank_entry = record { instruction = Add 0 0 0; index = 0; fate = Waiting; distance = 0 }
 
 abbrev pub entry_at : List Entry → ℕ → Entry
-entry_at es p = get_or es p blankEntry
+entry_at es p = get_or es p blank_entry
 
 -- the entry with another fate and distance
-abbrev pub entryWith : Entry → Fate → ℕ → Entry
-entryWith e f d = record { instruction = e.instruction; index = e.index; fate = f; distance = d }
+abbrev pub entry_with : Entry → Fate → ℕ → Entry
+entry_with e f d = record { instruction = e.instruction; index = e.index; fate = f; distance = d }
 
 -- the index that an entry leads to: the following instruction
 abbrev pub successor : Entry → ℕ
@@ -37,8 +37,8 @@ is_register none k = false
 is_register (some d) k = eqb d k
 
 -- the instruction writes register k
-abbrev pub writesTo : Instruction → ℕ → Bool
-writesTo i k = is_register (destination i) k
+abbrev pub writes_to : Instruction → ℕ → Bool
+writes_to i k = is_register (destination i) k
 
 -- an entry with this fate has not executed yet
 abbrev pub pending : Fate → Bool
@@ -51,29 +51,29 @@ value_of Waiting = none
 value_of (Executed v a) = some v
 
 -- the address of an executed entry
-abbrev pub addressBy : Fate → ℕ
-addressBy Waiting = 0
-addressBy (Executed v a) = a
+abbrev pub address_by : Fate → ℕ
+address_by Waiting = 0
+address_by (Executed v a) = a
 
 -- it has executed as an H at an odd byte number
 abbrev pub misaligned : Entry → Bool
-misaligned e = eqb (code_of e.instruction) 6 && eqb (addressBy e.fate % 2) 1
+misaligned e = eqb (code_of e.instruction) 6 && eqb (address_by e.fate % 2) 1
 
 -- what register k holds after these entries, where it held w before them: the nearest writer decides
-unfoldable pub registerSeen : List Entry → ℕ → Option ℕ → Option ℕ
-registerSeen [] k w = w
-registerSeen (e ∷ es) k w = registerSeen es k (cond (writesTo e.instruction k) (value_of e.fate) w)
+unfoldable pub register_seen : List Entry → ℕ → Option ℕ → Option ℕ
+register_seen [] k w = w
+register_seen (e ∷ es) k w = register_seen es k (cond (writes_to e.instruction k) (value_of e.fate) w)
 
 -- what an executed instruction of this kind is to the buffer, where the memory is seen as μ
-abbrev pub accessBy : (ℕ → ℕ) → Kind → ℕ → ℕ → Reference.Fate
-accessBy μ Computing v a = other
-accessBy μ Loading v a = loaded a (μ a)
-accessBy μ Storing v a = stored a v
-accessBy μ Merging v a = merged (word_of a) (μ (word_of a)) v
+abbrev pub access_by : (ℕ → ℕ) → Kind → ℕ → ℕ → Reference.Fate
+access_by μ Computing v a = other
+access_by μ Loading v a = loaded a (μ a)
+access_by μ Storing v a = stored a v
+access_by μ Merging v a = merged (word_of a) (μ (word_of a)) v
 
-abbrev pub referenceBy : (ℕ → ℕ) → Instruction → Fate → Reference.Fate
-referenceBy μ i Waiting = waiting
-referenceBy μ i (Executed v a) = accessBy μ (kind i) v a
+abbrev pub reference_by : (ℕ → ℕ) → Instruction → Fate → Reference.Fate
+reference_by μ i Waiting = waiting
+reference_by μ i (Executed v a) = access_by μ (kind i) v a
 
 -- The same of an entry. The word that its load took is the table's to keep, and 0 stands for it here. No call goes by it; `spoil`
 -- of crates/machine_examples puts it into a state.
@@ -81,7 +81,7 @@ abbrev pub untold : ℕ → ℕ
 untold a = 0
 
 abbrev pub reference : Entry → Reference.Fate
-reference e = referenceBy untold e.instruction e.fate
+reference e = reference_by untold e.instruction e.fate
 
 -- two known numbers
 abbrev pub with₂ : {A : Type 0} → Option ℕ → Option ℕ → (ℕ → ℕ → A) → Option A
@@ -90,8 +90,8 @@ with₂ (some x) none f = none
 with₂ (some x) (some y) f = some (f x y)
 
 -- a store of y's part at byte b: the whole word is its value
-abbrev pub partStored : Part → (ℕ → ℕ) → ℕ → ℕ → Fate
-partStored part μ b y = Executed (whole part b (μ (word_of b)) y) b
+abbrev pub part_stored : Part → (ℕ → ℕ) → ℕ → ℕ → Fate
+part_stored part μ b y = Executed (whole part b (μ (word_of b)) y) b
 
 -- What an instruction comes to where registers hold ρ and the memory is seen as μ, if its operands are known: its value and
 -- its address (0 where it has none, of B and H the byte number).
@@ -100,5 +100,5 @@ evaluate (Add d s imm) ρ μ = with₂ (ρ s) (some imm) (λ x y. Executed (sum 
 evaluate (Sum d s r) ρ μ = with₂ (ρ s) (ρ r) (λ x y. Executed (sum x y) 0)
 evaluate (Load d s imm) ρ μ = with₂ (ρ s) (some imm) (λ x y. Executed (μ (sum x y)) (sum x y))
 evaluate (Store d s imm) ρ μ = with₂ (ρ s) (ρ d) (λ x y. Executed y (sum x imm))
-evaluate (Byte d s imm) ρ μ = with₂ (ρ s) (ρ d) (λ x y. partStored part.Byte μ (sum x imm) y)
-evaluate (Half d s imm) ρ μ = with₂ (ρ s) (ρ d) (λ x y. partStored part.Half μ (sum x imm) y)
+evaluate (Byte d s imm) ρ μ = with₂ (ρ s) (ρ d) (λ x y. part_stored part.Byte μ (sum x imm) y)
+evaluate (Half d s imm) ρ μ = with₂ (ρ s) (ρ d) (λ x y. part_stored part.Half μ (sum x imm) y)

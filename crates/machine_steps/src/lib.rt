@@ -5,12 +5,12 @@
 // Inner crate: callers show what each `requires` names.
 ghost use Rattle.std.specs.Prelude.{◌≡◌, cond, ◌+◌, ◌*◌, ◌≤◌, ◌<◌, length, get_or, ltb};
 ghost use Rattle.std.proofs.lemmas.List.Edits.{sets};
-ghost use Rattle.machine_model.specs.Program.{perInstruction, registersMost};
-ghost use Rattle.machine_model.specs.Window.{entryWith, reference};
-ghost use Rattle.machine_model.specs.Calls.{newEntry, valueBy, registersAfter, committedSays, perCommit};
-ghost use Rattle.machine_model.specs.Contract.{executeSays, commitSays};
-ghost use Rattle.machine_laws.specs.computed.Parts.{OperandsExist, actionBy, markWith, issueNumber, commitNumber};
-ghost use Rattle.machine_laws.specs.computed.Parts.{executedSays, commitNumbers};
+ghost use Rattle.machine_model.specs.Program.{per_instruction, registers_most};
+ghost use Rattle.machine_model.specs.Window.{entry_with, reference};
+ghost use Rattle.machine_model.specs.Calls.{new_entry, value_by, registers_after, committed_says, per_commit};
+ghost use Rattle.machine_model.specs.Contract.{execute_says, commit_says};
+ghost use Rattle.machine_laws.specs.Computed.Parts.{OperandsExist, action_by, mark_with, issue_number, commit_number};
+ghost use Rattle.machine_laws.specs.Computed.Parts.{executed_says, commit_numbers};
 ghost use Rattle.machine_model.specs.declared.Fate.TheVariants.{Executed};
 
 use engine::{Action, Effect};
@@ -19,7 +19,7 @@ use machine_model::{CommitAnswer, Entry, ExecuteAnswer, Fate, PER_COMMIT, REGIST
 
 // Which of the conditions 5 and 6 turns down an issue, where no stage is left or one is; 0: none.
 pub fn issue_refusal(full: bool, count: u32, next: u32) -> u32
-    ensures { result ≡ issueNumber full count next }
+    ensures { result ≡ issue_number full count next }
 {
     if full {
         return 5;
@@ -32,10 +32,10 @@ pub fn issue_refusal(full: bool, count: u32, next: u32) -> u32
 
 // The entry of the program's instruction at this index, just issued.
 pub fn entry_issued(program: &[u32], index: u32) -> Entry
-    requires { (index * perInstruction + 3 < length program.now)
-        × (get_or program.now (index * perInstruction + 1) 0 < registersMost)
-        × (get_or program.now (index * perInstruction + 2) 0 < registersMost) }
-    ensures { result ≡ newEntry program.now index }
+    requires { (index * per_instruction + 3 < length program.now)
+        × (get_or program.now (index * per_instruction + 1) 0 < registers_most)
+        × (get_or program.now (index * per_instruction + 2) 0 < registers_most) }
+    ensures { result ≡ new_entry program.now index }
 {
     Entry {
         instruction: machine_isa::instruction_at(program, index as usize),
@@ -47,7 +47,7 @@ pub fn entry_issued(program: &[u32], index: u32) -> Entry
 
 // The entry once it has executed to this value, address and distance.
 pub fn entry_executed(e: Entry, value: u32, address: u32, distance: u32) -> Entry
-    ensures { result ≡ entryWith e (Executed value address) distance }
+    ensures { result ≡ entry_with e (Executed value address) distance }
 {
     let instruction = e.instruction;
     Entry {
@@ -70,7 +70,7 @@ pub fn next_after(index: u32, live: usize, left: usize, next: u32) -> u32
 
 // The answer of an execution with this effect, of `live` entries.
 pub fn execute_answer(effect: Effect, live: usize) -> ExecuteAnswer
-    ensures { executeSays result ≡ executedSays effect live }
+    ensures { execute_says result ≡ executed_says effect live }
 {
     let left = effect.left;
     let value = engine_steps::answered(effect.load, effect.store, effect.value);
@@ -82,7 +82,7 @@ pub fn execute_answer(effect: Effect, live: usize) -> ExecuteAnswer
 
 // What register `k` holds.
 pub fn register(registers: &[u32; REGISTERS], k: u32) -> u32
-    requires { (k < registersMost) × (length registers.now ≡ registersMost) }
+    requires { (k < registers_most) × (length registers.now ≡ registers_most) }
     ensures { result ≡ get_or registers.now k 0 }
 {
     registers[k as usize]
@@ -90,8 +90,8 @@ pub fn register(registers: &[u32; REGISTERS], k: u32) -> u32
 
 // What the instruction of `e` asks with what the registers hold.
 pub fn action_by(registers: &[u32; REGISTERS], e: Entry) -> Action
-    requires { OperandsExist e.instruction × (length registers.now ≡ registersMost) }
-    ensures { result ≡ actionBy registers.now e.instruction }
+    requires { OperandsExist e.instruction × (length registers.now ≡ registers_most) }
+    ensures { result ≡ action_by registers.now e.instruction }
 {
     let i = e.instruction;
     let x = registers[machine_isa::s_of(i) as usize];
@@ -101,7 +101,7 @@ pub fn action_by(registers: &[u32; REGISTERS], e: Entry) -> Action
 
 // Which of the conditions 11 to 14 turns down the commit of `e`, the oldest of `live` entries, over so many words; 0: none.
 pub fn commit_refusal(e: Entry, live: usize, words: usize) -> u32
-    ensures { result ≡ commitNumber e live words }
+    ensures { result ≡ commit_number e live words }
 {
     if live == 0 {
         return 11;
@@ -121,7 +121,7 @@ pub fn commit_refusal(e: Entry, live: usize, words: usize) -> u32
 // The mark of the oldest stage, told by its entry `e`, which has executed and agrees with the table; `word` is the table's word
 // at that stage.
 pub fn oldest_mark(e: Entry, word: u32) -> Mark
-    ensures { result ≡ markWith (reference e) word }
+    ensures { result ≡ mark_with (reference e) word }
 {
     let kind = machine_isa::entry_kind(e);
     let a = machine_isa::entry_place(e);
@@ -136,8 +136,8 @@ pub fn oldest_mark(e: Entry, word: u32) -> Mark
 
 // The commit of `e` to the registers.
 pub fn write_register(registers: &mut [u32; REGISTERS], e: Entry)
-    requires { length registers.old ≡ registersMost }
-    ensures { registers.new ≡ registersAfter registers.old e.instruction (valueBy e.fate) }
+    requires { length registers.old ≡ registers_most }
+    ensures { registers.new ≡ registers_after registers.old e.instruction (value_by e.fate) }
 {
     let i = e.instruction;
     let d = machine_isa::destination_of(i) as usize;
@@ -148,7 +148,7 @@ pub fn write_register(registers: &mut [u32; REGISTERS], e: Entry)
 
 // The answer of the commit of `e`.
 pub fn commit_answer(e: Entry) -> CommitAnswer
-    ensures { commitSays result ≡ committedSays e }
+    ensures { commit_says result ≡ committed_says e }
 {
     let i = e.instruction;
     CommitAnswer::Committed(
@@ -162,8 +162,8 @@ pub fn commit_answer(e: Entry) -> CommitAnswer
 
 // The numbers of that answer, to the places of the `n`th commit of a list.
 pub fn list_commit(list: &mut [u32], n: usize, e: Entry)
-    requires { n * perCommit + perCommit ≤ length list.old }
-    ensures { list.new ≡ sets list.old (n * perCommit) (commitNumbers e) }
+    requires { n * per_commit + per_commit ≤ length list.old }
+    ensures { list.new ≡ sets list.old (n * per_commit) (commit_numbers e) }
 {
     let i = e.instruction;
     machine_isa::put_commit(

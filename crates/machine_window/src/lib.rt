@@ -4,11 +4,11 @@
 ghost use Rattle.std.specs.Prelude.{◌≡◌, ℕ, ◌≤◌, ◌<◌, length, get_or};
 ghost use Rattle.std.proofs.Math.Option.{some};
 ghost use Rattle.marks.specs.Circle.{stage};
-ghost use Rattle.machine_model.specs.Window.{blankEntry, value_of};
-ghost use Rattle.machine_laws.specs.computed.Parts.{destinationAt, writer, as_number, marksAt, markNumber};
-ghost use Rattle.machine_laws.specs.computed.Parts.{agreesBy, agreeingBy, fittingBy, validateBy, OperandsExist, asked_of};
-ghost use Rattle.machine_laws.specs.computed.Parts.{askedNumber};
-ghost use Rattle.table.specs.Limits.{banksMost, slots, stagesMost};
+ghost use Rattle.machine_model.specs.Window.{blank_entry, value_of};
+ghost use Rattle.machine_laws.specs.Computed.Parts.{destination_at, writer, as_number, marks_at, mark_number};
+ghost use Rattle.machine_laws.specs.Computed.Parts.{agrees_by, agreeing_by, fitting_by, validate_by, OperandsExist, asked_of};
+ghost use Rattle.machine_laws.specs.Computed.Parts.{asked_number};
+ghost use Rattle.table.specs.Limits.{banks_most, slots, stages_most};
 ghost use Rattle.table.specs.Bank.{bank};
 
 use engine::Action;
@@ -30,10 +30,10 @@ fn marks_at<'a>(
     stores: &'a [u32; SLOTS],
     a: u32,
 ) -> Marks
-    requires banks_nonzero { (0 < banks) × (banks ≤ banksMost) }
+    requires banks_nonzero { (0 < banks) × (banks ≤ banks_most) }
     requires addresses_len { (length addresses.now ≡ slots) × (length loads.now ≡ slots) × (length stores.now ≡ slots) }
-    ensures { (result.loads ≡ marksAt addresses.now loads.now (bank banks a) a)
-        × (result.stores ≡ marksAt addresses.now stores.now (bank banks a) a) }
+    ensures { (result.loads ≡ marks_at addresses.now loads.now (bank banks a) a)
+        × (result.stores ≡ marks_at addresses.now stores.now (bank banks a) a) }
 {
     let first = table_rules::bank_of(banks, a) * ROWS;
     let mut load: u32 = 0;
@@ -55,7 +55,7 @@ fn marks_at<'a>(
 
 // The kind of an access with these marks; 0 with neither.
 fn mark_number(load: bool, store: bool) -> u32
-    ensures { result ≡ markNumber load store }
+    ensures { result ≡ mark_number load store }
 {
     if load {
         if store {
@@ -81,10 +81,10 @@ fn stage_agrees<'a>(
     place: u32,
     s: usize,
 ) -> bool
-    requires banks_nonzero { (0 < banks) × (banks ≤ banksMost) × (s < stagesMost) }
+    requires banks_nonzero { (0 < banks) × (banks ≤ banks_most) × (s < stages_most) }
     requires addresses_len { (length addresses.now ≡ slots) × (length loads.now ≡ slots) × (length stores.now ≡ slots) }
     ensures { result
-        ≡ agreesBy banks executed marked addresses.now loads.now stores.now kind place s }
+        ≡ agrees_by banks executed marked addresses.now loads.now stores.now kind place s }
 {
     if kind == 4 {
         return !marks::contains(executed, s);
@@ -117,11 +117,11 @@ fn pass_over<'a>(
     window: [Entry; STAGES],
     program: &[u32],
 ) -> Pass
-    requires banks_nonzero { (0 < banks) × (banks ≤ banksMost) × (oldest < stages) × (live ≤ stages) × (stages ≤ stagesMost) }
+    requires banks_nonzero { (0 < banks) × (banks ≤ banks_most) × (oldest < stages) × (live ≤ stages) × (stages ≤ stages_most) }
     requires addresses_len { (length addresses.now ≡ slots) × (length loads.now ≡ slots) × (length stores.now ≡ slots) }
-    ensures agrees_value { result.agrees ≡ agreeingBy banks oldest stages executed addresses.now loads.now
+    ensures agrees_value { result.agrees ≡ agreeing_by banks oldest stages executed addresses.now loads.now
         stores.now window live }
-    ensures fits_value { result.fits ≡ fittingBy program.now oldest stages window live }
+    ensures fits_value { result.fits ≡ fitting_by program.now oldest stages window live }
 {
     let marked = table_rules::marks_from(loads, stores, 0, banks * ROWS);
     let mut agrees = true;
@@ -161,7 +161,7 @@ pub fn validate<'a>(
     lent: usize,
 ) -> u32
     requires { (length addresses.now ≡ slots) × (length loads.now ≡ slots) × (length stores.now ≡ slots) }
-    ensures { result ≡ validateBy banks rows stages words oldest live executed addresses.now loads.now
+    ensures { result ≡ validate_by banks rows stages words oldest live executed addresses.now loads.now
         stores.now window count program.now lent }
 {
     if !table_rules::keeps_rules(
@@ -192,8 +192,8 @@ pub fn validate<'a>(
 
 // The registers that the entries before position `p` write, by position: what the search for a writer reads.
 fn destinations(window: [Entry; STAGES], oldest: usize, stages: usize, p: usize) -> [u32; STAGES]
-    requires { (oldest < stages) × (stages ≤ stagesMost) × (p ≤ stages) }
-    ensures { (q : ℕ) → q < p → get_or result q 0 ≡ destinationAt window oldest stages q }
+    requires { (oldest < stages) × (stages ≤ stages_most) × (p ≤ stages) }
+    ensures { (q : ℕ) → q < p → get_or result q 0 ≡ destination_at window oldest stages q }
 {
     let mut into = [0u32; STAGES];
     let mut q = 0;
@@ -208,7 +208,7 @@ fn destinations(window: [Entry; STAGES], oldest: usize, stages: usize, p: usize)
 
 // One more than the position of the nearest older writer of register `k`, or 0: the search goes on at the next older position.
 fn writer_of(into: &[u32; STAGES], k: u32, p: usize) -> usize
-    requires { (p ≤ stagesMost) × (length into.now ≡ stagesMost) }
+    requires { (p ≤ stages_most) × (length into.now ≡ stages_most) }
     ensures { (result ≤ p) × (result ≡ writer into.now k p) }
 {
     if p == 0 {
@@ -259,11 +259,11 @@ pub fn asked_at(
     live: usize,
     p: usize,
 ) -> Asked
-    requires oldest_lt_stages { (oldest < stages) × (live ≤ stages) × (stages ≤ stagesMost) }
-    requires operands_exist { p < live → OperandsExist (get_or window (stage oldest stages p) blankEntry).instruction }
-    ensures why_value { result.why ≡ askedNumber window registers oldest stages live p }
+    requires oldest_lt_stages { (oldest < stages) × (live ≤ stages) × (stages ≤ stages_most) }
+    requires operands_exist { p < live → OperandsExist (get_or window (stage oldest stages p) blank_entry).instruction }
+    ensures why_value { result.why ≡ asked_number window registers oldest stages live p }
     ensures stage_value { result.why ≡ 0 → (result.stage ≡ stage oldest stages p)
-        × (result.entry ≡ get_or window (stage oldest stages p) blankEntry)
+        × (result.entry ≡ get_or window (stage oldest stages p) blank_entry)
         × (asked_of window registers oldest stages p ≡ some result.action) }
 {
     if p >= live {

@@ -1,6 +1,6 @@
 -- The highest stage in a set, and a set of positions without its highest one.
 -- A word with 2 ^ j ≤ a < 2 ^ (j + 1) has bit j and none above it, and the zeros above bit j and the j + 1 bits from there
--- on make the word's width, so the leading zeros tell j (highest-is). The highest position in the set of the first k positions
+-- on make the word's width, so the leading zeros tell j (highest_is). The highest position in the set of the first k positions
 -- whose stage is in x is the youngest of them; none is between it and k, and without it the set is that of the first j (falls).
 -- Assumes nothing.
 use mathlib.Core.Bool.{Bool, true, false, cond, ◌&&◌, true≢false, and-eq-true_iff}
@@ -16,30 +16,30 @@ use borrow.Author.Tests.{ltb-true, ltb-false, lt-ltb}
 use Rattle.marks.specs.Circle.{stage, turned}
 use Rattle.marks.specs.Counting.{last}
 use Rattle.marks.specs.Stages.{has}
-use Rattle.marks.proofs.Counts.{last-is}
-use Rattle.marks.proofs.Sets.{has-small, member, same_set, small-set}
-use Rattle.marks.proofs.Turns.{turned-has}
+use Rattle.marks.proofs.Counts.{last_is}
+use Rattle.marks.proofs.Sets.{has_small, member, same_set, small_set}
+use Rattle.marks.proofs.Turns.{turned_has}
 
 -- a member is below each bound of the word
-member-lt : (a m k : ℕ) → a < 2 ^ m → has a k ≡ true → k < m
-member-lt a m k h e = lt_of_not-le (λ l. true≢false (sym e ∙ has-small a m k h l))
+member_lt : (a m k : ℕ) → a < 2 ^ m → has a k ≡ true → k < m
+member_lt a m k h e = lt_of_not-le (λ l. true≢false (sym e ∙ has_small a m k h l))
 
-top-has : (a j : ℕ) → 2 ^ j ≤ a → a < 2 ^ suc j → has a j ≡ true
-top-has a j least most = go (has a j) refl
+top_has : (a j : ℕ) → 2 ^ j ≤ a → a < 2 ^ suc j → has a j ≡ true
+top_has a j least most = go (has a j) refl
   where
     go : (t : Bool) → has a j ≡ t → t ≡ true
     go true e = refl
     go false e =
         let low : a < 2 ^ j =
-        small-set a j
-        (λ k m. lt_of_le-ne (omega (arith, member-lt a (suc j) k most m)) (λ q. true≢false (sym m ∙ ap (has a) q ∙ e))) in
+        small_set a j
+        (λ k m. lt_of_le-ne (omega (arith, member_lt a (suc j) k most m)) (λ q. true≢false (sym m ∙ ap (has a) q ∙ e))) in
         absurd (omega arith)
 
-pub highest-is : (w a : ℕ) → 0 < a → a < 2 ^ w → count_leading_zeros w a + suc (last (has a) w) ≡ w
-highest-is w a some fits =
+pub highest_is : (w a : ℕ) → 0 < a → a < 2 ^ w → count_leading_zeros w a + suc (last (has a) w) ≡ w
+highest_is w a some fits =
     let top = leading_top w a some fits in
-    let at = last-is (has a) w top.0 (omega (arith, top.1)) (top-has a top.0 top.2 top.3) in
-    let l = member-lt a (suc top.0) (last (has a) w) top.3 at.1 in
+    let at = last_is (has a) w top.0 (omega (arith, top.1)) (top_has a top.0 top.2 top.3) in
+    let l = member_lt a (suc top.0) (last (has a) w) top.3 at.1 in
     omega (arith, top.1, at.2, l)
 
 module _ (o n x : ℕ) where
@@ -50,17 +50,17 @@ module _ (o n x : ℕ) where
     pub none : (p : ℕ) → j < p → p < k → has x (stage o n p) ≡ false
     pub rest : turned o n x k - 2 ^ j ≡ turned o n x j
 
-  turned-to : (k p : ℕ) → has (turned o n x k) p ≡ true → (p < k) × (has x (stage o n p) ≡ true)
-  turned-to k p e =
-      let both = (and-eq-true_iff (ltb p k) (has x (stage o n p))).0 (sym (turned-has o n x k p) ∙ e) in
+  turned_to_lem : (k p : ℕ) → has (turned o n x k) p ≡ true → (p < k) × (has x (stage o n p) ≡ true)
+  turned_to_lem k p e =
+      let both = (and-eq-true_iff (ltb p k) (has x (stage o n p))).0 (sym (turned_has o n x k p) ∙ e) in
       (ltb-true p k both.0, both.1)
 
   turned_lt : (k : ℕ) → turned o n x k < 2 ^ k
-  turned_lt k = small-set (turned o n x k) k (λ p e. (turned-to k p e).0)
+  turned_lt k = small_set (turned o n x k) k (λ p e. (turned_to_lem k p e).0)
 
-  turned-clause : (j : ℕ) → has x (stage o n j) ≡ true → turned o n x (suc j) ≡ 2 ^ j + turned o n x j
+  turned_clause : (j : ℕ) → has x (stage o n j) ≡ true → turned o n x (suc j) ≡ 2 ^ j + turned o n x j
   unfolding turned
-  turned-clause j e =
+  turned_clause j e =
       ap (λ (t : Bool). bit_or (turned o n x j) (cond t (2 ^ j) 0)) e
       ∙ ap (bit_or (turned o n x j)) (sym (one-mul (2 ^ j))) ∙ or_shifted_r 1 j (turned o n x j) (turned_lt j)
       ∙ ap (λ (y : ℕ). y + turned o n x j) (one-mul (2 ^ j))
@@ -69,7 +69,7 @@ module _ (o n x : ℕ) where
   turned_same : (j k : ℕ) → j ≤ k → ((p : ℕ) → j ≤ p → p < k → has x (stage o n p) ≡ false) → turned o n x k ≡ turned o n x j
   turned_same j k l none =
       same_set (turned o n x k) (turned o n x j)
-      (λ p. turned-has o n x k p ∙ go p (ltb p k) refl (ltb p j) refl ∙ sym (turned-has o n x j p))
+      (λ p. turned_has o n x k p ∙ go p (ltb p k) refl (ltb p j) refl ∙ sym (turned_has o n x j p))
     where
       go : (p : ℕ) (t : Bool) → ltb p k ≡ t → (u : Bool) → ltb p j ≡ u → (t && has x (stage o n p)) ≡ (u && has x (stage o n p))
       go p true e true d = refl
@@ -81,11 +81,11 @@ module _ (o n x : ℕ) where
   falls w k fits some =
       let m = member (turned o n x k) (λ z. omega arith) in
       let j = last (has (turned o n x k)) w in
-      let top = last-is (has (turned o n x k)) w m.0 (omega (arith, (turned-to k m.0 m.1).0)) m.1 in
-      let at = turned-to k j top.1 in
-      let free = above j (λ p e. (last-is (has (turned o n x k)) w p (omega (arith, (turned-to k p e).0)) e).2) in
+      let top = last_is (has (turned o n x k)) w m.0 (omega (arith, (turned_to_lem k m.0 m.1).0)) m.1 in
+      let at = turned_to_lem k j top.1 in
+      let free = above j (λ p e. (last_is (has (turned o n x k)) w p (omega (arith, (turned_to_lem k p e).0)) e).2) in
       let same = turned_same (suc j) k at.0 free in
-      let one = turned-clause j at.1 in
+      let one = turned_clause j at.1 in
       record { below = at.0; member = top.1; none = free; rest = omega (arith, one, same) }
     where
       above : (j : ℕ) → ((p : ℕ) → has (turned o n x k) p ≡ true → p ≤ j)
@@ -94,4 +94,4 @@ module _ (o n x : ℕ) where
         where
           go : (t : Bool) → has x (stage o n p) ≡ t → t ≡ false
           go false e = refl
-          go true e = absurd (omega (arith, most p (turned-has o n x k p ∙ ap₂ ◌&&◌ (lt-ltb p k h) e)))
+          go true e = absurd (omega (arith, most p (turned_has o n x k p ∙ ap₂ ◌&&◌ (lt-ltb p k h) e)))

@@ -1,7 +1,7 @@
 -- The circle of stages: stage and position are inverse below n, and the set of the first k positions has their stages.
 -- Either position p does not go past the last stage, and its stage is o + p, or it does, and its stage + n is o + p
 -- (At, turn); so too for a position (back). The laws of the two are these cases and linear arithmetic. A set of stages as a
--- set of positions has a position where the set has its stage (turned-has). Assumes nothing.
+-- set of positions has a position where the set has its stage (turned_has). Assumes nothing.
 use mathlib.Core.Bool.{Bool, true, false, cond, ◌&&◌, ◌||◌, or-true, or-false, and-true, and-false}
 use mathlib.Core.Logic.{◌⊎◌, inl, inr, ⊎_elim}
 use mathlib.Core.Path.{◌≡◌, refl, sym, ap, ap₂, ◌∙◌}
@@ -14,7 +14,7 @@ use lib.Pow.{pow-lt, pow_pos}
 use borrow.Author.Tests.{ltb-true, ltb-false, leb-true, leb-false, lt-ltb, le-ltb, eq-eqb, ne_eqb}
 use Rattle.marks.specs.Circle.{stage, position, firsts, turned}
 use Rattle.marks.specs.Stages.{has}
-use Rattle.marks.proofs.Sets.{has-or, has_one, has-zero, has-small}
+use Rattle.marks.proofs.Sets.{has_or, has_one, has_zero, has_small}
 
 -- s is the stage at position p
 abbrev At : ℕ → ℕ → ℕ → ℕ → Type 0
@@ -41,30 +41,30 @@ module _ (o n : ℕ) (start : o < n) where
       go true e = let l : o ≤ s = leb-true o s e in inl (l, rw e (omega arith))
       go false e = let l : s < o = leb-false o s e in inr (l, rw e (omega arith))
 
-  pub stage-zero : stage o n 0 ≡ o
-  stage-zero = turn_is o n 0 o (inl (omega arith, omega arith))
+  pub stage_zero : stage o n 0 ≡ o
+  stage_zero = turn_is o n 0 o (inl (omega arith, omega arith))
 
-  pub stage-lt : (p : ℕ) → p ≤ n → stage o n p < n
-  stage-lt p h = ⊎_elim (λ w. omega arith) (λ w. omega arith) (turn o n p)
+  pub stage_lt : (p : ℕ) → p ≤ n → stage o n p < n
+  stage_lt p h = ⊎_elim (λ w. omega arith) (λ w. omega arith) (turn o n p)
 
-  pub position-stage : (p : ℕ) → p < n → position o n (stage o n p) ≡ p
-  position-stage p h =
+  pub position_stage : (p : ℕ) → p < n → position o n (stage o n p) ≡ p
+  position_stage p h =
       ⊎_elim
       (λ w. ⊎_elim (λ v. omega arith) (λ v. omega arith) (back (stage o n p)))
       (λ w. ⊎_elim (λ v. omega arith) (λ v. omega arith) (back (stage o n p)))
       (turn o n p)
 
-  pub stage-position : (s : ℕ) → s < n → stage o n (position o n s) ≡ s
-  stage-position s h =
+  pub stage_position : (s : ℕ) → s < n → stage o n (position o n s) ≡ s
+  stage_position s h =
       turn_is o n (position o n s) s
       (⊎_elim (λ w. inl (omega arith, omega arith)) (λ w. inr (omega arith, omega arith)) (back s))
 
-  pub stage-injective : (p q : ℕ) → p < n → q < n → stage o n p ≡ stage o n q → p ≡ q
-  stage-injective p q h l e = sym (position-stage p h) ∙ ap (position o n) e ∙ position-stage q l
+  pub stage_injective : (p q : ℕ) → p < n → q < n → stage o n p ≡ stage o n q → p ≡ q
+  stage_injective p q h l e = sym (position_stage p h) ∙ ap (position o n) e ∙ position_stage q l
 
   -- the window from position f on
-  pub stage-from : (f p : ℕ) → f + p ≤ n → stage (stage o n f) n p ≡ stage o n (f + p)
-  stage-from f p h =
+  pub stage_from : (f p : ℕ) → f + p ≤ n → stage (stage o n f) n p ≡ stage o n (f + p)
+  stage_from f p h =
       sym
       (turn_is o n (f + p) (stage (stage o n f) n p)
       (⊎_elim
@@ -72,11 +72,11 @@ module _ (o n : ℕ) (start : o < n) where
       (λ w. ⊎_elim (λ v. inr (omega arith, omega arith)) (λ v. absurd (omega arith)) (turn (stage o n f) n p))
       (turn o n f)))
 
-  pub firsts-lt : (k : ℕ) → k ≤ n → firsts o n k < 2 ^ n
+  pub firsts_lt : (k : ℕ) → k ≤ n → firsts o n k < 2 ^ n
   unfolding firsts
-  firsts-lt zero h = pow_pos n
-  firsts-lt (suc k) h =
-      or_lt n (firsts o n k) (2 ^ stage o n k) (firsts-lt k (omega arith)) (pow-lt (stage-lt k (omega arith)))
+  firsts_lt zero h = pow_pos n
+  firsts_lt (suc k) h =
+      or_lt n (firsts o n k) (2 ^ stage o n k) (firsts_lt k (omega arith)) (pow-lt (stage_lt k (omega arith)))
 
   -- s is at one of the first k + 1 positions where it is at one of the first k or is the stage at position k
   next : (k s : ℕ) → k < n → s < n
@@ -88,7 +88,7 @@ module _ (o n : ℕ) (start : o < n) where
           ⊎_elim
           (λ (q : position o n s ≡ k).
           ap (λ (t : Bool). ltb (position o n s) k || t)
-          (eq-eqb (stage o n k) s (ap (stage o n) (sym q) ∙ stage-position s l))
+          (eq-eqb (stage o n k) s (ap (stage o n) (sym q) ∙ stage_position s l))
           ∙ or-true (ltb (position o n s) k))
           (λ (q : position o n s < k). ap (λ (t : Bool). t || eqb (stage o n k) s) (lt-ltb (position o n s) k q))
           (eq-or-lt_of_le (le_of_suc-le-suc (ltb-true (position o n s) (suc k) e)))
@@ -96,33 +96,33 @@ module _ (o n : ℕ) (start : o < n) where
           let r : suc k ≤ position o n s = ltb-false (position o n s) (suc k) e in
           ap₂ ◌||◌ (le-ltb (position o n s) k (omega arith))
           (ne_eqb (stage o n k) s
-          (λ q. let z : position o n s ≡ k = ap (position o n) (sym q) ∙ position-stage k h in omega arith))
+          (λ q. let z : position o n s ≡ k = ap (position o n) (sym q) ∙ position_stage k h in omega arith))
 
-  pub firsts-has : (k s : ℕ) → k ≤ n → s < n → has (firsts o n k) s ≡ ltb (position o n s) k
+  pub firsts_has : (k s : ℕ) → k ≤ n → s < n → has (firsts o n k) s ≡ ltb (position o n s) k
   unfolding firsts
-  firsts-has zero s h l = has-zero s ∙ sym (le-ltb (position o n s) 0 (omega arith))
-  firsts-has (suc k) s h l =
-      has-or (firsts o n k) (2 ^ stage o n k) s
-      ∙ ap₂ ◌||◌ (firsts-has k s (omega arith) l) (has_one (stage o n k) s) ∙ next k s h l
+  firsts_has zero s h l = has_zero s ∙ sym (le-ltb (position o n s) 0 (omega arith))
+  firsts_has (suc k) s h l =
+      has_or (firsts o n k) (2 ^ stage o n k) s
+      ∙ ap₂ ◌||◌ (firsts_has k s (omega arith) l) (has_one (stage o n k) s) ∙ next k s h l
 
   pub firsts_at : (k p : ℕ) → k ≤ n → p < n → has (firsts o n k) (stage o n p) ≡ ltb p k
   firsts_at k p h l =
-      firsts-has k (stage o n p) h (stage-lt p (omega arith)) ∙ ap (λ (q : ℕ). ltb q k) (position-stage p l)
+      firsts_has k (stage o n p) h (stage_lt p (omega arith)) ∙ ap (λ (q : ℕ). ltb q k) (position_stage p l)
 
-  pub firsts-out : (k s : ℕ) → k ≤ n → n ≤ s → has (firsts o n k) s ≡ false
-  firsts-out k s h l = has-small (firsts o n k) n s (firsts-lt k h) l
+  pub firsts_out : (k s : ℕ) → k ≤ n → n ≤ s → has (firsts o n k) s ≡ false
+  firsts_out k s h l = has_small (firsts o n k) n s (firsts_lt k h) l
 
 module _ (o n w : ℕ) where
   one_more : (t : Bool) (k p : ℕ) → has (cond t (2 ^ k) 0) p ≡ (t && eqb k p)
   one_more true k p = has_one k p
-  one_more false k p = has-zero p
+  one_more false k p = has_zero p
 
-  pub turned-has : (k p : ℕ) → has (turned o n w k) p ≡ (ltb p k && has w (stage o n p))
+  pub turned_has : (k p : ℕ) → has (turned o n w k) p ≡ (ltb p k && has w (stage o n p))
   unfolding turned
-  turned-has zero p = has-zero p ∙ ap (λ (t : Bool). t && has w (stage o n p)) (sym (le-ltb p 0 (omega arith)))
-  turned-has (suc k) p =
-      has-or (turned o n w k) (cond (has w (stage o n k)) (2 ^ k) 0) p
-      ∙ ap₂ ◌||◌ (turned-has k p) (one_more (has w (stage o n k)) k p)
+  turned_has zero p = has_zero p ∙ ap (λ (t : Bool). t && has w (stage o n p)) (sym (le-ltb p 0 (omega arith)))
+  turned_has (suc k) p =
+      has_or (turned o n w k) (cond (has w (stage o n k)) (2 ^ k) 0) p
+      ∙ ap₂ ◌||◌ (turned_has k p) (one_more (has w (stage o n k)) k p)
       ∙ go (ltb p (suc k)) refl
     where
       go : (t : Bool) → ltb p (suc k) ≡ t

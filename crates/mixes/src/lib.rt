@@ -3,7 +3,7 @@
 // the bounds that this asks for; the numbers drawn and summed are held to those of the same in C (benchmarks/inplace.c) by
 // tests/answers.
 ghost use Rattle.std.specs.Prelude.{◌<◌};
-ghost use Rattle.table.specs.Limits.{stagesMost};
+ghost use Rattle.table.specs.Limits.{stages_most};
 
 use table::{BANKS, ROWS, SLOTS, STAGES, Table};
 
@@ -70,7 +70,7 @@ pub fn address_drawn(drawn: usize) -> u32
 
 // The stage at position `p`; of a table that breaks its rules any stage will do.
 pub fn stage_drawn(oldest: usize, stages: usize, p: usize) -> usize
-    ensures { result < stagesMost }
+    ensures { result < stages_most }
 {
     if stages == 0 {
         return 0;

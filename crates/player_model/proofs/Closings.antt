@@ -1,6 +1,6 @@
 -- The closing lines: the words of memory, one after the other, and the end line. At an address within memory the word
--- there is told first, unless it is 0 (words-first); past the last one only the end line is left (no_words). These are the
--- steps of a player that closes (word-goes, end_goes). Assumes nothing.
+-- there is told first, unless it is 0 (words_first); past the last one only the end line is left (no_words). These are the
+-- steps of a player that closes (word_goes, end_goes). Assumes nothing.
 use mathlib.Core.Path.{◌≡◌, refl, sym, ap, subst, ◌∙◌}
 use mathlib.Core.Bool.{Bool, cond}
 use mathlib.Core.List.{List, [], ◌++◌, append_assoc, append-nil}
@@ -12,66 +12,66 @@ use borrow.Author.Tests.{eq-eqb, ne_eqb}
 use Rattle.machine_model.specs.declared.Machine.{Machine}
 use Rattle.machine_model.specs.Contract.{plain}
 use Rattle.player_model.specs.declared.Phase.TheVariants.{Over, Words}
-use Rattle.script_model.specs.Output.{word_line, wordLines, ending, endLine}
-use Rattle.player_model.specs.Playing.{Writes, wordLineAt}
-use Rattle.player_model.proofs.Writing.{writes-none}
+use Rattle.script_model.specs.Output.{word_line, word_lines, ending, end_line}
+use Rattle.player_model.specs.Playing.{Writes, word_line_at}
+use Rattle.player_model.proofs.Writing.{writes_none}
 use Rattle.player_model.proofs.Phases.{Goes}
 
 -- the lines of the word at a, and of those after it
-words-first : (memory : List ℕ) (a : ℕ) → a < length memory
-    → wordLines a (drop a memory) ≡ wordLineAt memory a ++ wordLines (a + 1) (drop (a + 1) memory)
-unfolding wordLines
-words-first memory a h =
-    ap (wordLines a) (drop-cons memory a 0 h)
-    ∙ ap (λ (b : ℕ). wordLineAt memory a ++ wordLines b (drop b memory)) (let q : suc a ≡ a + 1 = omega arith in q)
+words_first : (memory : List ℕ) (a : ℕ) → a < length memory
+    → word_lines a (drop a memory) ≡ word_line_at memory a ++ word_lines (a + 1) (drop (a + 1) memory)
+unfolding word_lines
+words_first memory a h =
+    ap (word_lines a) (drop-cons memory a 0 h)
+    ∙ ap (λ (b : ℕ). word_line_at memory a ++ word_lines b (drop b memory)) (let q : suc a ≡ a + 1 = omega arith in q)
 
-no_words : (memory : List ℕ) (a : ℕ) → length memory ≤ a → wordLines a (drop a memory) ≡ []
-unfolding wordLines
-no_words memory a h = ap (wordLines a) (drop_of_length-le memory h)
+no_words : (memory : List ℕ) (a : ℕ) → length memory ≤ a → word_lines a (drop a memory) ≡ []
+unfolding word_lines
+no_words memory a h = ap (word_lines a) (drop_of_length-le memory h)
 
 -- the line of a word, by whether it is 0
-pub zero-written : (memory : List ℕ) (a : ℕ) (out : List ℕ) (at : ℕ) → get_or memory a 0 ≡ 0
-    → Writes out at (wordLineAt memory a) out at
-zero-written memory a out at z =
+pub zero_written : (memory : List ℕ) (a : ℕ) (out : List ℕ) (at : ℕ) → get_or memory a 0 ≡ 0
+    → Writes out at (word_line_at memory a) out at
+zero_written memory a out at z =
     subst (λ (b : Bool). Writes out at (cond b [] (word_line a (get_or memory a 0))) out at)
-    (sym (eq-eqb (get_or memory a 0) 0 z)) (writes-none out at)
+    (sym (eq-eqb (get_or memory a 0) 0 z)) (writes_none out at)
 
-pub word-written : (memory : List ℕ) (a : ℕ) {out into : List ℕ} {at end : ℕ} → (get_or memory a 0 ≡ 0 → ⊥)
-    → Writes out at (word_line a (get_or memory a 0)) into end → Writes out at (wordLineAt memory a) into end
-word-written memory a {out} {into} {at} {end} z writes =
+pub word_written : (memory : List ℕ) (a : ℕ) {out into : List ℕ} {at end : ℕ} → (get_or memory a 0 ≡ 0 → ⊥)
+    → Writes out at (word_line a (get_or memory a 0)) into end → Writes out at (word_line_at memory a) into end
+word_written memory a {out} {into} {at} {end} z writes =
     subst (λ (b : Bool). Writes out at (cond b [] (word_line a (get_or memory a 0))) into end)
     (sym (ne_eqb (get_or memory a 0) 0 z)) writes
 
 module _ (program : List ℕ) (m : Machine) (n a : ℕ) (memory : List ℕ) where
   -- the end line, by what is left to print before it
   abbrev closed : List ℕ → List ℕ
-  closed words = words ++ endLine (ending (plain m)) n
+  closed words = words ++ end_line (ending (plain m)) n
 
-  pub word-goes : a < length memory → Goes program (Words a) m memory n (wordLineAt memory a) (Words (a + 1)) m memory n
-  word-goes h =
+  pub word_goes : a < length memory → Goes program (Words a) m memory n (word_line_at memory a) (Words (a + 1)) m memory n
+  word_goes h =
       record {
         lent = refl;
         falls = omega arith;
         plays = λ on. on;
         goes = λ used few. (
           λ more.
-              ap closed (words-first memory a h)
-              ∙ append_assoc (wordLineAt memory a) (wordLines (a + 1) (drop (a + 1) memory))
-              (endLine (ending (plain m)) n),
+              ap closed (words_first memory a h)
+              ∙ append_assoc (word_line_at memory a) (word_lines (a + 1) (drop (a + 1) memory))
+              (end_line (ending (plain m)) n),
           used,
           omega arith,
         );
       }
 
   -- past the last word
-  pub end_goes : length memory ≤ a → Goes program (Words a) m memory n (endLine (ending (plain m)) n) Over m memory n
+  pub end_goes : length memory ≤ a → Goes program (Words a) m memory n (end_line (ending (plain m)) n) Over m memory n
   end_goes h =
       record {
         lent = refl;
         falls = omega arith;
         plays = λ _. refl;
         goes = λ used few. (
-          λ more. ap closed (no_words memory a h) ∙ sym (append-nil (endLine (ending (plain m)) n)),
+          λ more. ap closed (no_words memory a h) ∙ sym (append-nil (end_line (ending (plain m)) n)),
           tt,
           omega arith,
         );

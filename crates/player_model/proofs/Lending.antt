@@ -1,8 +1,8 @@
 -- What is lent wrongly, or is too small, changes nothing. After a `begin` that was lent wrongly no call of `fill` writes anything
--- or changes the memory (refused-silent), and `begin` may be called again with what it handed back, as though it had not been
--- called (begins-again). Of a text that may not be whole `begin` accepts only one that prints the same whatever comes after it
--- (part-prints). The places of the lent program behind the script's own stay (begins-keeps). A buffer without room for a step is
--- handed back as it was, with the player and the memory (fills-small).
+-- or changes the memory (refused_silent), and `begin` may be called again with what it handed back, as though it had not been
+-- called (begins_again). Of a text that may not be whole `begin` accepts only one that prints the same whatever comes after it
+-- (part_prints). The places of the lent program behind the script's own stay (begins_keeps). A buffer without room for a step is
+-- handed back as it was, with the player and the memory (fills_small).
 -- Assumes nothing.
 use mathlib.Core.Path.{◌≡◌, refl, sym, ap, ap₂, subst, ◌∙◌}
 use mathlib.Core.Bool.{Bool, true, false, not, ◌&&◌, ◌||◌, false≢true}
@@ -13,15 +13,15 @@ use lib.Dec.{eqb, leb, ltb}
 use lib.ListN.{length, take, drop}
 use lib.Seq.{sets, drop-append_seam}
 use borrow.Author.Tests.{leb-false}
-use Rattle.machine_model.specs.Program.{programMost}
+use Rattle.machine_model.specs.Program.{program_most}
 use Rattle.player_model.specs.declared.Phase.{Phase}
 use Rattle.player_model.specs.declared.Phase.TheVariants.{Over}
 use Rattle.player_model.specs.declared.Player.{Player}
 use Rattle.script_model.specs.Output.{most, printed}
-use Rattle.player_model.specs.Playing.{StepIn, longest, PlayerSteps, still, onward, is_over, Fills, scriptOf, words_of}
-use Rattle.player_model.specs.Playing.{wronglyLent, Begins}
+use Rattle.player_model.specs.Playing.{StepIn, longest, PlayerSteps, still, onward, is_over, Fills, script_of, words_of}
+use Rattle.player_model.specs.Playing.{wrongly_lent, Begins}
 use Rattle.player_model.specs.Truth.{Fillings, ready, filled, joined}
-use Rattle.script_model.proofs.Longest.{printed-long, long-anyway}
+use Rattle.script_model.proofs.Longest.{printed_long, long_anyway}
 use Rattle.player_model.proofs.Pieces.{joined_snoc}
 
 -- ---- nothing is done
@@ -33,25 +33,25 @@ record Idle (p : Player) (memory bytes : List ℕ) (q : Player) (after : List �
   kept : after ≡ memory
 
 -- a player that is over makes none
-over-idle : {text program : List ℕ} {size : ℕ} {p q : Player} {memory bytes after : List ℕ}
+over_idle : {text program : List ℕ} {size : ℕ} {p q : Player} {memory bytes after : List ℕ}
     → PlayerSteps text program size p memory bytes q after → p.phase ≡ Over → Idle p memory bytes q after
-over-idle still over = record { none = refl; same = refl; kept = refl }
-over-idle {text} {program} (onward {q = q} {r = r} {v = v} {w = w} piece s room step) over =
+over_idle still over = record { none = refl; same = refl; kept = refl }
+over_idle {text} {program} (onward {q = q} {r = r} {v = v} {w = w} piece s room step) over =
     absurd
-    (subst (λ (h : Phase). StepIn text program h q v piece r w) (ap (λ (x : Player). x.phase) (over-idle s over).same ∙ over)
+    (subst (λ (h : Phase). StepIn text program h q v piece r w) (ap (λ (x : Player). x.phase) (over_idle s over).same ∙ over)
     step.made)
 
 -- nor is one begun without room
-small-idle : {text program : List ℕ} {size : ℕ} {p q : Player} {memory bytes after : List ℕ}
+small_idle : {text program : List ℕ} {size : ℕ} {p q : Player} {memory bytes after : List ℕ}
     → PlayerSteps text program size p memory bytes q after → size < longest → Idle p memory bytes q after
-small-idle still small = record { none = refl; same = refl; kept = refl }
-small-idle (onward piece s room step) small = absurd (omega (arith, room, small))
+small_idle still small = record { none = refl; same = refl; kept = refl }
+small_idle (onward piece s room step) small = absurd (omega (arith, room, small))
 
-pub fills-small : {text program : List ℕ} {p q : Player} {memory out after into : List ℕ} {end : ℕ}
+pub fills_small : {text program : List ℕ} {p q : Player} {memory out after into : List ℕ} {end : ℕ}
     → Fills text program p memory out q after into end → length out < longest
     → (q ≡ p) × (after ≡ memory) × (into ≡ out) × (end ≡ 0)
-fills-small {out = out} f small =
-    let nothing = small-idle f.steps small in (
+fills_small {out = out} f small =
+    let nothing = small_idle f.steps small in (
       nothing.same,
       nothing.kept,
       f.writes.written ∙ ap (sets out 0) nothing.none,
@@ -60,13 +60,13 @@ fills-small {out = out} f small =
 
 -- ---- lent wrongly
 
-over-silent : {text program : List ℕ} {p r : Player} {memory w : List ℕ} {pieces : List (List ℕ)}
+over_silent : {text program : List ℕ} {p r : Player} {memory w : List ℕ} {pieces : List (List ℕ)}
     → Fillings text program p memory pieces r w → p.phase ≡ Over → (joined pieces ≡ []) × (r ≡ p) × (w ≡ memory)
 unfolding joined
-over-silent ready over = (refl, refl, refl)
-over-silent (filled {pieces = pieces} {into = into} {n = n} run f) over =
-    let so = over-silent run over in
-    let nothing = over-idle f.steps (ap (λ (x : Player). x.phase) so.1 ∙ over) in
+over_silent ready over = (refl, refl, refl)
+over_silent (filled {pieces = pieces} {into = into} {n = n} run f) over =
+    let so = over_silent run over in
+    let nothing = over_idle f.steps (ap (λ (x : Player). x.phase) so.1 ∙ over) in
     let wrote : n ≡ 0 = omega (arith, f.writes.ended, ap length nothing.none) in (
       joined_snoc pieces (take n into)
           ∙ ap₂ (λ (l : List ℕ) (k : ℕ). l ++ take k into) so.0 wrote,
@@ -75,17 +75,17 @@ over-silent (filled {pieces = pieces} {into = into} {n = n} run f) over =
     )
 
 module _ {text : List ℕ} {whole : Bool} {program memory : List ℕ} {q : Player} {into after : List ℕ}
-    (begun : Begins text whole program memory q into after) (wrong : wronglyLent text whole program memory ≡ true) where
-  pub refused-silent : {pieces : List (List ℕ)} {r : Player} {w : List ℕ} → Fillings text into q after pieces r w
+    (begun : Begins text whole program memory q into after) (wrong : wrongly_lent text whole program memory ≡ true) where
+  pub refused_silent : {pieces : List (List ℕ)} {r : Player} {w : List ℕ} → Fillings text into q after pieces r w
       → (joined pieces ≡ []) × (is_over r.phase ≡ true) × (w ≡ memory)
-  refused-silent fills =
+  refused_silent fills =
       let is = begun.refuses wrong in
-      let so = over-silent fills (ap (λ (x : Player). x.phase) is.0) in
+      let so = over_silent fills (ap (λ (x : Player). x.phase) is.0) in
       (so.0, ap (λ (x : Player). is_over x.phase) (so.1 ∙ is.0), so.2 ∙ is.2)
 
-  pub begins-again : {other : List ℕ} {all : Bool} {r : Player} {into₂ after₂ : List ℕ}
+  pub begins_again : {other : List ℕ} {all : Bool} {r : Player} {into₂ after₂ : List ℕ}
       → Begins other all into after r into₂ after₂ → Begins other all program memory r into₂ after₂
-  begins-again {other} {all} {r} {into₂} {after₂} again =
+  begins_again {other} {all} {r} {into₂} {after₂} again =
       let is = begun.refuses wrong in
       subst (λ (l : List ℕ). Begins other all l memory r into₂ after₂) is.1
       (subst (λ (w : List ℕ). Begins other all into w r into₂ after₂) is.2 again)
@@ -93,22 +93,22 @@ module _ {text : List ℕ} {whole : Bool} {program memory : List ℕ} {q : Playe
 -- ---- lent rightly
 
 -- the third of the conditions
-part-long : (text : List ℕ) (few : Bool) (fits : Bool) → (few || not fits || (not false && leb (length text) most)) ≡ false
+part_long : (text : List ℕ) (few : Bool) (fits : Bool) → (few || not fits || (not false && leb (length text) most)) ≡ false
     → most < length text
-part-long text true fits e = absurd (false≢true (sym e))
-part-long text false false e = absurd (false≢true (sym e))
-part-long text false true e = leb-false (length text) most e
+part_long text true fits e = absurd (false≢true (sym e))
+part_long text false false e = absurd (false≢true (sym e))
+part_long text false true e = leb-false (length text) most e
 
-pub part-prints : (text program memory : List ℕ) → wronglyLent text false program memory ≡ false
+pub part_prints : (text program memory : List ℕ) → wrongly_lent text false program memory ≡ false
     → (rest : List ℕ) → printed (text ++ rest) ≡ printed text
-part-prints text program memory right rest =
-    let long = part-long text (ltb (length program) programMost) (eqb (length memory) (words_of text)) right in
-    long-anyway text rest long ∙ sym (printed-long text long)
+part_prints text program memory right rest =
+    let long = part_long text (ltb (length program) program_most) (eqb (length memory) (words_of text)) right in
+    long_anyway text rest long ∙ sym (printed_long text long)
 
-pub begins-keeps : {text : List ℕ} {whole : Bool} {program memory : List ℕ} {q : Player} {into after : List ℕ}
-    → Begins text whole program memory q into after → wronglyLent text whole program memory ≡ false
-    → let used = length (scriptOf text).body.program in
+pub begins_keeps : {text : List ℕ} {whole : Bool} {program memory : List ℕ} {q : Player} {into after : List ℕ}
+    → Begins text whole program memory q into after → wrongly_lent text whole program memory ≡ false
+    → let used = length (script_of text).body.program in
     drop used into ≡ drop used program
-begins-keeps {text} {program = program} begun right =
-    let numbers = (scriptOf text).body.program in
+begins_keeps {text} {program = program} begun right =
+    let numbers = (script_of text).body.program in
     ap (drop (length numbers)) (begun.begins right).1 ∙ drop-append_seam numbers (drop (length numbers) program)

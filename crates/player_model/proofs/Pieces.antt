@@ -6,7 +6,7 @@
 -- At the beginning all is left and nothing is written. A fill moves a piece from the front of what is left to the end
 -- of what is written: the piece is the first `end` bytes of the buffer, as it was set there from place 0. A player
 -- that is over has nothing left. That a player gets there is a law of StepContract: a call with room for a step on a
--- player that is not over lowers `weight` (`fills-falls`). Assumes nothing.
+-- player that is not over lowers `weight` (`fills_falls`). Assumes nothing.
 use mathlib.Core.Path.{◌≡◌, refl, sym, ap, ap₂, subst, ◌∙◌}
 use mathlib.Core.Bool.{Bool, true, false, false≢true}
 use mathlib.Core.List.{List, [], ◌∷◌, ◌++◌, append-nil, append_assoc}
@@ -21,11 +21,11 @@ use Rattle.player_model.specs.declared.Phase.TheVariants.{Over, Bad, Stepping, F
 use Rattle.player_model.specs.declared.Player.{Player}
 use Rattle.script_model.specs.Language.{Steps}
 use Rattle.script_model.specs.Output.{printed}
-use Rattle.player_model.specs.Playing.{is_over, Fills, wronglyLent, Begins}
+use Rattle.player_model.specs.Playing.{is_over, Fills, wrongly_lent, Begins}
 use Rattle.player_model.specs.Truth.{Fillings, ready, filled, joined, PiecesTruth}
-use Rattle.player_model.proofs.Invariant.{leftIn, left, Playing}
-use Rattle.player_model.proofs.StepContract.{steps-used, steps-go}
-use Rattle.player_model.proofs.Beginnings.{begins-left}
+use Rattle.player_model.proofs.Invariant.{left_in, left, Playing}
+use Rattle.player_model.proofs.StepContract.{steps_used, steps_go}
+use Rattle.player_model.proofs.Beginnings.{begins_left}
 
 pub joined_snoc : (pieces : List (List ℕ)) (piece : List ℕ) → joined (pieces ++ (piece ∷ [])) ≡ joined pieces ++ piece
 unfolding joined
@@ -42,13 +42,13 @@ front out piece into n e w h =
     ap₂ (λ (k : ℕ) (l : List ℕ). take k l) long (w ∙ sets-eq piece out 0 room)
     ∙ take-append_seam piece (drop (0 + length piece) out)
 
-over-left : (program : List ℕ) (phase : Phase) (more : Steps) (x : Played State) → is_over phase ≡ true
-    → leftIn program phase more x ≡ []
-over-left program Over more x e = refl
-over-left program (Bad n) more x e = absurd (false≢true e)
-over-left program Stepping more x e = absurd (false≢true e)
-over-left program (Finishing k) more x e = absurd (false≢true e)
-over-left program (Words a) more x e = absurd (false≢true e)
+over_left : (program : List ℕ) (phase : Phase) (more : Steps) (x : Played State) → is_over phase ≡ true
+    → left_in program phase more x ≡ []
+over_left program Over more x e = refl
+over_left program (Bad n) more x e = absurd (false≢true e)
+over_left program Stepping more x e = absurd (false≢true e)
+over_left program (Finishing k) more x e = absurd (false≢true e)
+over_left program (Words a) more x e = absurd (false≢true e)
 
 -- after these pieces: what is written and what is left is what the script prints, and the player may go on
 record StandsOn (text numbers : List ℕ) (pieces : List (List ℕ)) (r : Player) (w : List ℕ) : Type 0 where
@@ -66,9 +66,9 @@ one_more text program pieces q r v w out into n s f =
     let bytes = f.bytes in
     let numbers = take q.used program in
     let rest = left text numbers r w in
-    let goes = steps-go f.steps s.playing in
+    let goes = steps_go f.steps s.playing in
     let wrote = front out bytes into n f.writes.ended f.writes.written f.within in
-    let same : r.used ≡ q.used = steps-used f.steps in
+    let same : r.used ≡ q.used = steps_used f.steps in
     subst (λ (k : ℕ). StandsOn text (take k program) (pieces ++ (take n into ∷ [])) r w) (sym same)
     (record {
       told = s.told ∙ ap (λ (l : List ℕ). joined pieces ++ l) goes.0
@@ -86,19 +86,19 @@ stands text program p memory s (filled run f) =
     one_more text program _ _ _ _ _ _ _ _ (stands text program p memory s run) f
 
 module _ (text : List ℕ) (whole : Bool) (program memory : List ℕ) (q : Player) (into after : List ℕ)
-    (begun : Begins text whole program memory q into after) (lent : wronglyLent text whole program memory ≡ false)
+    (begun : Begins text whole program memory q into after) (lent : wrongly_lent text whole program memory ≡ false)
     (pieces : List (List ℕ)) (r : Player) (w : List ℕ) (run : Fillings text into q after pieces r w) where
   -- what was written is the beginning of what the script prints, and the rest is left
   so_far : printed text ≡ joined pieces ++ left text (take r.used into) r w
   unfolding joined
   so_far =
-      let start = begins-left begun lent in
+      let start = begins_left begun lent in
       (stands text into q after (record { told = sym start.0; playing = start.1 }) run).told
 
   over : is_over r.phase ≡ true → joined pieces ≡ printed text
   over ends =
       sym
-      (so_far ∙ ap (λ (l : List ℕ). joined pieces ++ l) (over-left (take r.used into) r.phase _ _ ends)
+      (so_far ∙ ap (λ (l : List ℕ). joined pieces ++ l) (over_left (take r.used into) r.phase _ _ ends)
       ∙ append-nil (joined pieces))
 
   pub pieces_are : PiecesTruth text pieces r

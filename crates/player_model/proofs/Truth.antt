@@ -13,52 +13,52 @@ use mathlib.Core.List.{List, ◌++◌}
 use Prim.Native.Nat.{ℕ, ◌≤◌}
 use lib.ListN.{length}
 use Rattle.text.specs.Lines.{lines_of}
-use Rattle.theorem.proofs.Buffered.{buffer-owes}
-use Rattle.theorem.proofs.Record.{record-theorem}
+use Rattle.theorem.proofs.Buffered.{buffer_owes}
+use Rattle.theorem.proofs.Record.{record_theorem}
 use Rattle.player_model.specs.declared.Player.{Player}
 use Rattle.script_model.specs.Language.{script}
-use Rattle.script_model.specs.Output.{commitLines, wordLines, ending, endLine, closing, most, printed}
-use Rattle.player_model.specs.Playing.{is_over, wronglyLent, Begins}
-use Rattle.player_model.specs.Truth.{Sized, zeros, scriptPlayed, distancesOf, woven, scriptRecord, ScriptTruth}
+use Rattle.script_model.specs.Output.{commit_lines, word_lines, ending, end_line, closing, most, printed}
+use Rattle.player_model.specs.Playing.{is_over, wrongly_lent, Begins}
+use Rattle.player_model.specs.Truth.{Sized, zeros, script_played, distances_of, woven, script_record, ScriptTruth}
 use Rattle.player_model.specs.Truth.{Fillings, joined}
-use Rattle.player_model.proofs.Openings.{script-opens}
+use Rattle.player_model.proofs.Openings.{script_opens}
 use Rattle.player_model.proofs.Weaving.{weaves}
-use Rattle.script_model.proofs.Longest.{printed-short}
+use Rattle.script_model.proofs.Longest.{printed_short}
 use Rattle.player_model.proofs.Pieces.{pieces_are}
 
-pub script-truth : (text : List ℕ) → length text ≤ most → Sized (script (lines_of text))
+pub script_truth : (text : List ℕ) → length text ≤ most → Sized (script (lines_of text))
     → ScriptTruth text (script (lines_of text))
-script-truth text short sized =
+script_truth text short sized =
     let s = script (lines_of text) in
-    let opens = script-opens (lines_of text) sized in
-    let t = record-theorem buffer-owes s.opening s.body.program (zeros s) opens
+    let opens = script_opens (lines_of text) sized in
+    let t = record_theorem buffer_owes s.opening s.body.program (zeros s) opens
     s.body.steps.calls in
-    let w = weaves (scriptPlayed s).record' (scriptPlayed s).commits t.record-grows in
-    let same : (scriptPlayed s).record' ≡ scriptRecord s =
-    sym w.same ∙ ap (λ (numbers : List ℕ). woven numbers (distancesOf (scriptPlayed s).record')) t.record_is in
-    let told : printed text ≡ commitLines (scriptRecord s) ++ closing (scriptPlayed s) s.body.steps.flaw =
-    printed-short text short
-    ∙ ap (λ (numbers : List ℕ). commitLines numbers ++ closing (scriptPlayed s) s.body.steps.flaw) same in
-    let end : List ℕ = endLine (ending (scriptPlayed s).state) (scriptPlayed s).commits in
+    let w = weaves (script_played s).record' (script_played s).commits t.record_grows in
+    let same : (script_played s).record' ≡ script_record s =
+    sym w.same ∙ ap (λ (numbers : List ℕ). woven numbers (distances_of (script_played s).record')) t.record_is in
+    let told : printed text ≡ commit_lines (script_record s) ++ closing (script_played s) s.body.steps.flaw =
+    printed_short text short
+    ∙ ap (λ (numbers : List ℕ). commit_lines numbers ++ closing (script_played s) s.body.steps.flaw) same in
+    let end : List ℕ = end_line (ending (script_played s).state) (script_played s).commits in
     record {
       opens = opens;
       truth = t;
       prints = told;
-      closes = ap (λ (memory : List ℕ). wordLines 0 memory ++ end) t.memory-is;
+      closes = ap (λ (memory : List ℕ). word_lines 0 memory ++ end) t.memory_is;
       counts = sym (ap length t.record_is) ∙ w.four;
       distances = w.one;
     }
 
 -- So what the calls of `fill` hand out, once the player is over, is that of the sequential run.
-pub pieces-tell : (text : List ℕ) (whole : Bool) (program memory : List ℕ) (q : Player) (into after : List ℕ)
+pub pieces_tell : (text : List ℕ) (whole : Bool) (program memory : List ℕ) (q : Player) (into after : List ℕ)
     → Begins text whole program memory q into after
-    → wronglyLent text whole program memory ≡ false
+    → wrongly_lent text whole program memory ≡ false
     → (pieces : List (List ℕ)) (r : Player) (w : List ℕ)
     → Fillings text into q after pieces r w
     → is_over r.phase ≡ true
     → length text ≤ most
     → let s = script (lines_of text) in
-    Sized s → joined pieces ≡ commitLines (scriptRecord s) ++ closing (scriptPlayed s) s.body.steps.flaw
-pieces-tell text whole program memory q into after begun lent pieces r w fills over short sized =
+    Sized s → joined pieces ≡ commit_lines (script_record s) ++ closing (script_played s) s.body.steps.flaw
+pieces_tell text whole program memory q into after begun lent pieces r w fills over short sized =
     (pieces_are text whole program memory q into after begun lent pieces r w fills).all over
-    ∙ (script-truth text short sized).prints
+    ∙ (script_truth text short sized).prints

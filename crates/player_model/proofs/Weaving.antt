@@ -5,17 +5,17 @@ use mathlib.Core.List.{List, [], ◌∷◌}
 use Prim.Native.Nat.{ℕ, ◌-◌, ◌*◌}
 use native.Mathlib.Omega.{arith}
 use lib.ListN.{length}
-use Rattle.machine_model.specs.Calls.{perCommit}
+use Rattle.machine_model.specs.Calls.{per_commit}
 use Rattle.sequential.specs.Play.{without}
-use Rattle.player_model.specs.Truth.{distancesOf, woven}
+use Rattle.player_model.specs.Truth.{distances_of, woven}
 
 pub record Weaves (xs : List ℕ) (k : ℕ) : Type 0 where
-  pub same : woven (without xs) (distancesOf xs) ≡ xs
+  pub same : woven (without xs) (distances_of xs) ≡ xs
   pub four : length (without xs) ≡ k * 4
-  pub one : length (distancesOf xs) ≡ k
+  pub one : length (distances_of xs) ≡ k
 
-pub weaves : (xs : List ℕ) (k : ℕ) → length xs ≡ k * perCommit → Weaves xs k
-unfolding without distancesOf woven
+pub weaves : (xs : List ℕ) (k : ℕ) → length xs ≡ k * per_commit → Weaves xs k
+unfolding without distances_of woven
 weaves [] k h = record { same = refl; four = omega arith; one = omega arith }
 weaves (i ∷ []) k h = absurd (omega arith)
 weaves (i ∷ c ∷ []) k h = absurd (omega arith)
@@ -30,11 +30,11 @@ weaves (i ∷ c ∷ r ∷ v ∷ d ∷ xs) k h =
     }
 
 -- a distance for each commit makes five numbers of its four
-pub woven-length : (xs ds : List ℕ) (k : ℕ) → length xs ≡ k * 4 → length ds ≡ k → length (woven xs ds) ≡ k * perCommit
+pub woven_length : (xs ds : List ℕ) (k : ℕ) → length xs ≡ k * 4 → length ds ≡ k → length (woven xs ds) ≡ k * per_commit
 unfolding woven
-woven-length [] ds k h e = omega arith
-woven-length (i ∷ []) ds k h e = absurd (omega arith)
-woven-length (i ∷ c ∷ []) ds k h e = absurd (omega arith)
-woven-length (i ∷ c ∷ r ∷ []) ds k h e = absurd (omega arith)
-woven-length (i ∷ c ∷ r ∷ v ∷ xs) [] k h e = absurd (omega arith)
-woven-length (i ∷ c ∷ r ∷ v ∷ xs) (d ∷ ds) k h e = omega (arith, woven-length xs ds (k - 1) (omega arith) (omega arith))
+woven_length [] ds k h e = omega arith
+woven_length (i ∷ []) ds k h e = absurd (omega arith)
+woven_length (i ∷ c ∷ []) ds k h e = absurd (omega arith)
+woven_length (i ∷ c ∷ r ∷ []) ds k h e = absurd (omega arith)
+woven_length (i ∷ c ∷ r ∷ v ∷ xs) [] k h e = absurd (omega arith)
+woven_length (i ∷ c ∷ r ∷ v ∷ xs) (d ∷ ds) k h e = omega (arith, woven_length xs ds (k - 1) (omega arith) (omega arith))

@@ -15,6 +15,6 @@ zero_more l i h e =
     ∙ ap (λ (k : List ℕ). k ++ (0 ∷ [])) e
     ∙ replicate-append-replicate i 1 0
 
-pub zero-all : (l : List ℕ) (i n : ℕ) → i ≡ length l → length l ≡ n → take i l ≡ replicate i 0 → l ≡ replicate n 0
-zero-all l i n all long e =
+pub zero_all : (l : List ℕ) (i n : ℕ) → i ≡ length l → length l ≡ n → take i l ≡ replicate i 0 → l ≡ replicate n 0
+zero_all l i n all long e =
     sym (ap (λ (j : ℕ). take j l) all ∙ take-length l) ∙ e ∙ ap (λ (j : ℕ). replicate {A = ℕ} j 0) (all ∙ long)

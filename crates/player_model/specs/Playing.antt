@@ -8,10 +8,10 @@ use Rattle.text.specs.declared.Line.TheVariants.{End, Unended, Whole}
 use Rattle.text.specs.Lines.{feed, line_at, lines_of}
 use Rattle.engine.specs.Contract.{refused, named, executed, done, committed, finished}
 use Rattle.machine_model.specs.declared.Machine.{Machine}
-use Rattle.machine_model.specs.Program.{perInstruction, programMost}
-use Rattle.machine_model.specs.Calls.{Call, issue, execute, squash, commit, finish, Answer, perCommit, buffered}
-use Rattle.machine_model.specs.Contract.{plain, Meets, freshMachine, tabled}
-use Rattle.sequential.specs.Play.{commitsIn}
+use Rattle.machine_model.specs.Program.{per_instruction, program_most}
+use Rattle.machine_model.specs.Calls.{Call, issue, execute, squash, commit, finish, Answer, per_commit, buffered}
+use Rattle.machine_model.specs.Contract.{plain, Meets, fresh_machine, tabled}
+use Rattle.sequential.specs.Play.{commits_in}
 use Rattle.script_model.specs.declared.Item.{Item}
 use Rattle.script_model.specs.declared.Item.TheVariants.{Malformed, Sizes, Operation, Issue, Execute, Squash, Commit}
 use Rattle.script_model.specs.declared.Item.TheVariants.{Finish}
@@ -21,29 +21,29 @@ use Rattle.player_model.specs.declared.Ask.{Ask}
 use Rattle.player_model.specs.declared.Ask.TheVariants as ask
 use Rattle.player_model.specs.declared.Order.{Order}
 use Rattle.player_model.specs.declared.Player.{Player}
-use Rattle.script_model.specs.Language.{parsedLine, Script, wordsAsked, unread, script}
-use Rattle.script_model.specs.Output.{committedLines, word_line, ending, endLine, badLine, most}
+use Rattle.script_model.specs.Language.{parsed_line, Script, words_asked, unread, script}
+use Rattle.script_model.specs.Output.{committed_lines, word_line, ending, end_line, bad_line, most}
 
 -- ---- lines
 
 -- lines and commits are counted in 64 bits: the largest count
-abbrev pub countMost : ℕ
-countMost = 18446744073709551615
+abbrev pub count_most : ℕ
+count_most = 18446744073709551615
 
 -- one more; the largest count stays
-abbrev pub oneMore : ℕ → ℕ
-oneMore n = cond (ltb n countMost) (suc n) n
+abbrev pub one_more : ℕ → ℕ
+one_more n = cond (ltb n count_most) (suc n) n
 
 -- what this item of line n asks for; any item that is no step makes a bad line
-abbrev pub askIn : Item → ℕ → Ask
-askIn Malformed n = ask.Turn (Bad n)
-askIn (Sizes banks rows stages words) n = ask.Turn (Bad n)
-askIn (Operation code d s imm) n = ask.Turn (Bad n)
-askIn Issue n = ask.Issue
-askIn (Execute k) n = ask.Execute k
-askIn (Squash k) n = ask.Squash k
-askIn Commit n = ask.Commit
-askIn (Finish k) n = ask.Turn (Finishing k)
+abbrev pub ask_in : Item → ℕ → Ask
+ask_in Malformed n = ask.Turn (Bad n)
+ask_in (Sizes banks rows stages words) n = ask.Turn (Bad n)
+ask_in (Operation code d s imm) n = ask.Turn (Bad n)
+ask_in Issue n = ask.Issue
+ask_in (Execute k) n = ask.Execute k
+ask_in (Squash k) n = ask.Squash k
+ask_in Commit n = ask.Commit
+ask_in (Finish k) n = ask.Turn (Finishing k)
 
 -- What the line at `cursor`, of number n, asks for, and the place and the number of the line after it. At the end of the text
 -- the closing lines come; an unended line is bad.
@@ -51,7 +51,7 @@ abbrev pub order_by : List ℕ → ℕ → ℕ → Line → Order
 order_by text cursor n End = record { ask = ask.Turn (Words 0); cursor = cursor; line = n }
 order_by text cursor n (Unended from) = record { ask = ask.Turn (Bad n); cursor = cursor; line = n }
 order_by text cursor n (Whole from to) =
-    record { ask = askIn (parsedLine (slice from to text)) n; cursor = to + 1; line = oneMore n }
+    record { ask = ask_in (parsed_line (slice from to text)) n; cursor = to + 1; line = one_more n }
 
 abbrev pub order_at : List ℕ → ℕ → ℕ → Order
 order_at text cursor n = order_by text cursor n (line_at text cursor)
@@ -64,8 +64,8 @@ player phase cursor line commits used machine =
     record { phase = phase; cursor = cursor; line = line; commits = commits; used = used; machine = machine }
 
 -- the player in another phase
-abbrev pub inPhase : Player → Phase → Player
-inPhase p phase = player phase p.cursor p.line p.commits p.used p.machine
+abbrev pub in_phase : Player → Phase → Player
+in_phase p phase = player phase p.cursor p.line p.commits p.used p.machine
 
 -- the player past the line that it was at
 abbrev pub past : Player → Order → Player
@@ -79,34 +79,34 @@ pub record QuietStep (bytes : List ℕ) (there : Player) (memory piece : List �
 
 -- the lines of the commit at the start of a finish's list
 abbrev pub first_lines : List ℕ → List ℕ
-first_lines list = committedLines (get_or list 0 0) (get_or list 1 0) (get_or list 2 0) (get_or list 3 0) (get_or list 4 0)
+first_lines list = committed_lines (get_or list 0 0) (get_or list 1 0) (get_or list 2 0) (get_or list 3 0) (get_or list 4 0)
 
 -- The lines of the commit that an answer tells of, if it does, with the list as the call left it. The player lends a finish room
 -- for one commit.
-abbrev pub toldBy : Answer → List ℕ → List ℕ
-toldBy (refused k) list = []
-toldBy (named p) list = []
-toldBy (executed v d s) list = []
-toldBy done list = []
-toldBy (committed i c r v d) list = committedLines i c r v d
-toldBy (finished n) list = cond (eqb n 0) [] (first_lines list)
+abbrev pub told_by : Answer → List ℕ → List ℕ
+told_by (refused k) list = []
+told_by (named p) list = []
+told_by (executed v d s) list = []
+told_by done list = []
+told_by (committed i c r v d) list = committed_lines i c r v d
+told_by (finished n) list = cond (eqb n 0) [] (first_lines list)
 
 -- the commits counted after an answer
-abbrev pub countedBy : Answer → ℕ → ℕ
-countedBy said n = cond (eqb (commitsIn said) 0) n (oneMore n)
+abbrev pub counted_by : Answer → ℕ → ℕ
+counted_by said n = cond (eqb (commits_in said) 0) n (one_more n)
 
 -- the phase after a call: a finish goes on with one commit less as long as its list was what stopped it
-abbrev pub phaseAfter : Call → Answer → Phase
-phaseAfter issue said = Stepping
-phaseAfter (execute p) said = Stepping
-phaseAfter (squash p) said = Stepping
-phaseAfter commit said = Stepping
-phaseAfter (finish k list) said = cond (eqb (commitsIn said) 0) Stepping (Finishing (k - 1))
+abbrev pub phase_after : Call → Answer → Phase
+phase_after issue said = Stepping
+phase_after (execute p) said = Stepping
+phase_after (squash p) said = Stepping
+phase_after commit said = Stepping
+phase_after (finish k list) said = cond (eqb (commits_in said) 0) Stepping (Finishing (k - 1))
 
 -- the player after a call with this answer, which left this machine
 abbrev pub after_call : Call → Answer → Machine → Player → Player
 after_call c said machine p =
-    player (phaseAfter c said) p.cursor p.line (countedBy said p.commits) p.used machine
+    player (phase_after c said) p.cursor p.line (counted_by said p.commits) p.used machine
 
 -- Call c was made on the player's machine, as the machine's contract says of every machine, program and memory: the commit that
 -- the answer tells of is printed and counted.
@@ -116,36 +116,36 @@ pub record CallStep (program : List ℕ) (c : Call) (p : Player) (memory piece :
   pub machine : Machine
   pub list : List ℕ
   pub meets : Meets program p.machine c memory said machine after list
-  pub prints : piece ≡ toldBy said list
+  pub prints : piece ≡ told_by said list
   pub leads : q ≡ after_call c said machine p
   pub lent : length after ≡ length memory
 
 -- a step that takes a line, by what it asks for
 abbrev pub LineStep : List ℕ → Ask → Player → List ℕ → List ℕ → Player → List ℕ → Type 0
-LineStep program (ask.Turn phase) p = QuietStep [] (inPhase p phase)
+LineStep program (ask.Turn phase) p = QuietStep [] (in_phase p phase)
 LineStep program ask.Issue p = CallStep program issue p
 LineStep program (ask.Execute k) p = CallStep program (execute k) p
 LineStep program (ask.Squash k) p = CallStep program (squash k) p
 LineStep program ask.Commit p = CallStep program commit p
 
 -- the line of the word at address a, if it is not 0
-abbrev pub wordLineAt : List ℕ → ℕ → List ℕ
-wordLineAt memory a = cond (eqb (get_or memory a 0) 0) [] (word_line a (get_or memory a 0))
+abbrev pub word_line_at : List ℕ → ℕ → List ℕ
+word_line_at memory a = cond (eqb (get_or memory a 0) 0) [] (word_line a (get_or memory a 0))
 
 -- One step of player p in this phase, with this text and program: it prints a piece and leads to player q and memory `after`.
 -- A player that is over makes none.
 abbrev pub StepIn : List ℕ → List ℕ → Phase → Player → List ℕ → List ℕ → Player → List ℕ → Type 0
 StepIn text program Over p memory piece q after = ⊥
-StepIn text program (Bad n) p memory piece q after = QuietStep (badLine n) (inPhase p Over) memory piece q after
+StepIn text program (Bad n) p memory piece q after = QuietStep (bad_line n) (in_phase p Over) memory piece q after
 StepIn text program Stepping p memory piece q after =
     let order = order_at text p.cursor p.line in
     LineStep program order.ask (past p order) memory piece q after
 StepIn text program (Finishing k) p memory piece q after =
-    ((k ≡ 0) × QuietStep [] (inPhase p Stepping) memory piece q after)
-    ⊎ ((k ≡ 0 → ⊥) × CallStep program (finish k (replicate perCommit 0)) p memory piece q after)
+    ((k ≡ 0) × QuietStep [] (in_phase p Stepping) memory piece q after)
+    ⊎ ((k ≡ 0 → ⊥) × CallStep program (finish k (replicate per_commit 0)) p memory piece q after)
 StepIn text program (Words a) p memory piece q after =
-    ((a < length memory) × QuietStep (wordLineAt memory a) (inPhase p (Words (a + 1))) memory piece q after)
-    ⊎ ((length memory ≤ a) × QuietStep (endLine (ending (plain p.machine)) p.commits) (inPhase p Over) memory piece q after)
+    ((a < length memory) × QuietStep (word_line_at memory a) (in_phase p (Words (a + 1))) memory piece q after)
+    ⊎ ((length memory ≤ a) × QuietStep (end_line (ending (plain p.machine)) p.commits) (in_phase p Over) memory piece q after)
 
 pub record PlayerStep (text program : List ℕ) (p : Player) (memory piece : List ℕ) (q : Player) (after : List ℕ) : Type 0 where
   pub made : StepIn text program p.phase p memory piece q after
@@ -189,46 +189,46 @@ pub record Fills (text program : List ℕ) (p : Player) (memory out : List ℕ) 
 -- ---- begin
 
 -- the script of a text; of one that is too long none is read
-abbrev pub scriptOf : List ℕ → Script
-scriptOf text = cond (ltb most (length text)) unread (script (lines_of text))
+abbrev pub script_of : List ℕ → Script
+script_of text = cond (ltb most (length text)) unread (script (lines_of text))
 
 -- the W of the first line; 0 where there is none
 abbrev pub words_of : List ℕ → ℕ
-words_of text = wordsAsked (scriptOf text).opening
+words_of text = words_asked (script_of text).opening
 
 -- The lent program has no room for the longest program, the lent memory is not of W words, or what was lent of the text may not
 -- be all of it and could still be a script.
-abbrev pub wronglyLent : List ℕ → Bool → List ℕ → List ℕ → Bool
-wronglyLent text whole program memory =
-    ltb (length program) programMost || not (eqb (length memory) (words_of text)) || (not whole && leb (length text) most)
+abbrev pub wrongly_lent : List ℕ → Bool → List ℕ → List ℕ → Bool
+wrongly_lent text whole program memory =
+    ltb (length program) program_most || not (eqb (length memory) (words_of text)) || (not whole && leb (length text) most)
 
 -- where line k begins, the first of which is line 0: behind the line feed of the line before
-unfoldable pub lineStart : List ℕ → ℕ → ℕ
-lineStart text zero = 0
-lineStart text (suc k) = suc (feed text (lineStart text k))
+unfoldable pub line_start : List ℕ → ℕ → ℕ
+line_start text zero = 0
+line_start text (suc k) = suc (feed text (line_start text k))
 
 -- a player without a machine
 abbrev pub idle : Phase → Player
 idle phase = player phase 0 1 0 0 tabled.unopened
 
 -- the player of script s, behind the first line and its k instructions
-abbrev pub openedPlayer : List ℕ → Script → ℕ → Player
-openedPlayer text s k =
-    player Stepping (lineStart text (suc k)) (suc (suc k)) 0 (length s.body.program)
-    (freshMachine s.opening k)
+abbrev pub opened_player : List ℕ → Script → ℕ → Player
+opened_player text s k =
+    player Stepping (line_start text (suc k)) (suc (suc k)) 0 (length s.body.program)
+    (fresh_machine s.opening k)
 
 -- the player of a text: input that is too long is bad in line 0, and a bad first line in line 1
-abbrev pub firstPlayer : List ℕ → Player
-firstPlayer text =
-    let s = scriptOf text in
+abbrev pub first_player : List ℕ → Player
+first_player text =
+    let s = script_of text in
     cond (ltb most (length text)) (idle (Bad 0))
-    (cond (buffered.fits s.opening) (openedPlayer text s (length s.body.program / perInstruction)) (idle (Bad 1)))
+    (cond (buffered.fits s.opening) (opened_player text s (length s.body.program / per_instruction)) (idle (Bad 1)))
 
 -- A call of `begin`, where `whole` says that the text lent is all of the input. Lent wrongly, nothing is changed and the player
 -- is over. Otherwise the script's program stands at the start of the lent one and memory is zeros.
 pub record Begins (text : List ℕ) (whole : Bool) (program memory : List ℕ) (q : Player) (into after : List ℕ) : Type 0 where
-  pub refuses : wronglyLent text whole program memory ≡ true → (q ≡ idle Over) × (into ≡ program) × (after ≡ memory)
-  pub begins : wronglyLent text whole program memory ≡ false
-      → (q ≡ firstPlayer text)
-      × (into ≡ (scriptOf text).body.program ++ drop (length (scriptOf text).body.program) program)
+  pub refuses : wrongly_lent text whole program memory ≡ true → (q ≡ idle Over) × (into ≡ program) × (after ≡ memory)
+  pub begins : wrongly_lent text whole program memory ≡ false
+      → (q ≡ first_player text)
+      × (into ≡ (script_of text).body.program ++ drop (length (script_of text).body.program) program)
       × (after ≡ replicate (words_of text) 0)

@@ -5,13 +5,13 @@ use Rattle.std.specs.Prelude.{◌≡◌, true, List, [], ◌∷◌, ◌++◌, �
 use Rattle.std.proofs.Math.Option.{none}
 use Rattle.table.specs.Reference.{State}
 use Rattle.engine.specs.Conditions.{refusal}
-use Rattle.machine_model.specs.Calls.{buffered, openChecks}
-use Rattle.sequential.specs.Sequential.{Run, runAfter}
+use Rattle.machine_model.specs.Calls.{buffered, open_checks}
+use Rattle.sequential.specs.Sequential.{Run, run_after}
 use Rattle.sequential.specs.Play.{Played, play}
 use Rattle.theorem.specs.Truth.{Truth}
 use Rattle.player_model.specs.declared.Player.{Player}
-use Rattle.script_model.specs.Language.{Script, wordsAsked}
-use Rattle.script_model.specs.Output.{commitLines, wordLines, ending, endLine, closing, scriptOpening, printed}
+use Rattle.script_model.specs.Language.{Script, words_asked}
+use Rattle.script_model.specs.Output.{commit_lines, word_lines, ending, end_line, closing, script_opening, printed}
 use Rattle.player_model.specs.Playing.{is_over, Fills}
 
 -- the opening of a good first line
@@ -20,24 +20,24 @@ Sized s = buffered.fits s.opening ≡ true
 
 -- the memory that a script opens with
 abbrev pub zeros : Script → List ℕ
-zeros s = replicate (wordsAsked s.opening) 0
+zeros s = replicate (words_asked s.opening) 0
 
 -- what the calls of a script's steps come to
-abbrev pub scriptPlayed : Script → Played State
-scriptPlayed s = play buffered s.body.program (scriptOpening s) s.body.steps.calls
+abbrev pub script_played : Script → Played State
+script_played s = play buffered s.body.program (script_opening s) s.body.steps.calls
 
 -- the sequential run, after as many steps
-abbrev pub scriptRun : Script → Run
-scriptRun s = runAfter s.body.program (zeros s) (scriptPlayed s).commits
+abbrev pub script_run : Script → Run
+script_run s = run_after s.body.program (zeros s) (script_played s).commits
 
 -- the distances of a record: each fifth number
-unfoldable pub distancesOf : List ℕ → List ℕ
-distancesOf (i ∷ code ∷ r ∷ v ∷ d ∷ ns) = d ∷ distancesOf ns
-distancesOf (i ∷ code ∷ r ∷ v ∷ []) = []
-distancesOf (i ∷ code ∷ r ∷ []) = []
-distancesOf (i ∷ code ∷ []) = []
-distancesOf (i ∷ []) = []
-distancesOf [] = []
+unfoldable pub distances_of : List ℕ → List ℕ
+distances_of (i ∷ code ∷ r ∷ v ∷ d ∷ ns) = d ∷ distances_of ns
+distances_of (i ∷ code ∷ r ∷ v ∷ []) = []
+distances_of (i ∷ code ∷ r ∷ []) = []
+distances_of (i ∷ code ∷ []) = []
+distances_of (i ∷ []) = []
+distances_of [] = []
 
 -- a record of four numbers a commit with these distances, each behind its four
 unfoldable pub woven : List ℕ → List ℕ → List ℕ
@@ -49,24 +49,24 @@ woven (i ∷ []) ds = []
 woven [] ds = []
 
 -- the sequential run's record with the distances of the play
-abbrev pub scriptRecord : Script → List ℕ
-scriptRecord s = woven (scriptRun s).record' (distancesOf (scriptPlayed s).record')
+abbrev pub script_record : Script → List ℕ
+script_record s = woven (script_run s).record' (distances_of (script_played s).record')
 
 -- Of a text of at most 65,536 bytes that is script s, with sizes within their limits. The opening is accepted, and what is
 -- printed is the commit lines of the sequential run's record with the distances of the play and then the closing lines: the
 -- non-zero words of the run's memory and the end line with the number of commits, or the bad line in their place.
 pub record ScriptTruth (text : List ℕ) (s : Script) : Type 0 where
   -- no condition that refuses an opening holds
-  pub opens : refusal (openChecks s.opening s.body.program (zeros s)) ≡ 0
+  pub opens : refusal (open_checks s.opening s.body.program (zeros s)) ≡ 0
   -- the record theorem of the machine, of these calls
-  pub truth : Truth buffered s.body.program (zeros s) (scriptPlayed s)
-  pub prints : printed text ≡ commitLines (scriptRecord s) ++ closing (scriptPlayed s) s.body.steps.flaw
+  pub truth : Truth buffered s.body.program (zeros s) (script_played s)
+  pub prints : printed text ≡ commit_lines (script_record s) ++ closing (script_played s) s.body.steps.flaw
   -- the closing lines where no line is bad
-  pub closes : closing (scriptPlayed s) none
-      ≡ wordLines 0 (scriptRun s).memory ++ endLine (ending (scriptPlayed s).state) (scriptPlayed s).commits
+  pub closes : closing (script_played s) none
+      ≡ word_lines 0 (script_run s).memory ++ end_line (ending (script_played s).state) (script_played s).commits
   -- four numbers of the run and a distance for each commit that the end line counts
-  pub counts : length (scriptRun s).record' ≡ (scriptPlayed s).commits * 4
-  pub distances : length (distancesOf (scriptPlayed s).record') ≡ (scriptPlayed s).commits
+  pub counts : length (script_run s).record' ≡ (script_played s).commits * 4
+  pub distances : length (distances_of (script_played s).record') ≡ (script_played s).commits
 
 -- Calls of `fill` from player p and this memory on, one after the other, each on any buffer: the pieces written, and the player
 -- and the memory then.

@@ -4,7 +4,7 @@
 // lent buffer is full or all is printed, which `is_over` tells. None requires anything; player_model/specs/Playing.antt has
 // their contracts.
 ghost use Rattle.std.specs.Prelude.{◌≡◌, length, replicate};
-ghost use Rattle.player_model.specs.Playing.{idle, is_over, wronglyLent, Begins};
+ghost use Rattle.player_model.specs.Playing.{idle, is_over, wrongly_lent, Begins};
 
 use machine_model::PROGRAM;
 use player_model::Found;
@@ -42,7 +42,7 @@ fn idle(phase: Phase, program: &[u32], memory: &[u32]) -> Player
 
 // Whether the lent program is too short, the lent memory is not of the script's words, or the text may not be whole.
 fn wrongly_lent(s: &[u8], whole: bool, program: &[u32], memory: &[u32]) -> bool
-    ensures { result ≡ wronglyLent s.now whole program.now memory.now }
+    ensures { result ≡ wrongly_lent s.now whole program.now memory.now }
 {
     (program.len() < PROGRAM) | (memory.len() != words_of(s)) | (!whole & (s.len() <= MOST))
 }

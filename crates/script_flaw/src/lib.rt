@@ -5,10 +5,10 @@ ghost use Rattle.text.specs.Fields.{empty};
 ghost use Rattle.machine_model.specs.Calls.{banked};
 ghost use Rattle.flaw_model.specs.declared.Defect.TheVariants.{Beyond};
 ghost use Rattle.flaw_model.specs.declared.Reason.TheVariants.{Fine, Field};
-ghost use Rattle.flaw_model.specs.Flaw.{arity, commas, digitTook, took, noNumber, malformed, noSizes, unfit, unformed};
-ghost use Rattle.flaw_model.specs.Flaw.{ofMalformed, ofSizes, ofOperation, ofStep, reasonIn, isFine};
-ghost use Rattle.flaw_model.specs.Flaw.{afterOperation, afterOther, nextPart, ofEnd, flawOf};
-ghost use Rattle.flaw_model.specs.computed.Looking.{openOf, Looks};
+ghost use Rattle.flaw_model.specs.Flaw.{arity, commas, digit_took, took, no_number, malformed, no_sizes, unfit, unformed};
+ghost use Rattle.flaw_model.specs.Flaw.{of_malformed, of_sizes, of_operation, of_step, reason_in, is_fine};
+ghost use Rattle.flaw_model.specs.Flaw.{after_operation, after_other, next_part, of_end, flaw_of};
+ghost use Rattle.flaw_model.specs.Computed.Looking.{open_of, Looks};
 
 use flaw_model::{Defect, Outlook, Part, Took};
 pub use flaw_model::{Flaw, Reason};
@@ -39,7 +39,7 @@ pub fn arity_of(b: u8) -> usize
 // What a digit does to the open field, which is x if it has digits (`begun`).
 fn take_digit(begun: bool, x: u32, d: u32) -> Took
     requires { d < 10 }
-    ensures { result ≡ digitTook (openOf begun x) d }
+    ensures { result ≡ digit_took (open_of begun x) d }
 {
     if begun {
         if 0 < x {
@@ -55,7 +55,7 @@ fn take_digit(begun: bool, x: u32, d: u32) -> Took
 
 // What any byte does to it.
 fn take_byte(begun: bool, x: u32, b: u8) -> Took
-    ensures { result ≡ took (openOf begun x) b }
+    ensures { result ≡ took (open_of begun x) b }
 {
     if b == b',' {
         if begun {
@@ -75,7 +75,7 @@ fn take_byte(begun: bool, x: u32, b: u8) -> Took
 // The first field from `from` up to `to` that is no number; at `from` field 2 begins.
 fn find_defect(s: &[u8], letter: u8, from: usize, to: usize) -> Reason
     requires { (2 ≤ from) × (to ≤ length s.now) }
-    ensures { result ≡ noNumber letter 2 empty (slice from to s.now) }
+    ensures { result ≡ no_number letter 2 empty (slice from to s.now) }
 {
     let mut k: usize = 2;
     let mut begun = false;
@@ -154,7 +154,7 @@ fn find_malformed(s: &[u8], from: usize, to: usize) -> Reason
 // What is wrong with the first line, which is none of the forms.
 fn find_first(s: &[u8], from: usize, to: usize) -> Reason
     requires { (from ≤ to) × (to < length s.now) }
-    ensures { result ≡ noSizes (slice from to s.now) }
+    ensures { result ≡ no_sizes (slice from to s.now) }
 {
     if to <= from {
         return Reason::Blank;
@@ -169,7 +169,7 @@ fn find_first(s: &[u8], from: usize, to: usize) -> Reason
 // What is wrong with a malformed line at its place.
 fn of_malformed(s: &[u8], from: usize, to: usize, part: Part) -> Reason
     requires { (from ≤ to) × (to < length s.now) }
-    ensures { result ≡ ofMalformed part (slice from to s.now) }
+    ensures { result ≡ of_malformed part (slice from to s.now) }
 {
     match part {
         Part::First => find_first(s, from, to),
@@ -227,7 +227,7 @@ fn find_unfit(banks: u32, rows: u32, stages: u32, words: u32) -> Reason
 
 // What is wrong with a line of sizes at its place.
 fn of_sizes(part: Part, banks: u32, rows: u32, stages: u32, words: u32) -> Reason
-    ensures { result ≡ ofSizes part (banked banks rows stages words) }
+    ensures { result ≡ of_sizes part (banked banks rows stages words) }
 {
     match part {
         Part::First => find_unfit(banks, rows, stages, words),
@@ -258,7 +258,7 @@ fn find_unformed(letter: u8, code: u32, d: u32, s: u32, imm: u32) -> Reason
 
 // What is wrong with an instruction at its place.
 fn of_operation(part: Part, letter: u8, code: u32, d: u32, s: u32, imm: u32) -> Reason
-    ensures { result ≡ ofOperation part letter code d s imm }
+    ensures { result ≡ of_operation part letter code d s imm }
 {
     match part {
         Part::First => Reason::NoSizes(letter),
@@ -274,7 +274,7 @@ fn of_operation(part: Part, letter: u8, code: u32, d: u32, s: u32, imm: u32) -> 
 
 // What is wrong with a step at its place.
 fn of_step(part: Part, letter: u8) -> Reason
-    ensures { result ≡ ofStep part letter }
+    ensures { result ≡ of_step part letter }
 {
     match part {
         Part::First => Reason::NoSizes(letter),
@@ -297,7 +297,7 @@ fn first_byte(s: &[u8], from: usize, to: usize) -> u8
 // What is wrong with the line from `from` up to `to`, which is this item, in this part.
 fn reason_in(s: &[u8], from: usize, to: usize, part: Part, item: Item) -> Reason
     requires { (from ≤ to) × (to < length s.now) }
-    ensures { result ≡ reasonIn part item (slice from to s.now) }
+    ensures { result ≡ reason_in part item (slice from to s.now) }
 {
     let letter = first_byte(s, from, to);
     match item {
@@ -310,7 +310,7 @@ fn reason_in(s: &[u8], from: usize, to: usize, part: Part, item: Item) -> Reason
 
 // Whether nothing is wrong.
 pub fn is_fine(r: Reason) -> bool
-    ensures { result ≡ isFine r }
+    ensures { result ≡ is_fine r }
 {
     match r {
         Reason::Fine => true,
@@ -332,7 +332,7 @@ pub fn is_fine(r: Reason) -> bool
 
 // The part of the line after an instruction.
 fn after_operation(part: Part) -> Part
-    ensures { result ≡ afterOperation part }
+    ensures { result ≡ after_operation part }
 {
     match part {
         Part::First => Part::Program(INSTRUCTIONS),
@@ -348,7 +348,7 @@ fn after_operation(part: Part) -> Part
 
 // The part of the line after any other.
 fn after_other(part: Part) -> Part
-    ensures { result ≡ afterOther part }
+    ensures { result ≡ after_other part }
 {
     match part {
         Part::First => Part::Program(INSTRUCTIONS),
@@ -359,7 +359,7 @@ fn after_other(part: Part) -> Part
 
 // The part of the next line.
 fn next_part(part: Part, item: Item) -> Part
-    ensures { result ≡ nextPart part item }
+    ensures { result ≡ next_part part item }
 {
     match item {
         Item::Malformed => after_other(part),
@@ -375,7 +375,7 @@ fn next_part(part: Part, item: Item) -> Part
 
 // What is wrong where no line is left.
 fn at_end(part: Part) -> Reason
-    ensures { result ≡ ofEnd part }
+    ensures { result ≡ of_end part }
 {
     match part {
         Part::First => Reason::NoInput,
@@ -407,7 +407,7 @@ fn look(s: &[u8], at: usize, part: Part) -> Outlook
 
 // The first bad line of a script and what is wrong with it.
 pub fn flaw_of(s: &[u8]) -> Flaw
-    ensures { result ≡ flawOf s.now }
+    ensures { result ≡ flaw_of s.now }
 {
     if MOST < s.len() {
         return Flaw {

@@ -2,7 +2,7 @@
 ghost use Rattle.std.specs.Prelude.{◌++◌, ◌+◌, ◌≤◌, length};
 ghost use Rattle.player_model.specs.Playing.{Writes};
 ghost use Rattle.text.specs.Ascii.{ascii};
-ghost use Rattle.flaw_model.specs.Message.{byteText, placeText, fieldText, countText, reasonText, messageIn};
+ghost use Rattle.flaw_model.specs.Message.{byte_text, place_text, field_text, count_text, reason_text, message_in};
 
 use flaw_model::Defect;
 pub use flaw_model::{Flaw, Reason};
@@ -13,7 +13,7 @@ pub const ROOM: usize = 256;
 // A field's number and name, with the form of its line.
 fn put_place(out: &mut [u8], at: usize, b: u8, k: usize) -> usize
     requires { at + 102 ≤ length out.old }
-    ensures { Writes out.old at (placeText b k) out.new result × (result ≤ at + 102) }
+    ensures { Writes out.old at (place_text b k) out.new result × (result ≤ at + 102) }
 {
     let a = script_phrases::put(out, at, b"field ");
     let e = script_phrases::put_value(out, a, k as u64);
@@ -26,7 +26,7 @@ fn put_place(out: &mut [u8], at: usize, b: u8, k: usize) -> usize
 // What is wrong with a field.
 fn put_field(out: &mut [u8], at: usize, b: u8, k: usize, d: Defect) -> usize
     requires { at + 203 ≤ length out.old }
-    ensures { Writes out.old at (fieldText b k d) out.new result × (result ≤ at + 203) }
+    ensures { Writes out.old at (field_text b k d) out.new result × (result ≤ at + 203) }
 {
     let a = put_place(out, at, b, k);
     let e = script_phrases::put(out, a, b": found ");
@@ -38,7 +38,7 @@ fn put_field(out: &mut [u8], at: usize, b: u8, k: usize, d: Defect) -> usize
 // A number of fields that is not the letter's.
 fn put_count(out: &mut [u8], at: usize, b: u8, n: usize) -> usize
     requires { at + 203 ≤ length out.old }
-    ensures { Writes out.old at (countText b n) out.new result × (result ≤ at + 203) }
+    ensures { Writes out.old at (count_text b n) out.new result × (result ≤ at + 203) }
 {
     let a = script_phrases::put(out, at, b"fields: found ");
     let e = script_phrases::put_value(out, a, n as u64);
@@ -51,7 +51,7 @@ fn put_count(out: &mut [u8], at: usize, b: u8, n: usize) -> usize
 // A byte that was found, and a text.
 fn put_other(out: &mut [u8], at: usize, b: u8, s: &[u8]) -> usize
     requires { at + (31 + length s.now) ≤ length out.old }
-    ensures { Writes out.old at (ascii "found " ++ byteText b ++ s.now) out.new result
+    ensures { Writes out.old at (ascii "found " ++ byte_text b ++ s.now) out.new result
         × (result ≤ at + (31 + length s.now)) }
 {
     let a = script_phrases::put(out, at, b"found ");
@@ -62,7 +62,7 @@ fn put_other(out: &mut [u8], at: usize, b: u8, s: &[u8]) -> usize
 // A reason.
 fn put_reason(out: &mut [u8], at: usize, r: Reason) -> usize
     requires { at + 203 ≤ length out.old }
-    ensures { Writes out.old at (reasonText r) out.new result × (result ≤ at + 203) }
+    ensures { Writes out.old at (reason_text r) out.new result × (result ≤ at + 203) }
 {
     match r {
         Reason::Fine => at,
@@ -117,7 +117,7 @@ fn put_reason(out: &mut [u8], at: usize, r: Reason) -> usize
 
 // The message of a flaw, at the start of the buffer; nothing where there is no flaw, or where there may be no room.
 pub fn put_message(out: &mut [u8], flaw: Flaw) -> usize
-    ensures { Writes out.old 0 (messageIn out.old flaw) out.new result
+    ensures { Writes out.old 0 (message_in out.old flaw) out.new result
         × (result ≤ length out.old) }
 {
     let reason = flaw.reason;

@@ -13,12 +13,12 @@ use lib.ListN.{length, get_or, length-append, get_or-append}
 use lib.Seq.{get_or-append-add}
 use borrow.Author.Tests.{eqb-true, eq-eqb, ltb-true}
 use Rattle.marks.specs.Counting.{every}
-use Rattle.marks.proofs.Counts.{every-at, every-from}
-use Rattle.machine_model.specs.Program.{perInstruction, programMost, wellFormed, wellFormedAt, programFits}
+use Rattle.marks.proofs.Counts.{every_at, every_from}
+use Rattle.machine_model.specs.Program.{per_instruction, program_most, well_formed, well_formed_at, program_fits}
 use Rattle.script_model.specs.declared.Item.{Item}
 use Rattle.script_model.specs.declared.Item.TheVariants.{Malformed, Sizes, Operation, Issue, Execute, Squash, Commit}
 use Rattle.script_model.specs.declared.Item.TheVariants.{Finish}
-use Rattle.script_model.specs.Language.{parsedLine, numbersOf, joining, steps, body}
+use Rattle.script_model.specs.Language.{parsed_line, numbers_of, joining, steps, body}
 
 -- the numbers that a line joins to a program
 record Joins (program ns : List ℕ) : Type 0 where
@@ -27,23 +27,23 @@ record Joins (program ns : List ℕ) : Type 0 where
   s : ℕ
   imm : ℕ
   four : ns ≡ code ∷ d ∷ s ∷ imm ∷ []
-  room : length program < programMost
-  formed : wellFormed code d s imm ≡ true
+  room : length program < program_most
+  formed : well_formed code d s imm ≡ true
 
 never : {A : Type 0} {ns : List ℕ} → none ≡ some ns → A
 never e = absurd (let z : ◌≡◌ {A = ℕ} 0 1 = cc in omega arith)
 
-joins : (program : List ℕ) (i : Item) (ns : List ℕ) → numbersOf program i ≡ some ns → Joins program ns
+joins : (program : List ℕ) (i : Item) (ns : List ℕ) → numbers_of program i ≡ some ns → Joins program ns
 joins program Malformed ns h = never h
 joins program (Sizes x y z w) ns h = never h
-joins program (Operation x y z w) ns h = go (ltb (length program) programMost) refl (wellFormed x y z w) refl h
+joins program (Operation x y z w) ns h = go (ltb (length program) program_most) refl (well_formed x y z w) refl h
   where
-    go : (r : Bool) → ltb (length program) programMost ≡ r → (t : Bool) → wellFormed x y z w ≡ t
+    go : (r : Bool) → ltb (length program) program_most ≡ r → (t : Bool) → well_formed x y z w ≡ t
         → cond (r && t) (some (x ∷ y ∷ z ∷ w ∷ [])) none ≡ some ns → Joins program ns
     go false e t f g = never g
     go true e false f g = never g
     go true e true f g =
-        record { code = x; d = y; s = z; imm = w; four = cc; room = ltb-true (length program) programMost e; formed = f }
+        record { code = x; d = y; s = z; imm = w; four = cc; room = ltb-true (length program) program_most e; formed = f }
 joins program Issue ns h = never h
 joins program (Execute k) ns h = never h
 joins program (Squash k) ns h = never h
@@ -51,11 +51,11 @@ joins program Commit ns h = never h
 joins program (Finish k) ns h = never h
 
 -- a well-formed instruction behind a well-formed program
-longer-at : (p : List ℕ) (code d s imm : ℕ) → length p % perInstruction ≡ 0
-    → every (wellFormedAt p) (length p / perInstruction) ≡ true
-    → wellFormed code d s imm ≡ true
-    → (k : ℕ) → k ≤ length p / perInstruction → wellFormedAt (p ++ (code ∷ d ∷ s ∷ imm ∷ [])) k ≡ true
-longer-at p code d s imm whole formed new k h = ⊎_elim last before (eq-or-lt_of_le h)
+longer_at : (p : List ℕ) (code d s imm : ℕ) → length p % per_instruction ≡ 0
+    → every (well_formed_at p) (length p / per_instruction) ≡ true
+    → well_formed code d s imm ≡ true
+    → (k : ℕ) → k ≤ length p / per_instruction → well_formed_at (p ++ (code ∷ d ∷ s ∷ imm ∷ [])) k ≡ true
+longer_at p code d s imm whole formed new k h = ⊎_elim last before (eq-or-lt_of_le h)
   where
     beyond : (i j : ℕ) → i ≡ length p + j
         → let ns = code ∷ d ∷ s ∷ imm ∷ [] in
@@ -64,67 +64,67 @@ longer-at p code d s imm whole formed new k h = ⊎_elim last before (eq-or-lt_o
         let ns = code ∷ d ∷ s ∷ imm ∷ [] in
         ap (λ (n : ℕ). get_or (p ++ ns) n 0) e ∙ get_or-append-add p ns j 0
 
-    last : k ≡ length p / perInstruction → wellFormedAt (p ++ (code ∷ d ∷ s ∷ imm ∷ [])) k ≡ true
+    last : k ≡ length p / per_instruction → well_formed_at (p ++ (code ∷ d ∷ s ∷ imm ∷ [])) k ≡ true
     last e =
         let ns = code ∷ d ∷ s ∷ imm ∷ [] in
-        let a : get_or (p ++ ns) (k * perInstruction) 0 ≡ code = beyond (k * perInstruction) 0 (omega arith) in
-        let b : get_or (p ++ ns) (k * perInstruction + 1) 0 ≡ d = beyond (k * perInstruction + 1) 1 (omega arith) in
-        let c : get_or (p ++ ns) (k * perInstruction + 2) 0 ≡ s = beyond (k * perInstruction + 2) 2 (omega arith) in
-        let f : get_or (p ++ ns) (k * perInstruction + 3) 0 ≡ imm = beyond (k * perInstruction + 3) 3 (omega arith) in
+        let a : get_or (p ++ ns) (k * per_instruction) 0 ≡ code = beyond (k * per_instruction) 0 (omega arith) in
+        let b : get_or (p ++ ns) (k * per_instruction + 1) 0 ≡ d = beyond (k * per_instruction + 1) 1 (omega arith) in
+        let c : get_or (p ++ ns) (k * per_instruction + 2) 0 ≡ s = beyond (k * per_instruction + 2) 2 (omega arith) in
+        let f : get_or (p ++ ns) (k * per_instruction + 3) 0 ≡ imm = beyond (k * per_instruction + 3) 3 (omega arith) in
         rw (a, b, c, f) new
 
-    before : k < length p / perInstruction → wellFormedAt (p ++ (code ∷ d ∷ s ∷ imm ∷ [])) k ≡ true
+    before : k < length p / per_instruction → well_formed_at (p ++ (code ∷ d ∷ s ∷ imm ∷ [])) k ≡ true
     before l =
         let ns = code ∷ d ∷ s ∷ imm ∷ [] in
-        let a = get_or-append p ns 0 (k * perInstruction) (omega arith) in
-        let b = get_or-append p ns 0 (k * perInstruction + 1) (omega arith) in
-        let c = get_or-append p ns 0 (k * perInstruction + 2) (omega arith) in
-        let f = get_or-append p ns 0 (k * perInstruction + 3) (omega arith) in
-        rw (a, b, c, f) (every-at (wellFormedAt p) (length p / perInstruction) formed k l)
+        let a = get_or-append p ns 0 (k * per_instruction) (omega arith) in
+        let b = get_or-append p ns 0 (k * per_instruction + 1) (omega arith) in
+        let c = get_or-append p ns 0 (k * per_instruction + 2) (omega arith) in
+        let f = get_or-append p ns 0 (k * per_instruction + 3) (omega arith) in
+        rw (a, b, c, f) (every_at (well_formed_at p) (length p / per_instruction) formed k l)
 
-longer-fits : (p : List ℕ) (code d s imm : ℕ) → programFits p ≡ true → wellFormed code d s imm ≡ true
-    → programFits (p ++ (code ∷ d ∷ s ∷ imm ∷ [])) ≡ true
-unfolding programFits
-longer-fits p code d s imm fits new =
+longer_fits : (p : List ℕ) (code d s imm : ℕ) → program_fits p ≡ true → well_formed code d s imm ≡ true
+    → program_fits (p ++ (code ∷ d ∷ s ∷ imm ∷ [])) ≡ true
+unfolding program_fits
+longer_fits p code d s imm fits new =
     let ns = code ∷ d ∷ s ∷ imm ∷ [] in
-    let long : length (p ++ ns) ≡ length p + perInstruction = length-append p ns in
-    let both = (and-eq-true_iff (eqb (length p % perInstruction) 0) (every (wellFormedAt p) (length p / perInstruction))).0 fits in
-    let whole : length p % perInstruction ≡ 0 = eqb-true (length p % perInstruction) 0 both.0 in
-    ap₂ ◌&&◌ (eq-eqb (length (p ++ ns) % perInstruction) 0 (omega arith))
-    (every-from (wellFormedAt (p ++ ns)) (length (p ++ ns) / perInstruction)
-    (λ k h. longer-at p code d s imm whole both.1 new k (omega arith)))
+    let long : length (p ++ ns) ≡ length p + per_instruction = length-append p ns in
+    let both = (and-eq-true_iff (eqb (length p % per_instruction) 0) (every (well_formed_at p) (length p / per_instruction))).0 fits in
+    let whole : length p % per_instruction ≡ 0 = eqb-true (length p % per_instruction) 0 both.0 in
+    ap₂ ◌&&◌ (eq-eqb (length (p ++ ns) % per_instruction) 0 (omega arith))
+    (every_from (well_formed_at (p ++ ns)) (length (p ++ ns) / per_instruction)
+    (λ k h. longer_at p code d s imm whole both.1 new k (omega arith)))
 
 -- a program that fits and has room for a number has room for four
-longer-short : (p : List ℕ) → programFits p ≡ true → length p < programMost → length p + perInstruction ≤ programMost
-unfolding programFits
-longer-short p fits room =
-    let both = (and-eq-true_iff (eqb (length p % perInstruction) 0) (every (wellFormedAt p) (length p / perInstruction))).0 fits in
-    omega (arith, eqb-true (length p % perInstruction) 0 both.0)
+longer_short : (p : List ℕ) → program_fits p ≡ true → length p < program_most → length p + per_instruction ≤ program_most
+unfolding program_fits
+longer_short p fits room =
+    let both = (and-eq-true_iff (eqb (length p % per_instruction) 0) (every (well_formed_at p) (length p / per_instruction))).0 fits in
+    omega (arith, eqb-true (length p % per_instruction) 0 both.0)
 
-joined-fits : (p ns : List ℕ) → Joins p ns → programFits p ≡ true
-    → (programFits (p ++ ns) ≡ true) × (length (p ++ ns) ≤ programMost)
-joined-fits p ns j fits =
-    let longer = longer-fits p j.code j.d j.s j.imm fits j.formed in (
-      ap (λ (l : List ℕ). programFits (p ++ l)) j.four ∙ longer,
-      omega (arith, longer-short p fits j.room, length-append p ns, ap length j.four),
+joined_fits : (p ns : List ℕ) → Joins p ns → program_fits p ≡ true
+    → (program_fits (p ++ ns) ≡ true) × (length (p ++ ns) ≤ program_most)
+joined_fits p ns j fits =
+    let longer = longer_fits p j.code j.d j.s j.imm fits j.formed in (
+      ap (λ (l : List ℕ). program_fits (p ++ l)) j.four ∙ longer,
+      omega (arith, longer_short p fits j.room, length-append p ns, ap length j.four),
     )
 
-pub body-fits : (n : ℕ) (program : List ℕ) (lines : List (List ℕ)) (rest : List ℕ)
-    → programFits program ≡ true → length program ≤ programMost
-    → (programFits (body n program lines rest).program ≡ true) × (length (body n program lines rest).program ≤ programMost)
+pub body_fits : (n : ℕ) (program : List ℕ) (lines : List (List ℕ)) (rest : List ℕ)
+    → program_fits program ≡ true → length program ≤ program_most
+    → (program_fits (body n program lines rest).program ≡ true) × (length (body n program lines rest).program ≤ program_most)
 unfolding body
-body-fits n program [] rest fits short = (fits, short)
-body-fits n program (line ∷ lines) rest fits short =
-    go (numbersOf program (parsedLine line)) refl (λ grown f l. body-fits (suc n) grown lines rest f l)
+body_fits n program [] rest fits short = (fits, short)
+body_fits n program (line ∷ lines) rest fits short =
+    go (numbers_of program (parsed_line line)) refl (λ grown f l. body_fits (suc n) grown lines rest f l)
   where
-    go : (o : Option (List ℕ)) → numbersOf program (parsedLine line) ≡ o
-        → ((grown : List ℕ) → programFits grown ≡ true → length grown ≤ programMost
-        → (programFits (body (suc n) grown lines rest).program ≡ true)
-        × (length (body (suc n) grown lines rest).program ≤ programMost))
+    go : (o : Option (List ℕ)) → numbers_of program (parsed_line line) ≡ o
+        → ((grown : List ℕ) → program_fits grown ≡ true → length grown ≤ program_most
+        → (program_fits (body (suc n) grown lines rest).program ≡ true)
+        × (length (body (suc n) grown lines rest).program ≤ program_most))
         → let b =
         joining program o (λ (grown : List ℕ). body (suc n) grown lines rest) (steps n (line ∷ lines) rest) in
-        (programFits b.program ≡ true) × (length b.program ≤ programMost)
+        (program_fits b.program ≡ true) × (length b.program ≤ program_most)
     go none e more = (fits, short)
     go (some ns) e more =
-        let all = joined-fits program ns (joins program (parsedLine line) ns e) fits in
+        let all = joined_fits program ns (joins program (parsed_line line) ns e) fits in
         more (program ++ ns) all.0 all.1

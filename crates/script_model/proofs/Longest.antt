@@ -8,16 +8,16 @@ use lib.ListN.{length, length-append}
 use borrow.Author.Tests.{lt-ltb, le-ltb}
 use Rattle.text.specs.Lines.{lines_of}
 use Rattle.script_model.specs.Language.{script}
-use Rattle.script_model.specs.Output.{most, badLine, output, printed}
+use Rattle.script_model.specs.Output.{most, bad_line, output, printed}
 
-pub printed-long : (text : List ℕ) → most < length text → printed text ≡ badLine 0
+pub printed_long : (text : List ℕ) → most < length text → printed text ≡ bad_line 0
 unfolding printed
-printed-long text long = rw (lt-ltb most (length text) long)
+printed_long text long = rw (lt-ltb most (length text) long)
 
-pub printed-short : (text : List ℕ) → length text ≤ most → printed text ≡ output (script (lines_of text))
+pub printed_short : (text : List ℕ) → length text ≤ most → printed text ≡ output (script (lines_of text))
 unfolding printed
-printed-short text short = rw (le-ltb most (length text) short)
+printed_short text short = rw (le-ltb most (length text) short)
 
 -- more input does not change that
-pub long-anyway : (text rest : List ℕ) → most < length text → printed (text ++ rest) ≡ badLine 0
-long-anyway text rest long = printed-long (text ++ rest) (omega (arith, length-append text rest, long))
+pub long_anyway : (text rest : List ℕ) → most < length text → printed (text ++ rest) ≡ bad_line 0
+long_anyway text rest long = printed_long (text ++ rest) (omega (arith, length-append text rest, long))

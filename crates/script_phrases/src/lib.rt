@@ -3,8 +3,8 @@
 ghost use Rattle.std.specs.Prelude.{◌≡◌, cond, ℕ, ◌+◌, ◌≤◌, length};
 ghost use Rattle.text.specs.Decimal.{decimal};
 ghost use Rattle.player_model.specs.Playing.{Writes};
-ghost use Rattle.flaw_model.specs.Message.{byteText, formText, of_four, nameText, limitText, foundText, numberText};
-ghost use Rattle.flaw_model.specs.Message.{expectedText};
+ghost use Rattle.flaw_model.specs.Message.{byte_text, form_text, of_four, name_text, limit_text, found_text, number_text};
+ghost use Rattle.flaw_model.specs.Message.{expected_text};
 
 use flaw_model::Defect;
 
@@ -47,7 +47,7 @@ fn of_four<'a>(k: usize, a: &'a [u8], b: &'a [u8], c: &'a [u8], d: &'a [u8]) -> 
 // A byte.
 pub fn put_byte(out: &mut [u8], at: usize, b: u8) -> usize
     requires { at + 25 ≤ length out.old }
-    ensures { Writes out.old at (byteText b) out.new result × (result ≤ at + 25) }
+    ensures { Writes out.old at (byte_text b) out.new result × (result ≤ at + 25) }
 {
     if (32 <= b) & (b <= 126) {
         return put(out, at, &[b'\'', b, b'\'']);
@@ -59,7 +59,7 @@ pub fn put_byte(out: &mut [u8], at: usize, b: u8) -> usize
 // The form of the lines with this letter.
 pub fn put_form(out: &mut [u8], at: usize, b: u8) -> usize
     requires { at + 40 ≤ length out.old }
-    ensures { Writes out.old at (formText b) out.new result × (result ≤ at + 40) }
+    ensures { Writes out.old at (form_text b) out.new result × (result ≤ at + 40) }
 {
     let fields = script_flaw::arity_of(b);
     let a = put(out, at, &[b'\'', b]);
@@ -75,7 +75,7 @@ pub fn put_form(out: &mut [u8], at: usize, b: u8) -> usize
 // The name of a field.
 pub fn put_name(out: &mut [u8], at: usize, b: u8, k: usize) -> usize
     requires { at + 29 ≤ length out.old }
-    ensures { Writes out.old at (nameText b k) out.new result × (result ≤ at + 29) }
+    ensures { Writes out.old at (name_text b k) out.new result × (result ≤ at + 29) }
 {
     let fields = script_flaw::arity_of(b);
     let other = pick(fields == 4, of_four(k, b"d", b"s", b"imm", b"imm"), b"k");
@@ -93,7 +93,7 @@ pub fn put_name(out: &mut [u8], at: usize, b: u8, k: usize) -> usize
 // What a field is.
 pub fn put_found(out: &mut [u8], at: usize, d: Defect) -> usize
     requires { at + 25 ≤ length out.old }
-    ensures { Writes out.old at (foundText d) out.new result × (result ≤ at + 25) }
+    ensures { Writes out.old at (found_text d) out.new result × (result ≤ at + 25) }
 {
     match d {
         Defect::Sound => at,
@@ -107,7 +107,7 @@ pub fn put_found(out: &mut [u8], at: usize, d: Defect) -> usize
 
 // Whether a field's number is outside its limits.
 fn is_beyond(d: Defect) -> bool
-    ensures { (b k : ℕ) → expectedText b k d ≡ cond result (limitText b k) numberText }
+    ensures { (b k : ℕ) → expected_text b k d ≡ cond result (limit_text b k) number_text }
 {
     match d {
         Defect::Sound => false,
@@ -122,7 +122,7 @@ fn is_beyond(d: Defect) -> bool
 // What a field should be.
 pub fn put_expected(out: &mut [u8], at: usize, b: u8, k: usize, d: Defect) -> usize
     requires { at + 57 ≤ length out.old }
-    ensures { Writes out.old at (expectedText b k d) out.new result × (result ≤ at + 57) }
+    ensures { Writes out.old at (expected_text b k d) out.new result × (result ≤ at + 57) }
 {
     if is_beyond(d) {
         let sizes = of_four(k, b"1, 2, 4 or 8", b"1 to 8", b"1 to 16", b"1 to 4096");

@@ -1,8 +1,8 @@
 // Printing: the lines of commits, of memory words, of a bad line and of the end, written into a lent buffer.
 ghost use Rattle.std.specs.Prelude.{◌≡◌, ◌+◌, ◌≤◌, length};
 ghost use Rattle.script_model.specs.Language.{letter};
-ghost use Rattle.script_model.specs.Output.{numberField, pairLine, commitLine, committedLines};
-ghost use Rattle.script_model.specs.Output.{word_line, endLine, badLine};
+ghost use Rattle.script_model.specs.Output.{number_field, pair_line, commit_line, committed_lines};
+ghost use Rattle.script_model.specs.Output.{word_line, end_line, bad_line};
 ghost use Rattle.player_model.specs.Playing.{longest, Writes};
 
 use script_model::{Ending, LETTERS};
@@ -10,7 +10,7 @@ use script_model::{Ending, LETTERS};
 // A number and the byte after it.
 fn put_number(out: &mut [u8], at: usize, n: u64, after: u8) -> usize
     requires { at + 21 ≤ length out.old }
-    ensures { Writes out.old at (numberField n after) out.new result × (result ≤ at + 21) }
+    ensures { Writes out.old at (number_field n after) out.new result × (result ≤ at + 21) }
 {
     let end = text_numbers::put_decimal(out, at, n);
     out[end] = after;
@@ -30,7 +30,7 @@ fn letter_of(code: u32) -> u8
 // A line of a letter and two numbers.
 fn put_pair(out: &mut [u8], at: usize, letter: u8, m: u64, n: u64) -> usize
     requires { at + 44 ≤ length out.old }
-    ensures { Writes out.old at (pairLine letter m n) out.new result × (result ≤ at + 44) }
+    ensures { Writes out.old at (pair_line letter m n) out.new result × (result ≤ at + 44) }
 {
     out[at] = letter;
     out[at + 1] = b',';
@@ -41,7 +41,7 @@ fn put_pair(out: &mut [u8], at: usize, letter: u8, m: u64, n: u64) -> usize
 // A commit's own line.
 fn put_commit(out: &mut [u8], at: usize, i: u32, code: u32, r: u32, v: u32) -> usize
     requires { at + 65 ≤ length out.old }
-    ensures { Writes out.old at (commitLine i code r v) out.new result × (result ≤ at + 65) }
+    ensures { Writes out.old at (commit_line i code r v) out.new result × (result ≤ at + 65) }
 {
     let a = put_number(out, at, i as u64, b',');
     out[a] = letter_of(code);
@@ -53,7 +53,7 @@ fn put_commit(out: &mut [u8], at: usize, i: u32, code: u32, r: u32, v: u32) -> u
 // A commit's lines: of an L its distance comes before.
 pub fn put_committed(out: &mut [u8], at: usize, i: u32, code: u32, r: u32, v: u32, d: u32) -> usize
     requires { at + longest ≤ length out.old }
-    ensures { Writes out.old at (committedLines i code r v d) out.new result × (result ≤ at + longest) }
+    ensures { Writes out.old at (committed_lines i code r v d) out.new result × (result ≤ at + longest) }
 {
     if code == 3 {
         let a = put_pair(out, at, b'f', i as u64, d as u64);
@@ -73,7 +73,7 @@ pub fn put_word(out: &mut [u8], at: usize, address: usize, v: u32) -> usize
 // The line that names a bad line.
 pub fn put_bad(out: &mut [u8], at: usize, n: u64) -> usize
     requires { at + longest ≤ length out.old }
-    ensures { Writes out.old at (badLine n) out.new result × (result ≤ at + longest) }
+    ensures { Writes out.old at (bad_line n) out.new result × (result ≤ at + longest) }
 {
     let a = text_numbers::put_text(out, at, b"bad,");
     put_number(out, a, n, b'\n')
@@ -82,7 +82,7 @@ pub fn put_bad(out: &mut [u8], at: usize, n: u64) -> usize
 // The end line.
 pub fn put_end(out: &mut [u8], at: usize, e: Ending, commits: u64) -> usize
     requires { at + longest ≤ length out.old }
-    ensures { Writes out.old at (endLine e commits) out.new result × (result ≤ at + longest) }
+    ensures { Writes out.old at (end_line e commits) out.new result × (result ≤ at + longest) }
 {
     let a = match e {
         Ending::Open => text_numbers::put_text(out, at, b"end,open,"),

@@ -2,14 +2,14 @@
 ghost use Rattle.std.specs.Prelude.{cond, ◌≡◌, ◌+◌, ◌≤◌, ◌<◌, length};
 ghost use Rattle.std.proofs.Math.Seq.{slice};
 ghost use Rattle.text.specs.Lines.{line_at};
-ghost use Rattle.text.specs.computed.Reader.{capacity, parsedFields};
-ghost use Rattle.table.specs.Limits.{wordsMost};
-ghost use Rattle.machine_model.specs.Program.{programMost};
+ghost use Rattle.text.specs.Computed.Reader.{capacity, parsed_fields};
+ghost use Rattle.table.specs.Limits.{words_most};
+ghost use Rattle.machine_model.specs.Program.{program_most};
 ghost use Rattle.player_model.specs.declared.Found.TheVariants.{Nothing};
 ghost use Rattle.script_model.specs.declared.Item.TheVariants.{Malformed};
-ghost use Rattle.script_model.specs.Language.{letterCode, alone, withOne, withThree, withFour, lettered, parsedLine};
+ghost use Rattle.script_model.specs.Language.{letter_code, alone, with_one, with_three, with_four, lettered, parsed_line};
 ghost use Rattle.player_model.specs.Playing.{words_of};
-ghost use Rattle.player_model.specs.computed.Parts.{headerOf, foundIn, foundBy, found_at, Loads};
+ghost use Rattle.player_model.specs.Computed.Parts.{header_of, found_in, found_by, found_at, Loads};
 
 use machine_model::{PER_INSTRUCTION, PROGRAM};
 use player_model::{Found, Loaded};
@@ -34,7 +34,7 @@ fn choose(p: bool, a: Item, q: bool, b: Item, r: bool, c: Item) -> Item
 
 // The code of an instruction's letter; 0 where it is none.
 pub fn code_of(b: u8) -> u32
-    ensures { result ≡ letterCode b }
+    ensures { result ≡ letter_code b }
 {
     let mut code: u32 = 0;
     while code < 7 {
@@ -56,7 +56,7 @@ fn say_alone(b: u8) -> Item
 
 // A letter and one number.
 fn say_one(b: u8, k: u32) -> Item
-    ensures { result ≡ withOne b k }
+    ensures { result ≡ with_one b k }
 {
     choose(
         b == b'e',
@@ -70,7 +70,7 @@ fn say_one(b: u8, k: u32) -> Item
 
 // A letter and three numbers.
 fn say_three(b: u8, d: u32, s: u32, imm: u32) -> Item
-    ensures { result ≡ withThree b d s imm }
+    ensures { result ≡ with_three b d s imm }
 {
     let none = Item::Malformed;
     let code = code_of(b);
@@ -86,7 +86,7 @@ fn say_three(b: u8, d: u32, s: u32, imm: u32) -> Item
 
 // A letter and four numbers.
 fn say_four(b: u8, banks: u32, rows: u32, stages: u32, words: u32) -> Item
-    ensures { result ≡ withFour b banks rows stages words }
+    ensures { result ≡ with_four b banks rows stages words }
 {
     let none = Item::Malformed;
     choose(
@@ -102,7 +102,7 @@ fn say_four(b: u8, banks: u32, rows: u32, stages: u32, words: u32) -> Item
 // A letter and these fields.
 fn say_fields(b: u8, n: Numbers) -> Item
     requires { n.count ≤ capacity }
-    ensures { result ≡ lettered b (parsedFields n) }
+    ensures { result ≡ lettered b (parsed_fields n) }
 {
     let k = n.count;
     let good = n.good;
@@ -125,7 +125,7 @@ fn say_fields(b: u8, n: Numbers) -> Item
 // What the line from `from` up to `to` says.
 pub fn read_item(s: &[u8], from: usize, to: usize) -> Item
     requires { to ≤ length s.now }
-    ensures { result ≡ parsedLine (slice from to s.now) }
+    ensures { result ≡ parsed_line (slice from to s.now) }
 {
     if to <= from {
         return Item::Malformed;
@@ -152,7 +152,7 @@ fn found_if(t: bool, found: Found) -> Found
 
 // The four numbers that an item gives: on the first line sizes within the limits, on a later one a well-formed instruction.
 fn take_four(item: Item, first: bool, at: usize) -> Found
-    ensures { result ≡ foundIn first item at }
+    ensures { result ≡ found_in first item at }
 {
     match item {
         Item::Malformed => Found::Nothing,
@@ -175,7 +175,7 @@ fn take_four(item: Item, first: bool, at: usize) -> Found
 
 // The four numbers that the line gives which a reader at `at` hands out, and where the reader stands then.
 fn found_on(s: &[u8], at: usize, first: bool) -> Found
-    ensures { result ≡ foundBy first s.now (line_at s.now at) }
+    ensures { result ≡ found_by first s.now (line_at s.now at) }
 {
     let taken = text_lines::take_line(s, at);
     let line = taken.line;
@@ -189,7 +189,7 @@ fn found_on(s: &[u8], at: usize, first: bool) -> Found
 
 // The sizes on the first line.
 pub fn read_header(s: &[u8]) -> Found
-    ensures { result ≡ headerOf s.now }
+    ensures { result ≡ header_of s.now }
 {
     found_on(s, 0, true)
 }
@@ -204,7 +204,7 @@ fn find_operation(s: &[u8], at: usize) -> Found
 // How many words of memory the script asks for; 0 where its first line is bad.
 pub fn words_of(s: &[u8]) -> usize
     ensures value { result ≡ words_of s.now }
-    ensures upper_bound { result ≤ wordsMost }
+    ensures upper_bound { result ≤ words_most }
 {
     if MOST < s.len() {
         return 0;
@@ -218,7 +218,7 @@ pub fn words_of(s: &[u8]) -> usize
 
 // Reads the instructions from `from` on, where line 2 begins.
 pub fn read_program(s: &[u8], from: usize, program: &mut [u32]) -> Loaded
-    requires { programMost ≤ length program.old }
+    requires { program_most ≤ length program.old }
     ensures { Loads s.now from program.old program.new result.cursor result.line result.used }
 {
     let mut cursor = from;

@@ -1,10 +1,10 @@
 // What the player's loop is made of: what a line asks for, how a script ends, and small steps on lent slices and numbers.
 ghost use Rattle.std.specs.Prelude.{◌≡◌, ◌+◌, ◌≤◌, ◌<◌, length, take};
 ghost use Rattle.marks.specs.Circle.{stage};
-ghost use Rattle.machine_model.specs.Contract.{plain, finishSays};
-ghost use Rattle.sequential.specs.Play.{commitsIn};
+ghost use Rattle.machine_model.specs.Contract.{plain, finish_says};
+ghost use Rattle.sequential.specs.Play.{commits_in};
 ghost use Rattle.script_model.specs.Output.{faulted, ending};
-ghost use Rattle.player_model.specs.Playing.{oneMore, askIn, order_at, wordLineAt, Writes, longest};
+ghost use Rattle.player_model.specs.Playing.{one_more, ask_in, order_at, word_line_at, Writes, longest};
 
 use machine_model::{Entry, FinishAnswer, Machine};
 use player_model::{Ask, COUNT, Order, Phase};
@@ -14,7 +14,7 @@ use text::Line;
 
 // One more; the largest number stays.
 pub fn one_more(n: u64) -> u64
-    ensures { result ≡ oneMore n }
+    ensures { result ≡ one_more n }
 {
     if n < COUNT {
         return n + 1;
@@ -70,7 +70,7 @@ pub fn ending_of(m: Machine) -> Ending
 
 // How many commits a finish made.
 pub fn commits_of(said: FinishAnswer) -> usize
-    ensures { result ≡ commitsIn (finishSays said) }
+    ensures { result ≡ commits_in (finish_says said) }
 {
     match said {
         FinishAnswer::Refused(_) => 0,
@@ -80,7 +80,7 @@ pub fn commits_of(said: FinishAnswer) -> usize
 
 // What this item of line `line` asks for; any item that is no step makes a bad line.
 fn ask_of(item: Item, line: u64) -> Ask
-    ensures { result ≡ askIn item line }
+    ensures { result ≡ ask_in item line }
 {
     match item {
         Item::Malformed => Ask::Turn(Phase::Bad(line)),
@@ -127,7 +127,7 @@ pub fn next_order(s: &[u8], cursor: usize, line: u64) -> Order
 pub fn put_word_at(memory: &[u32], a: usize, out: &mut [u8], at: usize) -> usize
     requires a_in_bounds { a < length memory.now }
     requires longest_in_bounds { at + longest ≤ length out.old }
-    ensures writes { Writes out.old at (wordLineAt memory.now a) out.new result }
+    ensures writes { Writes out.old at (word_line_at memory.now a) out.new result }
     ensures upper_bound { result ≤ at + longest }
 {
     let v = memory[a];

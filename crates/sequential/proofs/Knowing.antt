@@ -7,7 +7,7 @@ use mathlib.Core.Bool.{Bool, true, false, cond}
 use mathlib.Core.List.{List, [], ◌∷◌, map}
 use mathlib.Core.Option.{Option, none, some, none-ne-some}
 use Prim.Native.Nat.{ℕ}
-use Rattle.lookup.proofs.Faithfully.{clear, SameRead, same_read, same-past}
+use Rattle.lookup.proofs.Faithfully.{clear, SameRead, same_read, same_past}
 use Rattle.engine.specs.declared.Part.{Part}
 use Rattle.engine.specs.declared.Part.TheVariants as part
 use Rattle.engine.specs.Part.{word_of, whole}
@@ -17,15 +17,15 @@ use Rattle.machine_model.specs.declared.Fate.{Fate}
 use Rattle.machine_model.specs.declared.Fate.TheVariants.{Waiting, Executed}
 use Rattle.machine_model.specs.declared.Entry.{Entry}
 use Rattle.machine_model.specs.Program.{sum}
-use Rattle.machine_model.specs.Window.{writesTo, value_of, referenceBy, untold, reference, with₂, partStored}
+use Rattle.machine_model.specs.Window.{writes_to, value_of, reference_by, untold, reference, with₂, part_stored}
 use Rattle.sequential.proofs.Core.{Right, Good}
 
 -- what x tells, y tells too
 abbrev pub Tells : Option ℕ → Option ℕ → Type 0
 Tells x y = (v : ℕ) → x ≡ some v → y ≡ some v
 
-pub unknown-tells : (y : Option ℕ) → Tells none y
-unknown-tells y v e = absurd (none-ne-some v e)
+pub unknown_tells : (y : Option ℕ) → Tells none y
+unknown_tells y v e = absurd (none-ne-some v e)
 
 more₂ : {A : Type 0} (x y x' y' : Option ℕ) (g : ℕ → ℕ → A) (f : A) → Tells x x' → Tells y y' → with₂ x y g ≡ some f
     → with₂ x' y' g ≡ some f
@@ -39,43 +39,43 @@ abbrev reading : (ℕ → ℕ → ℕ) → (ℕ → ℕ) → (ℕ → ℕ → �
 reading address place made μ x y = Executed (made x y (μ (place (address x y)))) (address x y)
 
 -- the word read must be the same
-more-read : (x y x' y' : Option ℕ) (address : ℕ → ℕ → ℕ) (place : ℕ → ℕ) (made : ℕ → ℕ → ℕ → ℕ) (v a : ℕ) (μ μ' : ℕ → ℕ)
+more_read : (x y x' y' : Option ℕ) (address : ℕ → ℕ → ℕ) (place : ℕ → ℕ) (made : ℕ → ℕ → ℕ → ℕ) (v a : ℕ) (μ μ' : ℕ → ℕ)
     → Tells x x' → Tells y y' → μ (place a) ≡ μ' (place a)
     → with₂ x y (reading address place made μ) ≡ some (Executed v a)
     → with₂ x' y' (reading address place made μ') ≡ some (Executed v a)
-more-read none y x' y' address place made v a μ μ' k l m h = absurd (none-ne-some (Executed v a) h)
-more-read (some u) none x' y' address place made v a μ μ' k l m h = absurd (none-ne-some (Executed v a) h)
-more-read (some u) (some w) x' y' address place made v a μ μ' k l m h =
+more_read none y x' y' address place made v a μ μ' k l m h = absurd (none-ne-some (Executed v a) h)
+more_read (some u) none x' y' address place made v a μ μ' k l m h = absurd (none-ne-some (Executed v a) h)
+more_read (some u) (some w) x' y' address place made v a μ μ' k l m h =
     let at : address u w ≡ a = cc in
     let same : μ' (place (address u w)) ≡ μ (place (address u w)) =
     ap (λ (b : ℕ). μ' (place b)) at ∙ sym m ∙ ap (λ (b : ℕ). μ (place b)) (sym at) in
     rw (k u refl, l w refl) (ap (λ (z : ℕ). some (Executed (made u w z) (address u w))) same ∙ h)
 
 -- the same of a store of a part
-more-part : (part : Part) (x y x' y' : Option ℕ) (imm v a : ℕ) (μ μ' : ℕ → ℕ) → Tells x x' → Tells y y'
+more_part : (part : Part) (x y x' y' : Option ℕ) (imm v a : ℕ) (μ μ' : ℕ → ℕ) → Tells x x' → Tells y y'
     → μ (word_of a) ≡ μ' (word_of a)
-    → with₂ x y (λ b c. partStored part μ (sum b imm) c) ≡ some (Executed v a)
-    → with₂ x' y' (λ b c. partStored part μ' (sum b imm) c) ≡ some (Executed v a)
-more-part part x y x' y' imm =
-    more-read x y x' y' (λ b c. sum b imm) word_of (λ b c w. whole part (sum b imm) w c)
+    → with₂ x y (λ b c. part_stored part μ (sum b imm) c) ≡ some (Executed v a)
+    → with₂ x' y' (λ b c. part_stored part μ' (sum b imm) c) ≡ some (Executed v a)
+more_part part x y x' y' imm =
+    more_read x y x' y' (λ b c. sum b imm) word_of (λ b c w. whole part (sum b imm) w c)
 
-right-more : (i : Instruction) (f : Fate) (ρ ρ' : ℕ → Option ℕ) (μ μ' : ℕ → ℕ) → ((k : ℕ) → Tells (ρ k) (ρ' k))
-    → SameRead (referenceBy untold i f) μ μ' → Right i ρ μ f → Right i ρ' μ' f
-right-more i Waiting ρ ρ' μ μ' k m h = tt
-right-more (Add d s imm) (Executed v a) ρ ρ' μ μ' k m h = more₂ (ρ s) (some imm) (ρ' s) (some imm) _ _ (k s) (λ w e. e) h
-right-more (Sum d s r) (Executed v a) ρ ρ' μ μ' k m h = more₂ (ρ s) (ρ r) (ρ' s) (ρ' r) _ _ (k s) (k r) h
-right-more (Load d s imm) (Executed v a) ρ ρ' μ μ' k m h =
-    more-read (ρ s) (some imm) (ρ' s) (some imm) sum (λ b. b) (λ b c w. w) v a μ μ' (k s) (λ w e. e) m h
-right-more (Store d s imm) (Executed v a) ρ ρ' μ μ' k m h = more₂ (ρ s) (ρ d) (ρ' s) (ρ' d) _ _ (k s) (k d) h
-right-more (Byte d s imm) (Executed v a) ρ ρ' μ μ' k m h =
-    more-part part.Byte (ρ s) (ρ d) (ρ' s) (ρ' d) imm v a μ μ' (k s) (k d) m h
-right-more (Half d s imm) (Executed v a) ρ ρ' μ μ' k m h =
-    more-part part.Half (ρ s) (ρ d) (ρ' s) (ρ' d) imm v a μ μ' (k s) (k d) m h
+right_more : (i : Instruction) (f : Fate) (ρ ρ' : ℕ → Option ℕ) (μ μ' : ℕ → ℕ) → ((k : ℕ) → Tells (ρ k) (ρ' k))
+    → SameRead (reference_by untold i f) μ μ' → Right i ρ μ f → Right i ρ' μ' f
+right_more i Waiting ρ ρ' μ μ' k m h = tt
+right_more (Add d s imm) (Executed v a) ρ ρ' μ μ' k m h = more₂ (ρ s) (some imm) (ρ' s) (some imm) _ _ (k s) (λ w e. e) h
+right_more (Sum d s r) (Executed v a) ρ ρ' μ μ' k m h = more₂ (ρ s) (ρ r) (ρ' s) (ρ' r) _ _ (k s) (k r) h
+right_more (Load d s imm) (Executed v a) ρ ρ' μ μ' k m h =
+    more_read (ρ s) (some imm) (ρ' s) (some imm) sum (λ b. b) (λ b c w. w) v a μ μ' (k s) (λ w e. e) m h
+right_more (Store d s imm) (Executed v a) ρ ρ' μ μ' k m h = more₂ (ρ s) (ρ d) (ρ' s) (ρ' d) _ _ (k s) (k d) h
+right_more (Byte d s imm) (Executed v a) ρ ρ' μ μ' k m h =
+    more_part part.Byte (ρ s) (ρ d) (ρ' s) (ρ' d) imm v a μ μ' (k s) (k d) m h
+right_more (Half d s imm) (Executed v a) ρ ρ' μ μ' k m h =
+    more_part part.Half (ρ s) (ρ d) (ρ' s) (ρ' d) imm v a μ μ' (k s) (k d) m h
 
 -- past an entry
-tells-past : (t : Bool) (x y y' : Option ℕ) → Tells y y' → Tells (cond t x y) (cond t x y')
-tells-past true x y y' k = λ v e. e
-tells-past false x y y' k = k
+tells_past : (t : Bool) (x y y' : Option ℕ) → Tells y y' → Tells (cond t x y) (cond t x y')
+tells_past true x y y' k = λ v e. e
+tells_past false x y y' k = k
 
 pub good_more : (program : List ℕ) (next : ℕ) (es : List Entry) (ρ ρ' : ℕ → Option ℕ) (μ μ' : ℕ → ℕ)
     → ((k : ℕ) → Tells (ρ k) (ρ' k)) → ((b : ℕ) → clear b (map reference es) ≡ false → μ b ≡ μ' b)
@@ -83,12 +83,12 @@ pub good_more : (program : List ℕ) (next : ℕ) (es : List Entry) (ρ ρ' : �
 unfolding clear
 good_more program next [] ρ ρ' μ μ' k m g = tt
 good_more program next (e ∷ es) ρ ρ' μ μ' k m g = (
-  right-more e.instruction e.fate ρ ρ' μ μ' k (same_read μ μ' (map reference es) (reference e) m) g.0,
+  right_more e.instruction e.fate ρ ρ' μ μ' k (same_read μ μ' (map reference es) (reference e) m) g.0,
   g.1,
   g.2,
   g.3,
   good_more program next es _ _ _ _
-      (λ j. tells-past (writesTo e.instruction j) (value_of e.fate) (ρ j) (ρ' j) (k j))
-      (same-past μ μ' (map reference es) (reference e) m)
+      (λ j. tells_past (writes_to e.instruction j) (value_of e.fate) (ρ j) (ρ' j) (k j))
+      (same_past μ μ' (map reference es) (reference e) m)
       g.4,
 )

@@ -3,7 +3,7 @@
 -- crate theorem_examples.
 -- Assumes nothing.
 use Rattle.std.specs.Prelude.{◌≡◌, Bool, true, false, List, [], ◌∷◌, ◌++◌, ℕ, ◌+◌, ◌*◌, replicate}
-use Rattle.sequential.specs.Sequential.{Run, runAfter, ends}
+use Rattle.sequential.specs.Sequential.{Run, run_after, ends}
 use Rattle.sequential.specs.Play.{without}
 
 -- four numbers: of an instruction, or of a step in the run's record
@@ -42,24 +42,24 @@ bytes a b c d = a + b * 256 + c * 65536 + d * 16777216
 abbrev pub mixed : List ℕ
 mixed = A 1 0 511 ++ B 1 0 3 ++ H 1 0 0 ++ B 0 0 1 ++ L 2 0 0
 
-abbrev pub mixedRecord : List ℕ
-mixedRecord =
+abbrev pub mixed_record : List ℕ
+mixed_record =
     four 0 1 1 511 ++ four 1 5 3 (bytes 0 0 0 255) ++ four 2 6 0 (bytes 255 1 0 255) ++ four 3 5 1 (bytes 255 0 0 255)
     ++ four 4 3 2 (bytes 255 0 0 255)
 
-abbrev pub mixedCommits : List ℕ
-mixedCommits =
+abbrev pub mixed_commits : List ℕ
+mixed_commits =
     five 0 1 1 511 0 ++ five 1 5 3 (bytes 0 0 0 255) 0 ++ five 2 6 0 (bytes 255 1 0 255) 0 ++ five 3 5 1 (bytes 255 0 0 255) 0
     ++ five 4 3 2 (bytes 255 0 0 255) 0
 
 abbrev pub laid : List ℕ
 laid = A 1 0 511 ++ S 1 0 0 ++ B 0 0 0 ++ L 2 0 0
 
-abbrev pub laidRecord : List ℕ
-laidRecord = four 0 1 1 511 ++ four 1 4 0 (bytes 255 1 0 0) ++ four 2 5 0 (bytes 0 1 0 0) ++ four 3 3 2 (bytes 0 1 0 0)
+abbrev pub laid_record : List ℕ
+laid_record = four 0 1 1 511 ++ four 1 4 0 (bytes 255 1 0 0) ++ four 2 5 0 (bytes 0 1 0 0) ++ four 3 3 2 (bytes 0 1 0 0)
 
-abbrev pub laidCommits : List ℕ
-laidCommits = five 0 1 1 511 0 ++ five 1 4 0 (bytes 255 1 0 0) 0 ++ five 2 5 0 (bytes 0 1 0 0) 0 ++ five 3 3 2 (bytes 0 1 0 0) 0
+abbrev pub laid_commits : List ℕ
+laid_commits = five 0 1 1 511 0 ++ five 1 4 0 (bytes 255 1 0 0) 0 ++ five 2 5 0 (bytes 0 1 0 0) 0 ++ five 3 3 2 (bytes 0 1 0 0) 0
 
 -- every row comes out as it says
 abbrev pub AllCome : {E O : Type 0} → (E → O) → (E → O) → List E → Type 0
@@ -80,9 +80,9 @@ pub record RunExample : Type 0 where
   pub outcome : RunOutcome
 
 -- what a row's run comes to
-abbrev pub ranTo : RunExample → RunOutcome
-ranTo e =
-    let r = runAfter e.program e.memory e.steps in
+abbrev pub ran_to : RunExample → RunOutcome
+ran_to e =
+    let r = run_after e.program e.memory e.steps in
     record { run = r; ended = ends e.program r }
 
 -- program, memory lent and steps; then registers, memory, index, record and whether the run has ended
@@ -117,11 +117,11 @@ stored code b memory w =
     ran (A 1 0 value ++ four code 1 0 b) (first ∷ second ∷ []) 2 (0 ∷ value ∷ 0 ∷ 0 ∷ 0 ∷ 0 ∷ 0 ∷ 0 ∷ []) memory 2
     (four 0 1 1 value ++ four 1 code b w) true
 
-abbrev pub inFirst : ℕ → ℕ → ℕ → RunExample
-inFirst code b w = stored code b (w ∷ second ∷ []) w
+abbrev pub in_first : ℕ → ℕ → ℕ → RunExample
+in_first code b w = stored code b (w ∷ second ∷ []) w
 
-abbrev pub inSecond : ℕ → ℕ → ℕ → RunExample
-inSecond code b w = stored code b (first ∷ w ∷ []) w
+abbrev pub in_second : ℕ → ℕ → ℕ → RunExample
+in_second code b w = stored code b (first ∷ w ∷ []) w
 
 -- the same is a fault: it has no effect, and the run ends before it
 abbrev pub faulting : ℕ → ℕ → RunExample
@@ -129,8 +129,8 @@ faulting code b =
     ran (A 1 0 value ++ four code 1 0 b ++ A 2 0 9) (first ∷ second ∷ []) 3 (0 ∷ value ∷ 0 ∷ 0 ∷ 0 ∷ 0 ∷ 0 ∷ 0 ∷ [])
     (first ∷ second ∷ []) 1 (four 0 1 1 value) true
 
-unfoldable pub runTable : List RunExample
-runTable =
+unfoldable pub run_table : List RunExample
+run_table =
     -- Eight registers at 0, the memory as lent, index 0 and an empty record; an instruction is left.
     ran (A 1 0 5) words 0 (0 ∷ 0 ∷ 0 ∷ 0 ∷ 0 ∷ 0 ∷ 0 ∷ 0 ∷ []) words 0 [] false
     -- An empty program has ended at once, and no step moves it.
@@ -165,12 +165,12 @@ runTable =
     ∷ ran (A 1 0 4294967295 ++ L 2 1 2 ++ S 2 1 1) words 3 (0 ∷ 4294967295 ∷ 5 ∷ 0 ∷ 0 ∷ 0 ∷ 0 ∷ 0 ∷ []) (5 ∷ 5 ∷ 6 ∷ []) 3
     (four 0 1 1 4294967295 ++ four 1 3 2 5 ++ four 2 4 0 5) true
     -- B: the low byte of register d, at each byte of a word; the record has the byte number and the whole word.
-    ∷ inFirst 5 0 (bytes 1 11 12 13) ∷ inFirst 5 1 (bytes 10 1 12 13) ∷ inFirst 5 2 (bytes 10 11 1 13)
-    ∷ inFirst 5 3 (bytes 10 11 12 1) ∷ inSecond 5 4 (bytes 1 21 22 23)
+    ∷ in_first 5 0 (bytes 1 11 12 13) ∷ in_first 5 1 (bytes 10 1 12 13) ∷ in_first 5 2 (bytes 10 11 1 13)
+    ∷ in_first 5 3 (bytes 10 11 12 1) ∷ in_second 5 4 (bytes 1 21 22 23)
     -- H: its low 16 bits, the lower ones at the lower byte number.
-    ∷ inFirst 6 0 (bytes 1 2 12 13) ∷ inFirst 6 2 (bytes 10 11 1 2) ∷ inSecond 6 4 (bytes 1 2 22 23)
+    ∷ in_first 6 0 (bytes 1 2 12 13) ∷ in_first 6 2 (bytes 10 11 1 2) ∷ in_second 6 4 (bytes 1 2 22 23)
     -- Byte 4W - 1 is of the last word, and so is the half word before 4W. A fault is at 4W and past it.
-    ∷ inSecond 5 7 (bytes 20 21 22 1) ∷ inSecond 6 6 (bytes 20 21 1 2)
+    ∷ in_second 5 7 (bytes 20 21 22 1) ∷ in_second 6 6 (bytes 20 21 1 2)
     ∷ faulting 5 8 ∷ faulting 6 8 ∷ faulting 5 4294967295 ∷ faulting 6 4294967294
     -- An H at an odd byte number is a fault, in the memory and past it.
     ∷ faulting 6 1 ∷ faulting 6 3 ∷ faulting 6 5 ∷ faulting 6 7 ∷ faulting 6 9
@@ -186,8 +186,8 @@ runTable =
     ∷ ran (A 1 0 3 ++ H 1 1 2) (first ∷ second ∷ []) 2 (0 ∷ 3 ∷ 0 ∷ 0 ∷ 0 ∷ 0 ∷ 0 ∷ 0 ∷ []) (first ∷ second ∷ []) 1
     (four 0 1 1 3) true
     -- Parts of one word, one after the other, and a word with a part stored into it.
-    ∷ ran mixed (0 ∷ []) 5 (0 ∷ 511 ∷ bytes 255 0 0 255 ∷ 0 ∷ 0 ∷ 0 ∷ 0 ∷ 0 ∷ []) (bytes 255 0 0 255 ∷ []) 5 mixedRecord true
-    ∷ ran laid (0 ∷ []) 4 (0 ∷ 511 ∷ bytes 0 1 0 0 ∷ 0 ∷ 0 ∷ 0 ∷ 0 ∷ 0 ∷ []) (bytes 0 1 0 0 ∷ []) 4 laidRecord true
+    ∷ ran mixed (0 ∷ []) 5 (0 ∷ 511 ∷ bytes 255 0 0 255 ∷ 0 ∷ 0 ∷ 0 ∷ 0 ∷ 0 ∷ []) (bytes 255 0 0 255 ∷ []) 5 mixed_record true
+    ∷ ran laid (0 ∷ []) 4 (0 ∷ 511 ∷ bytes 0 1 0 0 ∷ 0 ∷ 0 ∷ 0 ∷ 0 ∷ 0 ∷ []) (bytes 0 1 0 0 ∷ []) 4 laid_record true
     ∷ ran (B 0 0 3 ++ L 1 0 0 ++ B 0 0 4) (replicate 8 0) 3 (replicate 8 0) (replicate 8 0) 3
     (four 0 5 3 0 ++ four 1 3 1 0 ++ four 2 5 4 0) true
     ∷ []
@@ -205,8 +205,8 @@ left_of e = without e.numbers
 abbrev pub leaves : List ℕ → List ℕ → RecordExample
 leaves numbers rest = record { numbers = numbers; outcome = rest }
 
-unfoldable pub recordTable : List RecordExample
-recordTable =
+unfoldable pub record_table : List RecordExample
+record_table =
     -- Of no commit, of one and of two: each fifth number goes, the others stay in order.
     leaves [] [] ∷ leaves (five 11 12 13 14 15) (four 11 12 13 14)
     ∷ leaves (five 11 12 13 14 15 ++ five 21 22 23 24 25) (four 11 12 13 14 ++ four 21 22 23 24)
@@ -214,4 +214,4 @@ recordTable =
     ∷ leaves (11 ∷ []) [] ∷ leaves (11 ∷ 12 ∷ []) [] ∷ leaves (11 ∷ 12 ∷ 13 ∷ []) [] ∷ leaves (four 11 12 13 14) []
     ∷ leaves (five 11 12 13 14 15 ++ four 21 22 23 24) (four 11 12 13 14)
     -- The records of the two programs are those of their runs.
-    ∷ leaves mixedCommits mixedRecord ∷ leaves laidCommits laidRecord ∷ []
+    ∷ leaves mixed_commits mixed_record ∷ leaves laid_commits laid_record ∷ []

@@ -5,7 +5,7 @@
 use Rattle.std.specs.Prelude.{Bool, true, false, cond, not, ◌&&◌, List, [], ◌∷◌, ◌++◌, ℕ, ◌+◌, ◌*◌, eqb, length, take}
 use Rattle.engine.specs.Contract.{refused, named, executed, done, committed, finished}
 use Rattle.machine_model.specs.Window.{entry_at, pending}
-use Rattle.machine_model.specs.Over.{Engine, Plain, Call, issue, execute, commit, Answer, perCommit, respond}
+use Rattle.machine_model.specs.Over.{Engine, Plain, Call, issue, execute, commit, Answer, per_commit, respond}
 
 -- what an answer adds to the record, with the list as the call left it
 abbrev pub recorded : Answer → List ℕ → List ℕ
@@ -14,7 +14,7 @@ recorded (named p) list = []
 recorded (executed v d s) list = []
 recorded done list = []
 recorded (committed i c r v d) list = i ∷ c ∷ r ∷ v ∷ d ∷ []
-recorded (finished n) list = take (n * perCommit) list
+recorded (finished n) list = take (n * per_commit) list
 
 -- the record without its distances: of each commit's five numbers the first four
 unfoldable pub without : List ℕ → List ℕ
@@ -26,13 +26,13 @@ without (i ∷ []) = []
 without [] = []
 
 -- how many commits an answer tells of
-abbrev pub commitsIn : Answer → ℕ
-commitsIn (refused k) = 0
-commitsIn (named p) = 0
-commitsIn (executed v d s) = 0
-commitsIn done = 0
-commitsIn (committed i c r v d) = 1
-commitsIn (finished n) = n
+abbrev pub commits_in : Answer → ℕ
+commits_in (refused k) = 0
+commits_in (named p) = 0
+commits_in (executed v d s) = 0
+commits_in done = 0
+commits_in (committed i c r v d) = 1
+commits_in (finished n) = n
 
 -- where a list of calls got to: state and memory, the record and the number of commits
 pub record Played (S : Type 0) : Type 0 where
@@ -60,9 +60,9 @@ is_refused done = false
 is_refused (committed i c r v d) = false
 is_refused (finished n) = false
 
-unfoldable pub noneRefused : List Answer → Bool
-noneRefused [] = true
-noneRefused (a ∷ answers) = not (is_refused a) && noneRefused answers
+unfoldable pub none_refused : List Answer → Bool
+none_refused [] = true
+none_refused (a ∷ answers) = not (is_refused a) && none_refused answers
 
 module _ {O S : Type 0} (E : Engine O S) (program : List ℕ) where
   -- one call more
@@ -73,7 +73,7 @@ module _ {O S : Type 0} (E : Engine O S) (program : List ℕ) where
         state = r.state;
         memory = r.memory;
         record' = x.record' ++ recorded r.answer r.list;
-        commits = x.commits + commitsIn r.answer;
+        commits = x.commits + commits_in r.answer;
       }
 
   -- the calls one after the other
@@ -82,10 +82,10 @@ module _ {O S : Type 0} (E : Engine O S) (program : List ℕ) where
   play x (c ∷ cs) = play (plays x c) cs
 
   -- what the calls answer, one after the other
-  unfoldable pub answersOf : Played S → List Call → List Answer
-  answersOf x [] = []
-  answersOf x (c ∷ cs) = (respond E program c x.state x.memory).answer ∷ answersOf (plays x c) cs
+  unfoldable pub answers_of : Played S → List Call → List Answer
+  answers_of x [] = []
+  answers_of x (c ∷ cs) = (respond E program c x.state x.memory).answer ∷ answers_of (plays x c) cs
 
   -- none of these calls, one after the other, is refused
-  abbrev pub allAccepted : Played S → List Call → Bool
-  allAccepted x calls = noneRefused (answersOf x calls)
+  abbrev pub all_accepted : Played S → List Call → Bool
+  all_accepted x calls = none_refused (answers_of x calls)

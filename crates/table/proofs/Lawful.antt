@@ -18,15 +18,15 @@ use borrow.Author.Tests.{ltb-true, leb-true, eqb-true, eqb-false, not-true, lt-l
 use Rattle.marks.specs.Stages.{has}
 use Rattle.marks.specs.Circle.{firsts}
 use Rattle.marks.specs.Counting.{every}
-use Rattle.marks.proofs.Sets.{has-or, has-and, has-zero, member, inside, inside-from, apart, apart_from}
-use Rattle.marks.proofs.Turns.{firsts-has, firsts-out}
-use Rattle.marks.proofs.Counts.{every-at, every-from}
+use Rattle.marks.proofs.Sets.{has_or, has_and, has_zero, member, inside, inside_from, apart, apart_from}
+use Rattle.marks.proofs.Turns.{firsts_has, firsts_out}
+use Rattle.marks.proofs.Counts.{every_at, every_from}
 use Rattle.table.specs.declared.Table.{Table}
-use Rattle.table.specs.Limits.{rowsMost, rowsIn, sizesFit}
+use Rattle.table.specs.Limits.{rows_most, rows_in, sizes_fit}
 use Rattle.table.specs.Bank.{bank}
 use Rattle.table.specs.View.{address, mark}
 use Rattle.table.specs.Rules.{Live, Rules}
-use Rattle.table.specs.computed.Check.{marksOf, marksBelow, otherAddress, rowFits, usable, lawfulBy, lawful}
+use Rattle.table.specs.Computed.Check.{marks_of, marks_below, other_address, row_fits, usable, lawful_by, lawful}
 
 -- what a test of several parts says of each
 four : (a b c d : Bool) → (a && b && c && d) ≡ true → (a ≡ true) × (b ≡ true) × (c ≡ true) × (d ≡ true)
@@ -42,9 +42,9 @@ five a b c d e h =
     (v.2, v.3, w.1, w.2, w.3)
 
 -- a choice whose first part fails is its second part
-or-second : (a b : Bool) → a ≡ false → (a || b) ≡ true → b ≡ true
-or-second true b e h = absurd (true≢false e)
-or-second false b e h = h
+or_second : (a b : Bool) → a ≡ false → (a || b) ≡ true → b ≡ true
+or_second true b e h = absurd (true≢false e)
+or_second false b e h = h
 
 or_from : (a b : Bool) → (a ≡ false → b ≡ true) → (a || b) ≡ true
 or_from true b h = refl
@@ -52,208 +52,208 @@ or_from false b h = h refl
 
 -- the stages taken by the rows below k are those that bear a mark in one of them
 module _ (loads stores : List ℕ) where
-  pub taken-has : (k r s : ℕ) → r < k → has (marksOf loads stores r) s ≡ true → has (marksBelow loads stores k) s ≡ true
-  unfolding marksBelow
-  taken-has zero r s l h = absurd (not-suc-le-zero l)
-  taken-has (suc k) r s l h =
-      has-or (marksBelow loads stores k) (marksOf loads stores k) s
+  pub taken_has : (k r s : ℕ) → r < k → has (marks_of loads stores r) s ≡ true → has (marks_below loads stores k) s ≡ true
+  unfolding marks_below
+  taken_has zero r s l h = absurd (not-suc-le-zero l)
+  taken_has (suc k) r s l h =
+      has_or (marks_below loads stores k) (marks_of loads stores k) s
       ∙ ⊎_elim
       (λ (q : r ≡ k).
-      ap (λ (t : Bool). has (marksBelow loads stores k) s || t)
-      (ap (λ (x : ℕ). has (marksOf loads stores x) s) (sym q) ∙ h) ∙ or-true (has (marksBelow loads stores k) s))
-      (λ (q : r < k). ap (λ (t : Bool). t || has (marksOf loads stores k) s) (taken-has k r s q h))
+      ap (λ (t : Bool). has (marks_below loads stores k) s || t)
+      (ap (λ (x : ℕ). has (marks_of loads stores x) s) (sym q) ∙ h) ∙ or-true (has (marks_below loads stores k) s))
+      (λ (q : r < k). ap (λ (t : Bool). t || has (marks_of loads stores k) s) (taken_has k r s q h))
       (eq-or-lt_of_le (le_of_suc-le-suc l))
 
-  pub taken-from : (k s : ℕ) → has (marksBelow loads stores k) s ≡ true
-      → (r : ℕ) × (r < k) × (has (marksOf loads stores r) s ≡ true)
-  unfolding marksBelow
-  taken-from zero s h = absurd (true≢false (sym h ∙ has-zero s))
-  taken-from (suc k) s h =
-      go (has (marksBelow loads stores k) s) refl (sym (has-or (marksBelow loads stores k) (marksOf loads stores k) s) ∙ h)
-      (taken-from k s)
+  pub taken_from : (k s : ℕ) → has (marks_below loads stores k) s ≡ true
+      → (r : ℕ) × (r < k) × (has (marks_of loads stores r) s ≡ true)
+  unfolding marks_below
+  taken_from zero s h = absurd (true≢false (sym h ∙ has_zero s))
+  taken_from (suc k) s h =
+      go (has (marks_below loads stores k) s) refl (sym (has_or (marks_below loads stores k) (marks_of loads stores k) s) ∙ h)
+      (taken_from k s)
     where
-      go : (t : Bool) → has (marksBelow loads stores k) s ≡ t → (t || has (marksOf loads stores k) s) ≡ true
-          → (has (marksBelow loads stores k) s ≡ true → (r : ℕ) × (r < k) × (has (marksOf loads stores r) s ≡ true))
-          → (r : ℕ) × (r < suc k) × (has (marksOf loads stores r) s ≡ true)
+      go : (t : Bool) → has (marks_below loads stores k) s ≡ t → (t || has (marks_of loads stores k) s) ≡ true
+          → (has (marks_below loads stores k) s ≡ true → (r : ℕ) × (r < k) × (has (marks_of loads stores r) s ≡ true))
+          → (r : ℕ) × (r < suc k) × (has (marks_of loads stores r) s ≡ true)
       go true e o below = let w = below e in (w.0, omega arith, w.2)
       go false e o below = (k, omega arith, o)
 
 -- the words of specs/Check.antt for a table: a row's marks, the stages that may bear one, the test of a row, and the
 -- test of the rows before r in its bank
 abbrev marks : Table → ℕ → ℕ
-marks t r = marksOf t.loads t.stores r
+marks t r = marks_of t.loads t.stores r
 
-abbrev usableOf : Table → ℕ
-usableOf t = usable t.oldest t.stages t.live t.executed
+abbrev usable_of : Table → ℕ
+usable_of t = usable t.oldest t.stages t.live t.executed
 
 abbrev Fits : Table → ℕ → Type 0
-Fits t r = rowFits t.banks t.rows (usableOf t) t.addresses t.loads t.stores r ≡ true
+Fits t r = row_fits t.banks t.rows (usable_of t) t.addresses t.loads t.stores r ≡ true
 
 abbrev alone : Table → ℕ → ℕ → Bool
-alone t r = otherAddress t.addresses t.loads t.stores (r / rowsMost) (address t r)
+alone t r = other_address t.addresses t.loads t.stores (r / rows_most) (address t r)
 
 -- what the test says of a row that is not free
 record Row (t : Table) (r : ℕ) : Type 0 where
-  usable : bit_and (marks t r) (usableOf t) ≡ marks t r
-  fresh : bit_and (marks t r) (marksBelow t.loads t.stores r) ≡ 0
-  in-bank : r / rowsMost ≡ bank t.banks (address t r)
-  in_rows : r % rowsMost < t.rows
-  others : (i : ℕ) → i < r % rowsMost → (marks t (r / rowsMost * rowsMost + i) ≡ 0 → ⊥)
-      → address t (r / rowsMost * rowsMost + i) ≡ address t r → ⊥
+  usable : bit_and (marks t r) (usable_of t) ≡ marks t r
+  fresh : bit_and (marks t r) (marks_below t.loads t.stores r) ≡ 0
+  in_bank : r / rows_most ≡ bank t.banks (address t r)
+  in_rows : r % rows_most < t.rows
+  others : (i : ℕ) → i < r % rows_most → (marks t (r / rows_most * rows_most + i) ≡ 0 → ⊥)
+      → address t (r / rows_most * rows_most + i) ≡ address t r → ⊥
 
 module _ (t : Table) where
-  fits-row : (r : ℕ) → Fits t r → (marks t r ≡ 0 → ⊥) → Row t r
-  unfolding rowFits
-  fits-row r h used =
+  fits_row : (r : ℕ) → Fits t r → (marks t r ≡ 0 → ⊥) → Row t r
+  unfolding row_fits
+  fits_row r h used =
       let w =
-      five (eqb (bit_and (marks t r) (usableOf t)) (marks t r))
-      (eqb (bit_and (marks t r) (marksBelow t.loads t.stores r)) 0)
-      (eqb (r / rowsMost) (bank t.banks (address t r)))
-      (ltb (r % rowsMost) t.rows)
-      (every (alone t r) (r % rowsMost))
-      (or-second (eqb (marks t r) 0) _ (ne_eqb (marks t r) 0 used) h) in
+      five (eqb (bit_and (marks t r) (usable_of t)) (marks t r))
+      (eqb (bit_and (marks t r) (marks_below t.loads t.stores r)) 0)
+      (eqb (r / rows_most) (bank t.banks (address t r)))
+      (ltb (r % rows_most) t.rows)
+      (every (alone t r) (r % rows_most))
+      (or_second (eqb (marks t r) 0) _ (ne_eqb (marks t r) 0 used) h) in
       record {
         usable = eqb-true _ _ w.0;
         fresh = eqb-true _ _ w.1;
-        in-bank = eqb-true _ _ w.2;
+        in_bank = eqb-true _ _ w.2;
         in_rows = ltb-true _ _ w.3;
         others = λ i l m e.
             eqb-false _ _
-            (not-true _ (or-second _ _ (ne_eqb _ 0 m) (every-at (alone t r) (r % rowsMost) w.4 i l))) e;
+            (not-true _ (or_second _ _ (ne_eqb _ 0 m) (every_at (alone t r) (r % rows_most) w.4 i l))) e;
       }
 
-  row_fits : (r : ℕ) → ((marks t r ≡ 0 → ⊥) → Row t r) → Fits t r
-  unfolding rowFits
-  row_fits r h =
+  row_fits_lem : (r : ℕ) → ((marks t r ≡ 0 → ⊥) → Row t r) → Fits t r
+  unfolding row_fits
+  row_fits_lem r h =
       or_from (eqb (marks t r) 0) _
       (λ e.
       let w = h (eqb-false (marks t r) 0 e) in
       ap₂ ◌&&◌
       (ap₂ ◌&&◌
       (ap₂ ◌&&◌ (ap₂ ◌&&◌ (eq-eqb _ _ w.usable) (eq-eqb _ _ w.fresh))
-      (eq-eqb _ _ w.in-bank))
+      (eq-eqb _ _ w.in_bank))
       (lt-ltb _ _ w.in_rows))
-      (every-from (alone t r) (r % rowsMost)
+      (every_from (alone t r) (r % rows_most)
       (λ i l.
-      let q : ℕ = r / rowsMost * rowsMost + i in
+      let q : ℕ = r / rows_most * rows_most + i in
       or_from (eqb (marks t q) 0) _
       (λ m. ap not (ne_eqb _ _ (w.others i l (eqb-false (marks t q) 0 m)))))))
 
   -- a mark is a member of the row's word, and a row with a mark is not free
   marked : (r s : ℕ) → mark t r s ≡ true → has (marks t r) s ≡ true
-  marked r s h = has-or (get_or t.loads r 0) (get_or t.stores r 0) s ∙ h
+  marked r s h = has_or (get_or t.loads r 0) (get_or t.stores r 0) s ∙ h
 
   marked_from : (r s : ℕ) → has (marks t r) s ≡ true → mark t r s ≡ true
-  marked_from r s h = sym (has-or (get_or t.loads r 0) (get_or t.stores r 0) s) ∙ h
+  marked_from r s h = sym (has_or (get_or t.loads r 0) (get_or t.stores r 0) s) ∙ h
 
   not_free : (r s : ℕ) → mark t r s ≡ true → marks t r ≡ 0 → ⊥
-  not_free r s h e = true≢false (sym (marked r s h) ∙ ap (λ (w : ℕ). has w s) e ∙ has-zero s)
+  not_free r s h e = true≢false (sym (marked r s h) ∙ ap (λ (w : ℕ). has w s) e ∙ has_zero s)
 
   -- the sizes, the window and each row pass their tests
   parts : lawful t ≡ true
-      → (sizesFit t.banks t.rows t.stages t.words ≡ true)
-      × (t.live ≤ t.stages) × (t.oldest < t.stages) × ((r : ℕ) → r < rowsIn t.banks → Fits t r)
-  unfolding lawfulBy
+      → (sizes_fit t.banks t.rows t.stages t.words ≡ true)
+      × (t.live ≤ t.stages) × (t.oldest < t.stages) × ((r : ℕ) → r < rows_in t.banks → Fits t r)
+  unfolding lawful_by
   parts h =
       let w =
-      four (sizesFit t.banks t.rows t.stages t.words) (leb t.live t.stages)
+      four (sizes_fit t.banks t.rows t.stages t.words) (leb t.live t.stages)
       (ltb t.oldest t.stages)
-      (every (rowFits t.banks t.rows (usableOf t) t.addresses t.loads t.stores) (rowsIn t.banks)) h in
-      (w.0, leb-true _ _ w.1, ltb-true _ _ w.2, every-at _ (rowsIn t.banks) w.3)
+      (every (row_fits t.banks t.rows (usable_of t) t.addresses t.loads t.stores) (rows_in t.banks)) h in
+      (w.0, leb-true _ _ w.1, ltb-true _ _ w.2, every_at _ (rows_in t.banks) w.3)
 
   -- what the words of every row with a mark say of two rows
-  module _ (rows : (r s : ℕ) → r < rowsIn t.banks → mark t r s ≡ true → Row t r) where
+  module _ (rows : (r s : ℕ) → r < rows_in t.banks → mark t r s ≡ true → Row t r) where
     -- the later of two rows bears no mark of the earlier's stages
-    fresh-mark : (r q s : ℕ) → q < rowsIn t.banks → r < q → mark t r s ≡ true → mark t q s ≡ true → ⊥
-    fresh-mark r q s l o m n =
-        apart (marks t q) (marksBelow t.loads t.stores q) (rows q s l n).fresh s (marked q s n)
-        (taken-has t.loads t.stores q r s o (marked r s m))
+    fresh_mark : (r q s : ℕ) → q < rows_in t.banks → r < q → mark t r s ≡ true → mark t q s ≡ true → ⊥
+    fresh_mark r q s l o m n =
+        apart (marks t q) (marks_below t.loads t.stores q) (rows q s l n).fresh s (marked q s n)
+        (taken_has t.loads t.stores q r s o (marked r s m))
 
     -- the later of two rows has not the earlier's address
-    fresh-address : (r q s u : ℕ) → q < rowsIn t.banks → r < q → mark t r s ≡ true → mark t q u ≡ true
+    fresh_address : (r q s u : ℕ) → q < rows_in t.banks → r < q → mark t r s ≡ true → mark t q u ≡ true
         → address t r ≡ address t q → ⊥
-    fresh-address r q s u l o m n e =
+    fresh_address r q s u l o m n e =
         let x = rows r s (omega arith) m in
         let y = rows q u l n in
-        let z : r / rowsMost ≡ q / rowsMost = x.in-bank ∙ ap (bank t.banks) e ∙ sym y.in-bank in
-        let p : q / rowsMost * rowsMost + r % rowsMost ≡ r = omega arith in
-        y.others (r % rowsMost) (omega arith) (λ f. not_free r s m (ap (marks t) (sym p) ∙ f)) (ap (address t) p ∙ e)
+        let z : r / rows_most ≡ q / rows_most = x.in_bank ∙ ap (bank t.banks) e ∙ sym y.in_bank in
+        let p : q / rows_most * rows_most + r % rows_most ≡ r = omega arith in
+        y.others (r % rows_most) (omega arith) (λ f. not_free r s m (ap (marks t) (sym p) ∙ f)) (ap (address t) p ∙ e)
 
   -- the usable stages are those that are live and have executed
   module _ (room : t.live ≤ t.stages) (start : t.oldest < t.stages) where
-    usable-live : (s : ℕ) → has (usableOf t) s ≡ true → Live t s × (has t.executed s ≡ true)
-    usable-live s h =
+    usable_live : (s : ℕ) → has (usable_of t) s ≡ true → Live t s × (has t.executed s ≡ true)
+    usable_live s h =
         let w =
         four true true (has t.executed s) (has (firsts t.oldest t.stages t.live) s)
-        (sym (has-and t.executed (firsts t.oldest t.stages t.live) s) ∙ h) in
+        (sym (has_and t.executed (firsts t.oldest t.stages t.live) s) ∙ h) in
         let out : t.stages ≤ s → ⊥ = λ o.
-        true≢false (sym w.3 ∙ firsts-out t.oldest t.stages start t.live s room o) in
+        true≢false (sym w.3 ∙ firsts_out t.oldest t.stages start t.live s room o) in
         let low : s < t.stages = omega arith in (
           record {
             stage = low;
-            position = ltb-true _ _ (sym (firsts-has t.oldest t.stages start t.live s room low) ∙ w.3);
+            position = ltb-true _ _ (sym (firsts_has t.oldest t.stages start t.live s room low) ∙ w.3);
           },
           w.2,
         )
 
-    live-usable : (s : ℕ) → Live t s → has t.executed s ≡ true → has (usableOf t) s ≡ true
-    live-usable s l e =
-        has-and t.executed (firsts t.oldest t.stages t.live) s
+    live_usable : (s : ℕ) → Live t s → has t.executed s ≡ true → has (usable_of t) s ≡ true
+    live_usable s l e =
+        has_and t.executed (firsts t.oldest t.stages t.live) s
         ∙ ap₂ ◌&&◌ e
-        (firsts-has t.oldest t.stages start t.live s room l.stage ∙ lt-ltb _ _ l.position)
+        (firsts_has t.oldest t.stages start t.live s room l.stage ∙ lt-ltb _ _ l.position)
 
-pub lawful-rules : (t : Table) → lawful t ≡ true → Rules t
-lawful-rules t h =
+pub lawful_rules : (t : Table) → lawful t ≡ true → Rules t
+lawful_rules t h =
     let w = parts t h in
     record {
       sizes = w.0;
-      live-bounded = w.1;
+      live_bounded = w.1;
       start = w.2;
-      live = λ r s l m. (usable-live t w.1 w.2 s (on-usable r s l m)).0;
-      executed = λ r s l m. (usable-live t w.1 w.2 s (on-usable r s l m)).1;
-      one-row = λ r q s k l m n.
-          let a : r < q → ⊥ = λ o. fresh-mark t rows r q s l o m n in
-          let b : q < r → ⊥ = λ o. fresh-mark t rows q r s k o n m in
+      live = λ r s l m. (usable_live t w.1 w.2 s (on_usable r s l m)).0;
+      executed = λ r s l m. (usable_live t w.1 w.2 s (on_usable r s l m)).1;
+      one_row = λ r q s k l m n.
+          let a : r < q → ⊥ = λ o. fresh_mark t rows r q s l o m n in
+          let b : q < r → ⊥ = λ o. fresh_mark t rows q r s k o n m in
           omega arith;
       one_address = λ r q s u k l m n e.
-          let a : r < q → ⊥ = λ o. fresh-address t rows r q s u l o m n e in
-          let b : q < r → ⊥ = λ o. fresh-address t rows q r u s k o n m (sym e) in
+          let a : r < q → ⊥ = λ o. fresh_address t rows r q s u l o m n e in
+          let b : q < r → ⊥ = λ o. fresh_address t rows q r u s k o n m (sym e) in
           omega arith;
-      in-bank = λ r s l m. (rows r s l m).in-bank;
+      in_bank = λ r s l m. (rows r s l m).in_bank;
       in_rows = λ r s l m. (rows r s l m).in_rows;
     }
   where
-    rows : (r s : ℕ) → r < rowsIn t.banks → mark t r s ≡ true → Row t r
-    rows r s l m = fits-row t r ((parts t h).3 r l) (not_free t r s m)
+    rows : (r s : ℕ) → r < rows_in t.banks → mark t r s ≡ true → Row t r
+    rows r s l m = fits_row t r ((parts t h).3 r l) (not_free t r s m)
 
-    on-usable : (r s : ℕ) → r < rowsIn t.banks → mark t r s ≡ true → has (usableOf t) s ≡ true
-    on-usable r s l m = inside (marks t r) (usableOf t) (rows r s l m).usable s (marked t r s m)
+    on_usable : (r s : ℕ) → r < rows_in t.banks → mark t r s ≡ true → has (usable_of t) s ≡ true
+    on_usable r s l m = inside (marks t r) (usable_of t) (rows r s l m).usable s (marked t r s m)
 
-pub rules-lawful : (t : Table) → Rules t → lawful t ≡ true
-unfolding lawfulBy
-rules-lawful t w =
-    ap₂ ◌&&◌ (ap₂ ◌&&◌ (ap₂ ◌&&◌ w.sizes (le-leb _ _ w.live-bounded)) (lt-ltb _ _ w.start))
-    (every-from _ (rowsIn t.banks) (λ r l. row_fits t r (λ used. row r l (member (marks t r) used))))
+pub rules_lawful : (t : Table) → Rules t → lawful t ≡ true
+unfolding lawful_by
+rules_lawful t w =
+    ap₂ ◌&&◌ (ap₂ ◌&&◌ (ap₂ ◌&&◌ w.sizes (le-leb _ _ w.live_bounded)) (lt-ltb _ _ w.start))
+    (every_from _ (rows_in t.banks) (λ r l. row_fits_lem t r (λ used. row r l (member (marks t r) used))))
   where
-    row : (r : ℕ) → r < rowsIn t.banks → (s : ℕ) × (has (marks t r) s ≡ true) → Row t r
+    row : (r : ℕ) → r < rows_in t.banks → (s : ℕ) × (has (marks t r) s ≡ true) → Row t r
     row r l (s, m) =
         record {
           usable =
-              inside-from (marks t r) (usableOf t)
+              inside_from (marks t r) (usable_of t)
               (λ k a.
               let m = marked_from t r k a in
-              live-usable t w.live-bounded w.start k (w.live r k l m) (w.executed r k l m));
+              live_usable t w.live_bounded w.start k (w.live r k l m) (w.executed r k l m));
           fresh =
-              apart_from (marks t r) (marksBelow t.loads t.stores r)
+              apart_from (marks t r) (marks_below t.loads t.stores r)
               (λ k a b.
-              let x = taken-from t.loads t.stores r k b in
+              let x = taken_from t.loads t.stores r k b in
               let e : r ≡ x.0 =
-              w.one-row r x.0 k l (omega arith) (marked_from t r k a) (marked_from t x.0 k x.2) in
+              w.one_row r x.0 k l (omega arith) (marked_from t r k a) (marked_from t x.0 k x.2) in
               omega arith);
-          in-bank = w.in-bank r s l (marked_from t r s m);
+          in_bank = w.in_bank r s l (marked_from t r s m);
           in_rows = w.in_rows r s l (marked_from t r s m);
           others = λ i o used e.
-              let q : ℕ = r / rowsMost * rowsMost + i in
+              let q : ℕ = r / rows_most * rows_most + i in
               let x = member (marks t q) used in
               let same : q ≡ r =
               w.one_address q r x.0 s (omega arith) l (marked_from t q x.0 x.1) (marked_from t r s m) e in
@@ -261,5 +261,5 @@ rules-lawful t w =
         }
 
 -- for a caller whose test fails
-pub lawful-broken : (t : Table) → lawful t ≡ false → Rules t → ⊥
-lawful-broken t e w = true≢false (sym (rules-lawful t w) ∙ e)
+pub lawful_broken : (t : Table) → lawful t ≡ false → Rules t → ⊥
+lawful_broken t e w = true≢false (sym (rules_lawful t w) ∙ e)

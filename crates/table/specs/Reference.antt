@@ -38,8 +38,8 @@ pub data Ref : Type 0 where
 abbrev pub number_of : Ref → ℕ
 number_of (ref n f) = n
 
-abbrev pub fateOf : Ref → Fate
-fateOf (ref n f) = f
+abbrev pub fate_of : Ref → Fate
+fate_of (ref n f) = f
 
 -- what stands where no reference is
 abbrev pub blank : Ref

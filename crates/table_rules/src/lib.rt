@@ -4,10 +4,10 @@
 // table for it.
 ghost use Rattle.std.specs.Prelude.{◌≡◌, ◌+◌, ◌*◌, ◌≤◌, ◌<◌, length, drop};
 ghost use Rattle.marks.specs.Counting.{every};
-ghost use Rattle.table.specs.Limits.{stagesMost, banksMost, rowsMost, slots, rowsIn, sizesFit};
+ghost use Rattle.table.specs.Limits.{stages_most, banks_most, rows_most, slots, rows_in, sizes_fit};
 ghost use Rattle.table.specs.Bank.{bank};
-ghost use Rattle.table.specs.computed.Naming.{named_by};
-ghost use Rattle.table.specs.computed.Check.{marksOf, marksBelow, otherAddress, rowFits, lawfulBy};
+ghost use Rattle.table.specs.Computed.Naming.{named_by};
+ghost use Rattle.table.specs.Computed.Check.{marks_of, marks_below, other_address, row_fits, lawful_by};
 
 use table::{BANKS, ROWS, SLOTS, STAGES, WORDS};
 
@@ -20,7 +20,7 @@ pub fn named<'a>(
     s: usize,
     number: u32,
 ) -> bool
-    requires { (oldest < stages) × (stages ≤ stagesMost) × (length numbers.now ≡ stagesMost) }
+    requires { (oldest < stages) × (stages ≤ stages_most) × (length numbers.now ≡ stages_most) }
     ensures { result ≡ named_by oldest stages live numbers.now s number }
 {
     if s >= stages {
@@ -48,7 +48,7 @@ pub fn bank_of(banks: usize, address: u32) -> usize
 
 // Whether the sizes lie in their limits.
 pub fn sizes_fit(banks: usize, rows: usize, stages: usize, words: usize) -> bool
-    ensures { result ≡ sizesFit banks rows stages words }
+    ensures { result ≡ sizes_fit banks rows stages words }
 {
     ((banks == 1) | (banks == 2) | (banks == 4) | (banks == BANKS))
         & ((1 <= rows) & (rows <= ROWS))
@@ -59,7 +59,7 @@ pub fn sizes_fit(banks: usize, rows: usize, stages: usize, words: usize) -> bool
 // The stages that bear a mark in row `r`.
 pub fn marks_in<'a>(loads: &'a [u32; SLOTS], stores: &'a [u32; SLOTS], r: usize) -> u32
     requires { (r < slots) × (length loads.now ≡ slots) × (length stores.now ≡ slots) }
-    ensures { result ≡ marksOf loads.now stores.now r }
+    ensures { result ≡ marks_of loads.now stores.now r }
 {
     loads[r] | stores[r]
 }
@@ -73,9 +73,9 @@ pub fn address_alone<'a>(
     a: u32,
     i: usize,
 ) -> bool
-    requires b_lt_banks_most { (b < banksMost) × (i < rowsMost) }
+    requires b_lt_banks_most { (b < banks_most) × (i < rows_most) }
     requires addresses_len { (length addresses.now ≡ slots) × (length loads.now ≡ slots) × (length stores.now ≡ slots) }
-    ensures { result ≡ every (otherAddress addresses.now loads.now stores.now b a) i }
+    ensures { result ≡ every (other_address addresses.now loads.now stores.now b a) i }
 {
     let mut alone = true;
     let mut k = 0;
@@ -98,9 +98,9 @@ pub fn row_fits<'a>(
     stores: &'a [u32; SLOTS],
     r: usize,
 ) -> bool
-    requires r_lt_slots { (r < slots) × (0 < banks) × (before ≡ marksBelow loads.now stores.now r) }
+    requires r_lt_slots { (r < slots) × (0 < banks) × (before ≡ marks_below loads.now stores.now r) }
     requires addresses_len { (length addresses.now ≡ slots) × (length loads.now ≡ slots) × (length stores.now ≡ slots) }
-    ensures { result ≡ rowFits banks rows allowed addresses.now loads.now stores.now r }
+    ensures { result ≡ row_fits banks rows allowed addresses.now loads.now stores.now r }
 {
     let marks = loads[r] | stores[r];
     if marks == 0 {
@@ -122,7 +122,7 @@ pub fn marks_from<'a>(
     count: usize,
 ) -> u32
     requires { (first + count ≤ slots) × (length loads.now ≡ slots) × (length stores.now ≡ slots) }
-    ensures { result ≡ marksBelow (drop first loads.now) (drop first stores.now) count }
+    ensures { result ≡ marks_below (drop first loads.now) (drop first stores.now) count }
 {
     let mut all: u32 = 0;
     let mut i = 0;
@@ -144,11 +144,11 @@ pub fn bank_fits<'a>(
     stores: &'a [u32; SLOTS],
     b: usize,
 ) -> bool
-    requires b_lt_banks_most { (b < banksMost) × (0 < banks) × (before ≡ marksBelow loads.now stores.now (b * rowsMost)) }
+    requires b_lt_banks_most { (b < banks_most) × (0 < banks) × (before ≡ marks_below loads.now stores.now (b * rows_most)) }
     requires addresses_len { (length addresses.now ≡ slots) × (length loads.now ≡ slots) × (length stores.now ≡ slots) }
     ensures { result
-        ≡ every (λ i. rowFits banks rows allowed addresses.now loads.now stores.now
-        (b * rowsMost + i)) rowsMost }
+        ≡ every (λ i. row_fits banks rows allowed addresses.now loads.now stores.now
+        (b * rows_most + i)) rows_most }
 {
     let mut fit = true;
     let mut marked = before;
@@ -172,11 +172,11 @@ pub fn rows_fit<'a>(
     loads: &'a [u32; SLOTS],
     stores: &'a [u32; SLOTS],
 ) -> bool
-    requires banks_nonzero { (0 < banks) × (banks ≤ banksMost) }
+    requires banks_nonzero { (0 < banks) × (banks ≤ banks_most) }
     requires addresses_len { (length addresses.now ≡ slots) × (length loads.now ≡ slots) × (length stores.now ≡ slots) }
     ensures { result
-        ≡ every (rowFits banks rows allowed addresses.now loads.now stores.now)
-        (rowsIn banks) }
+        ≡ every (row_fits banks rows allowed addresses.now loads.now stores.now)
+        (rows_in banks) }
 {
     let mut fit = true;
     let mut before: u32 = 0;
@@ -207,7 +207,7 @@ pub fn keeps_rules<'a>(
 ) -> bool
     requires { (length addresses.now ≡ slots) × (length loads.now ≡ slots) × (length stores.now ≡ slots) }
     ensures { result
-        ≡ lawfulBy banks rows stages words oldest live executed
+        ≡ lawful_by banks rows stages words oldest live executed
         addresses.now loads.now stores.now }
 {
     if !sizes_fit(banks, rows, stages, words) {

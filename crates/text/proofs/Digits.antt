@@ -27,13 +27,13 @@ digits_same zero j n h i = absurd (omega arith)
 digits_same (suc k) zero n h i = absurd (omega arith)
 digits_same (suc k) (suc j) n h i = more k j n (λ t. digits_same k j (n / 10) (omega arith) (omega arith))
 
-pub decimal-small : (n : ℕ) → n < 10 → decimal n ≡ (48 + n) ∷ []
+pub decimal_small : (n : ℕ) → n < 10 → decimal n ≡ (48 + n) ∷ []
 unfolding digits
-decimal-small n h = rw (lt-ltb n 10 h)
+decimal_small n h = rw (lt-ltb n 10 h)
 
-pub decimal-more : (n : ℕ) → 10 ≤ n → decimal n ≡ decimal (n / 10) ++ ((48 + n % 10) ∷ [])
+pub decimal_more : (n : ℕ) → 10 ≤ n → decimal n ≡ decimal (n / 10) ++ ((48 + n % 10) ∷ [])
 unfolding digits
-decimal-more n h =
+decimal_more n h =
     rw (le-ltb n 10 h)
     (ap (λ (l : List ℕ). l ++ ((48 + n % 10) ∷ [])) (digits_same n (suc (n / 10)) (n / 10) (omega arith) (omega arith)))
 
@@ -49,12 +49,12 @@ longer m k n f = go (ltb n 10) refl
         (let h : length (digits k (n / 10)) ≤ m = f (ltb-false n 10 e) in omega arith)
 
 -- at most m digits below the m-th power of ten, of which 0 has one
-digits-length : (m k n : ℕ) → n < 10 ^ suc m → length (digits k n) ≤ suc m
+digits_length : (m k n : ℕ) → n < 10 ^ suc m → length (digits k n) ≤ suc m
 unfolding digits
-digits-length m zero n h = zero-le
-digits-length zero (suc k) n h = longer zero k n (λ t. absurd (omega arith))
-digits-length (suc m) (suc k) n h =
-    longer (suc m) k n (λ t. digits-length m k (n / 10) (omega (arith, pow-suc 10 (suc m))))
+digits_length m zero n h = zero-le
+digits_length zero (suc k) n h = longer zero k n (λ t. absurd (omega arith))
+digits_length (suc m) (suc k) n h =
+    longer (suc m) k n (λ t. digits_length m k (n / 10) (omega (arith, pow-suc 10 (suc m))))
 
-pub decimal-length : (n : ℕ) → n < 18446744073709551616 → length (decimal n) ≤ 20
-decimal-length n h = digits-length 19 (suc n) n (omega arith)
+pub decimal_length : (n : ℕ) → n < 18446744073709551616 → length (decimal n) ≤ 20
+decimal_length n h = digits_length 19 (suc n) n (omega arith)

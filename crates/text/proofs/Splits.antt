@@ -13,91 +13,91 @@ use lib.Dec.{eqb, ltb}
 use lib.ListN.{length, get_or, take, drop, length-drop, drop_of_length-le}
 use lib.Seq.{drop-cons, drop-drop, take-nil, slice}
 use borrow.Author.Tests.{ltb-true, ltb-false, lt-ltb, le-ltb, eq-eqb, ne_eqb}
-use Rattle.text.specs.Lines.{feedIn, feed, line_at, Lines, ended, lines_from, lines_of, handed}
+use Rattle.text.specs.Lines.{feed_in, feed, line_at, Lines, ended, lines_from, lines_of, handed}
 use Rattle.text.specs.declared.Line.{Line}
 use Rattle.text.specs.declared.Line.TheVariants.{End, Unended, Whole}
 
-feed-here : (b : ℕ) (bs : List ℕ) → b ≡ 10 → feedIn (b ∷ bs) ≡ 0
-unfolding feedIn
-feed-here b bs e = rw (eq-eqb b 10 e)
+feed_here : (b : ℕ) (bs : List ℕ) → b ≡ 10 → feed_in (b ∷ bs) ≡ 0
+unfolding feed_in
+feed_here b bs e = rw (eq-eqb b 10 e)
 
-feed-later : (b : ℕ) (bs : List ℕ) → (b ≡ 10 → ⊥) → feedIn (b ∷ bs) ≡ suc (feedIn bs)
-unfolding feedIn
-feed-later b bs n = rw (ne_eqb b 10 n)
+feed_later : (b : ℕ) (bs : List ℕ) → (b ≡ 10 → ⊥) → feed_in (b ∷ bs) ≡ suc (feed_in bs)
+unfolding feed_in
+feed_later b bs n = rw (ne_eqb b 10 n)
 
-feed-none : feedIn [] ≡ 0
-unfolding feedIn
-feed-none = refl
+feed_none : feed_in [] ≡ 0
+unfolding feed_in
+feed_none = refl
 
 -- the search, byte by byte
-pub feed-on : (s : List ℕ) (i : ℕ) → i < length s → (get_or s i 0 ≡ 10 → ⊥) → feed s (i + 1) ≡ feed s i
-feed-on s i h n =
-    let e : feedIn (drop i s) ≡ suc (feedIn (drop (suc i) s)) =
-    ap feedIn (drop-cons s i 0 h) ∙ feed-later (get_or s i 0) (drop (suc i) s) n in
+pub feed_on : (s : List ℕ) (i : ℕ) → i < length s → (get_or s i 0 ≡ 10 → ⊥) → feed s (i + 1) ≡ feed s i
+feed_on s i h n =
+    let e : feed_in (drop i s) ≡ suc (feed_in (drop (suc i) s)) =
+    ap feed_in (drop-cons s i 0 h) ∙ feed_later (get_or s i 0) (drop (suc i) s) n in
     rw (add-one i) (omega arith)
 
-pub line-found : (s : List ℕ) (at i : ℕ) → at < length s → i < length s → feed s i ≡ feed s at → get_or s i 0 ≡ 10
+pub line_found : (s : List ℕ) (at i : ℕ) → at < length s → i < length s → feed s i ≡ feed s at → get_or s i 0 ≡ 10
     → Whole at i ≡ line_at s at
-line-found s at i h k e b =
-    let z : feedIn (drop i s) ≡ 0 = ap feedIn (drop-cons s i 0 k) ∙ feed-here (get_or s i 0) (drop (suc i) s) b in
+line_found s at i h k e b =
+    let z : feed_in (drop i s) ≡ 0 = ap feed_in (drop-cons s i 0 k) ∙ feed_here (get_or s i 0) (drop (suc i) s) b in
     let f : feed s at ≡ i = omega arith in
     rw (lt-ltb at (length s) h, f, lt-ltb i (length s) k)
 
-pub line-missed : (s : List ℕ) (at i : ℕ) → at < length s → length s ≤ i → feed s i ≡ feed s at
+pub line_missed : (s : List ℕ) (at i : ℕ) → at < length s → length s ≤ i → feed s i ≡ feed s at
     → Unended at ≡ line_at s at
-line-missed s at i h k e =
+line_missed s at i h k e =
     rw (lt-ltb at (length s) h, le-ltb (feed s at) (length s) (omega arith))
 
-pub line-none : (s : List ℕ) (at : ℕ) → length s ≤ at → End ≡ line_at s at
-line-none s at h = rw (le-ltb at (length s) h)
+pub line_none : (s : List ℕ) (at : ℕ) → length s ≤ at → End ≡ line_at s at
+line_none s at h = rw (le-ltb at (length s) h)
 
 -- the lines of bytes with a line feed, and of bytes without
-from-feed : (line s : List ℕ) → feedIn s < length s
-    → lines_from line s ≡ ended (line ++ take (feedIn s) s) (lines_of (drop (suc (feedIn s)) s))
-unfolding lines_from feedIn
-from-feed line [] h = absurd (omega arith)
-from-feed line (b ∷ bs) h = go (eqb b 10) refl (λ k. from-feed (line ++ (b ∷ [])) bs k)
+from_feed : (line s : List ℕ) → feed_in s < length s
+    → lines_from line s ≡ ended (line ++ take (feed_in s) s) (lines_of (drop (suc (feed_in s)) s))
+unfolding lines_from feed_in
+from_feed line [] h = absurd (omega arith)
+from_feed line (b ∷ bs) h = go (eqb b 10) refl (λ k. from_feed (line ++ (b ∷ [])) bs k)
   where
     go : (t : Bool) → eqb b 10 ≡ t
-        → (feedIn bs < length bs → lines_from (line ++ (b ∷ [])) bs
-        ≡ ended (line ++ (b ∷ []) ++ take (feedIn bs) bs) (lines_of (drop (suc (feedIn bs)) bs)))
+        → (feed_in bs < length bs → lines_from (line ++ (b ∷ [])) bs
+        ≡ ended (line ++ (b ∷ []) ++ take (feed_in bs) bs) (lines_of (drop (suc (feed_in bs)) bs)))
         → lines_from line (b ∷ bs)
-        ≡ ended (line ++ take (feedIn (b ∷ bs)) (b ∷ bs)) (lines_of (drop (suc (feedIn (b ∷ bs))) (b ∷ bs)))
+        ≡ ended (line ++ take (feed_in (b ∷ bs)) (b ∷ bs)) (lines_of (drop (suc (feed_in (b ∷ bs))) (b ∷ bs)))
     go true e more = rw (e, append-nil)
     go false e more = rw e (more (let k = rw e at h in omega arith) ∙ simp append_assoc)
 
-from-none : (line s : List ℕ) → length s ≤ feedIn s → lines_from line s ≡ record { whole = []; rest = line ++ s }
-unfolding lines_from feedIn
-from-none line [] h = rw append-nil
-from-none line (b ∷ bs) h = go (eqb b 10) refl (λ k. from-none (line ++ (b ∷ [])) bs k)
+from_none : (line s : List ℕ) → length s ≤ feed_in s → lines_from line s ≡ record { whole = []; rest = line ++ s }
+unfolding lines_from feed_in
+from_none line [] h = rw append-nil
+from_none line (b ∷ bs) h = go (eqb b 10) refl (λ k. from_none (line ++ (b ∷ [])) bs k)
   where
     go : (t : Bool) → eqb b 10 ≡ t
-        → (length bs ≤ feedIn bs
+        → (length bs ≤ feed_in bs
         → lines_from (line ++ (b ∷ [])) bs ≡ record { whole = []; rest = line ++ (b ∷ []) ++ bs })
         → lines_from line (b ∷ bs) ≡ record { whole = []; rest = line ++ (b ∷ bs) }
     go true e more = absurd (let k = rw e at h in omega arith)
     go false e more = rw e (more (let k = rw e at h in omega arith) ∙ simp append_assoc)
 
-slice-add : (at n : ℕ) (s : List ℕ) → slice at (at + n) s ≡ take n (drop at s)
-slice-add zero n s = rw zero-add
-slice-add (suc at) n [] = rw (suc-add at n) (sym (take-nil n))
-slice-add (suc at) n (b ∷ bs) = rw (suc-add at n) (slice-add at n bs)
+slice_add : (at n : ℕ) (s : List ℕ) → slice at (at + n) s ≡ take n (drop at s)
+slice_add zero n s = rw zero-add
+slice_add (suc at) n [] = rw (suc-add at n) (sym (take-nil n))
+slice_add (suc at) n (b ∷ bs) = rw (suc-add at n) (slice_add at n bs)
 
 -- the line at an index, by where its line feed stands
-pub line-end : (s : List ℕ) (at : ℕ) → length s ≤ at → lines_of (drop at s) ≡ record { whole = []; rest = [] }
-line-end s at h = rw (drop_of_length-le s h) (from-none [] [] (omega (arith, feed-none)))
+pub line_end : (s : List ℕ) (at : ℕ) → length s ≤ at → lines_of (drop at s) ≡ record { whole = []; rest = [] }
+line_end s at h = rw (drop_of_length-le s h) (from_none [] [] (omega (arith, feed_none)))
 
-pub line-unended : (s : List ℕ) (at : ℕ) → length s ≤ feed s at
+pub line_unended : (s : List ℕ) (at : ℕ) → length s ≤ feed s at
     → lines_of (drop at s) ≡ record { whole = []; rest = drop at s }
-line-unended s at h = from-none [] (drop at s) (omega (arith, length-drop at s))
+line_unended s at h = from_none [] (drop at s) (omega (arith, length-drop at s))
 
-pub line-whole : (s : List ℕ) (at : ℕ) → feed s at < length s
+pub line_whole : (s : List ℕ) (at : ℕ) → feed s at < length s
     → lines_of (drop at s) ≡ ended (slice at (feed s at) s) (lines_of (drop (suc (feed s at)) s))
-line-whole s at h =
-    from-feed [] (drop at s) (omega (arith, length-drop at s))
-    ∙ ap₂ (λ (l r : List ℕ). ended l (lines_of r)) (sym (slice-add at (feedIn (drop at s)) s))
-    (drop-drop (suc (feedIn (drop at s))) at s
-    ∙ ap (λ (n : ℕ). drop n s) (let e : at + suc (feedIn (drop at s)) ≡ suc (feed s at) = omega arith in e))
+line_whole s at h =
+    from_feed [] (drop at s) (omega (arith, length-drop at s))
+    ∙ ap₂ (λ (l r : List ℕ). ended l (lines_of r)) (sym (slice_add at (feed_in (drop at s)) s))
+    (drop-drop (suc (feed_in (drop at s))) at s
+    ∙ ap (λ (n : ℕ). drop n s) (let e : at + suc (feed_in (drop at s)) ≡ suc (feed s at) = omega arith in e))
 
 -- what an answer says: where the line begins, and where a line feed stands
 abbrev pub LineIs : List ℕ → ℕ → Line → Type 0
@@ -105,8 +105,8 @@ LineIs s at End = length s ≤ at
 LineIs s at (Unended from) = (from ≡ at) × (at < length s) × (length s ≤ feed s at)
 LineIs s at (Whole from to) = (from ≡ at) × (to ≡ feed s at) × (to < length s)
 
-pub line-is : (s : List ℕ) (at : ℕ) (l : Line) → line_at s at ≡ l → LineIs s at l
-line-is s at l e =
+pub line_is : (s : List ℕ) (at : ℕ) (l : Line) → line_at s at ≡ l → LineIs s at l
+line_is s at l e =
     subst (λ (k : Line). LineIs s at k) e (go (ltb at (length s)) refl (ltb (feed s at) (length s)) refl)
   where
     go : (t : Bool) → ltb at (length s) ≡ t → (u : Bool) → ltb (feed s at) (length s) ≡ u → LineIs s at (line_at s at)
@@ -114,24 +114,24 @@ line-is s at l e =
     go true p false q = rw (p, q) (refl, ltb-true at (length s) p, ltb-false (feed s at) (length s) q)
     go true p true q = rw (p, q) (refl, refl, ltb-true (feed s at) (length s) q)
 
-handed-from : (n : ℕ) (s : List ℕ) (at : ℕ) → length s ≤ at + n → handed n s at ≡ lines_of (drop at s)
+handed_from : (n : ℕ) (s : List ℕ) (at : ℕ) → length s ≤ at + n → handed n s at ≡ lines_of (drop at s)
 unfolding handed
-handed-from zero s at h = sym (line-end s at (omega arith))
-handed-from (suc n) s at h =
+handed_from zero s at h = sym (line_end s at (omega arith))
+handed_from (suc n) s at h =
     go (ltb at (length s)) refl (ltb (feed s at) (length s)) refl
-    (handed-from n s (feed s at + 1) (omega arith))
+    (handed_from n s (feed s at + 1) (omega arith))
   where
     go : (t : Bool) → ltb at (length s) ≡ t → (u : Bool) → ltb (feed s at) (length s) ≡ u
         → handed n s (feed s at + 1) ≡ lines_of (drop (feed s at + 1) s)
         → handed (suc n) s at ≡ lines_of (drop at s)
-    go false e u f more = rw e (sym (line-end s at (ltb-false at (length s) e)))
-    go true e false f more = rw (e, f) (sym (line-unended s at (ltb-false (feed s at) (length s) f)))
+    go false e u f more = rw e (sym (line_end s at (ltb-false at (length s) e)))
+    go true e false f more = rw (e, f) (sym (line_unended s at (ltb-false (feed s at) (length s) f)))
     go true e true f more =
         rw (e, f)
         (ap (λ (r : Lines). ended (slice at (feed s at) s) r)
         (more ∙ ap (λ (i : ℕ). lines_of (drop i s)) (add-one (feed s at)))
-        ∙ sym (line-whole s at (ltb-true (feed s at) (length s) f)))
+        ∙ sym (line_whole s at (ltb-true (feed s at) (length s) f)))
 
 -- a reader that stands at the start hands out the text's lines
-pub handed-all : (s : List ℕ) → handed (length s) s 0 ≡ lines_of s
-handed-all s = handed-from (length s) s 0 (omega arith)
+pub handed_all : (s : List ℕ) → handed (length s) s 0 ≡ lines_of s
+handed_all s = handed_from (length s) s 0 (omega arith)

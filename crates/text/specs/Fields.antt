@@ -9,10 +9,10 @@ abbrev pub largest : ℕ
 largest = 4294967295
 
 -- numbers parted by commas (44), as they are written
-unfoldable pub fieldsText : List ℕ → List ℕ
-fieldsText [] = []
-fieldsText (n ∷ []) = decimal n
-fieldsText (n ∷ m ∷ ns) = decimal n ++ (44 ∷ fieldsText (m ∷ ns))
+unfoldable pub fields_text : List ℕ → List ℕ
+fields_text [] = []
+fields_text (n ∷ []) = decimal n
+fields_text (n ∷ m ∷ ns) = decimal n ++ (44 ∷ fields_text (m ∷ ns))
 
 -- What is read so far: the fields before the last comma, and the field now open: none of its digits yet, or its value; a field
 -- that is 0 takes no further digit.

@@ -3,4 +3,4 @@ pub mod Ascii
 pub mod Decimal
 pub mod Fields
 pub mod Lines
-pub mod computed
+pub mod Computed

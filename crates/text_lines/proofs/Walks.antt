@@ -51,7 +51,7 @@ module _ {M : Type 1} {𝓤 : Ura M} {𝓛 : Logic 𝓤} {K : Type 0} {Γ : List
 module _ {M : Type 1} {𝓤 : Ura M} (𝓛 : Logic 𝓤) (𝓜 : Model 𝓤 𝓛.H) (𝓡 : Running 𝓤 𝓛.H 𝓜) where
   open 𝓛 use {H}
 
-  pub walk-entered : (T : Ended) (hs : Stays T.signature.params T.kept)
+  pub walk_entered : (T : Ended) (hs : Stays T.signature.params T.kept)
       → AllGo 𝓛 T.signature.lifetimes T.signature.params T.kept hs
       → (c : Clauses 𝓤 T) (γ : Env) (k : Name) (e : Fn)
       → Closed 𝓤 H (tables 𝓤 H 𝓜 𝓡 γ).C (tables 𝓤 H 𝓜 𝓡 γ).Λ k e
@@ -59,7 +59,7 @@ module _ {M : Type 1} {𝓤 : Ura M} (𝓛 : Logic 𝓤) (𝓜 : Model 𝓤 𝓛
       → Walks 𝓛 T hs (WpFn 𝓤 H (tables 𝓤 H 𝓜 𝓡 γ).C (tables 𝓤 H 𝓜 𝓡 γ).Λ e) c)
       → Meets 𝓛 T.signature ((tables 𝓤 H 𝓜 𝓡 γ).C k) (closing 𝓛 T c)
   unfolding tables_of
-  walk-entered T hs gs c γ k e closed walks =
+  walk_entered T hs gs c γ k e closed walks =
       let own = tables 𝓤 H 𝓜 𝓡 γ in
       let 𝓣 = tables_of 𝓤 H 𝓜 own in
       entered 𝓤 H (triple_of 𝓛 T.signature (closing 𝓛 T c)) own.C own.Λ k e closed

@@ -1,6 +1,6 @@
 // A reader that hands out one line of a text after another. No function that is public asks for anything.
 ghost use Rattle.std.specs.Prelude.{◌≡◌, ℕ, ◌+◌, ◌^◌, ◌<◌};
-ghost use Rattle.text.specs.Lines.{line_at, afterLine};
+ghost use Rattle.text.specs.Lines.{line_at, after_line};
 ghost use Rattle.text.specs.declared.Line.TheVariants.{Whole};
 
 use text::Line;
@@ -25,7 +25,7 @@ fn line_at(s: &[u8], at: usize) -> Line
 // Where a reader stands that stood at `at` and handed out this line.
 fn place_after(line: Line, at: usize) -> usize
     requires { (from to : ℕ) → line ≡ Whole from to → to + 1 < 2 ^ 64 }
-    ensures { result ≡ afterLine line at }
+    ensures { result ≡ after_line line at }
 {
     match line {
         Line::End => at,
@@ -51,7 +51,7 @@ pub fn read_from<'a>(src: &'a [u8], at: usize) -> LineReader<'a>
 // Hands out the next line, and moves the reader behind it.
 pub fn next_line<'s, 'a>(r: &'s mut LineReader<'a>) -> Line
     ensures { (result ≡ line_at r.old.src.now r.old.at) × (r.new.src ≡ r.old.src)
-        × (r.new.at ≡ afterLine result r.old.at) }
+        × (r.new.at ≡ after_line result r.old.at) }
 {
     let line = line_at(r.src, r.at);
     r.at = place_after(line, r.at);
@@ -67,7 +67,7 @@ pub struct Taken {
 
 // What a reader over s that stands at `at` hands out.
 pub fn take_line(s: &[u8], at: usize) -> Taken
-    ensures { (result.line ≡ line_at s.now at) × (result.next ≡ afterLine (line_at s.now at) at) }
+    ensures { (result.line ≡ line_at s.now at) × (result.next ≡ after_line (line_at s.now at) at) }
 {
     let mut r = read_from(s, at);
     let line = next_line(&mut r);

@@ -5,7 +5,7 @@ ghost use Rattle.std.proofs.lemmas.List.Edits.{sets};
 ghost use Rattle.std.proofs.Math.Seq.{slice};
 ghost use Rattle.text.specs.Decimal.{decimal};
 ghost use Rattle.text.specs.Fields.{largest, bad, byte, closed, fields};
-ghost use Rattle.text.specs.computed.Reader.{capacity, shown, few, fitting, parsedFields};
+ghost use Rattle.text.specs.Computed.Reader.{capacity, shown, few, fitting, parsed_fields};
 
 use text::{FIELDS, LARGEST, Numbers};
 
@@ -112,7 +112,7 @@ pub fn next_byte(n: Numbers, b: u8) -> Numbers
 
 // The end of the line closes the open field.
 fn finish_line(n: Numbers) -> Numbers
-    ensures fields { parsedFields result ≡ fitting (closed (shown n)) }
+    ensures fields { parsed_fields result ≡ fitting (closed (shown n)) }
     ensures count { result.count ≤ capacity }
 {
     let k = n.count;
@@ -136,7 +136,7 @@ fn finish_line(n: Numbers) -> Numbers
 // up to the largest parted by commas, not too many of them.
 pub fn read_fields(s: &[u8], from: usize, to: usize) -> Numbers
     requires { to ≤ length s.now }
-    ensures fields { parsedFields result ≡ fitting (fields largest (slice from to s.now)) }
+    ensures fields { parsed_fields result ≡ fitting (fields largest (slice from to s.now)) }
     ensures count { result.count ≤ capacity }
 {
     let mut n = Numbers {

@@ -1,7 +1,7 @@
 -- What a finish commits (FinishTruth), of the play and of the calls. A turn of a finish makes the oldest ready by an issue and
--- an execution, which record nothing, and commits it: that is the play of the calls that are needed next (play-next). So by
+-- an execution, which record nothing, and commits it: that is the play of the calls that are needed next (play_next). So by
 -- the record theorem the turn commits where the run has a step left and stops where it has none, and what a finish commits
--- are the run's steps, counted up to its limit and its list (finish-counts). Assumes nothing.
+-- are the run's steps, counted up to its limit and its list (finish_counts). Assumes nothing.
 use mathlib.Core.Path.{◌≡◌, refl, sym, subst, ap, ap₂, ◌∙◌}
 use mathlib.Core.Bool.{Bool, true, false, cond, ◌||◌, and-eq-true_iff}
 use mathlib.Core.List.{List, [], ◌∷◌, append-nil}
@@ -13,46 +13,46 @@ use lib.ListN.{length}
 use borrow.Author.Tests.{eqb-true, leb-true, le-leb, ltb-true, ltb-false, ne_eqb}
 use Rattle.engine.specs.Contract.{refused, named, executed, done, committed, finished}
 use Rattle.engine.specs.Conditions.{refusal}
-use Rattle.engine.proofs.Meeting.{judged-accepted}
+use Rattle.engine.proofs.Meeting.{judged_accepted}
 use Rattle.machine_model.specs.declared.Entry.{Entry}
-use Rattle.machine_model.specs.Program.{perInstruction}
+use Rattle.machine_model.specs.Program.{per_instruction}
 use Rattle.machine_model.specs.Window.{entry_at, pending}
 use Rattle.machine_model.specs.Over
 use Rattle.machine_model.specs.Over.{Engine, Realization, Plain, Drain, Result, Call, issue, execute, commit, finish, Answer}
-use Rattle.machine_model.specs.Over.{programDone, perCommit, continueOn, drainStopped, Meets, Opens}
-use Rattle.sequential.specs.Sequential.{Run, runAfter, ends, step}
-use Rattle.sequential.specs.Play.{commitsIn, Played, plays, play}
+use Rattle.machine_model.specs.Over.{program_done, per_commit, continue_on, drain_stopped, Meets, Opens}
+use Rattle.sequential.specs.Sequential.{Run, run_after, ends, step}
+use Rattle.sequential.specs.Play.{commits_in, Played, plays, play}
 use Rattle.theorem.specs.Truth.{run, next}
 use Rattle.theorem.specs.Life.{Life}
-use Rattle.theorem.specs.Finish.{stepsLeft, FinishTruth}
-use Rattle.sequential.proofs.Core.{headIndex}
+use Rattle.theorem.specs.Finish.{steps_left, FinishTruth}
+use Rattle.sequential.proofs.Core.{head_index}
 use Rattle.sequential.proofs.Owing.{Owes}
-use Rattle.sequential.proofs.Links.{lent-passes}
-use Rattle.sequential.proofs.Finishing.{either, Quiet, issue-quiet, execute-quiet}
-use Rattle.theorem.proofs.Record.{Held, held-play, none-play, needed-next, after, held_after}
-use Rattle.theorem.proofs.Closing.{done-opens, from-opening, there, holds-there}
+use Rattle.sequential.proofs.Links.{lent_passes}
+use Rattle.sequential.proofs.Finishing.{either, Quiet, issue_quiet, execute_quiet}
+use Rattle.theorem.proofs.Record.{Held, held_play, none_play, needed_next, after, held_after}
+use Rattle.theorem.proofs.Closing.{done_opens, from_opening, there, holds_there}
 
 -- x with another state
 abbrev moved : {S : Type 0} → Played S → Plain S → Played S
 moved x X = record { state = X; memory = x.memory; record' = x.record'; commits = x.commits }
 
 module _ {O S : Type 0} (E : Engine O S) (program : List ℕ) where
-  quiet-plays : (x : Played S) (c : Call) → Quiet x.memory (Over.respond E program c x.state x.memory)
+  quiet_plays : (x : Played S) (c : Call) → Quiet x.memory (Over.respond E program c x.state x.memory)
       → plays E program x c ≡ moved x (Over.respond E program c x.state x.memory).state
-  quiet-plays x c q =
+  quiet_plays x c q =
       rw (q.keeps, q.nothing, q.uncounted, append-nil x.record', add-zero x.commits)
 
   -- where nothing is live, what an issue leaves waits, also where it was refused
-  issued-waits : (X : Plain S) (memory : List ℕ) → X.entries ≡ []
-      → pending (entry_at (Over.issueResult E program X memory).state.entries 0).fate ≡ true
-  issued-waits X memory q =
-      either (λ (r : Result S). pending (entry_at r.state.entries 0).fate ≡ true) (eqb (refusal (Over.issueChecks E program X)) 0)
+  issued_waits : (X : Plain S) (memory : List ℕ) → X.entries ≡ []
+      → pending (entry_at (Over.issue_result E program X memory).state.entries 0).fate ≡ true
+  issued_waits X memory q =
+      either (λ (r : Result S). pending (entry_at r.state.entries 0).fate ≡ true) (eqb (refusal (Over.issue_checks E program X)) 0)
       (rw q) (rw q)
 
   -- the calls that are needed next commit the oldest as a finish makes it ready
-  pub play-next : (x : Played S) → play E program x (next program x) ≡ plays E program (moved x (Over.ready E program x.state x.memory)) commit
+  pub play_next : (x : Played S) → play E program x (next program x) ≡ plays E program (moved x (Over.ready E program x.state x.memory)) commit
   unfolding play Over.respond
-  play-next x = go x.state.entries refl
+  play_next x = go x.state.entries refl
     where
       X : Plain S
       X = x.state
@@ -60,29 +60,29 @@ module _ {O S : Type 0} (E : Engine O S) (program : List ℕ) where
       w : List ℕ
       w = x.memory
 
-      executed-first : Plain S → Plain S
-      executed-first Y = cond (pending (entry_at Y.entries 0).fate) (Over.executions E program Y w 0).state Y
+      executed_first : Plain S → Plain S
+      executed_first Y = cond (pending (entry_at Y.entries 0).fate) (Over.executions E program Y w 0).state Y
 
       committing : Plain S → Played S
       committing Y = plays E program (moved x Y) commit
 
       go : (es : List Entry) → X.entries ≡ es → play E program x (next program x) ≡ committing (Over.ready E program X w)
       go [] q =
-          let Y = (Over.issueResult E program X w).state in
+          let Y = (Over.issue_result E program X w).state in
           let calls : next program x ≡ issue ∷ execute 0 ∷ commit ∷ [] = rw q in
           let begins : Over.begun E program X w ≡ Y = rw q in
           ap (play E program x) calls
-          ∙ ap (λ z. plays E program (plays E program z (execute 0)) commit) (quiet-plays x issue (issue-quiet E program X w))
-          ∙ ap (λ z. plays E program z commit) (quiet-plays (moved x Y) (execute 0) (execute-quiet E program Y w 0))
-          ∙ ap (λ t. committing (cond t (Over.executions E program Y w 0).state Y)) (sym (issued-waits X w q))
-          ∙ ap (λ Z. committing (executed-first Z)) (sym begins)
+          ∙ ap (λ z. plays E program (plays E program z (execute 0)) commit) (quiet_plays x issue (issue_quiet E program X w))
+          ∙ ap (λ z. plays E program z commit) (quiet_plays (moved x Y) (execute 0) (execute_quiet E program Y w 0))
+          ∙ ap (λ t. committing (cond t (Over.executions E program Y w 0).state Y)) (sym (issued_waits X w q))
+          ∙ ap (λ Z. committing (executed_first Z)) (sym begins)
       go (e ∷ es) q = oldest (pending (entry_at X.entries 0).fate) refl
         where
           live : eqb (length X.entries) 0 ≡ false
           live = ap (λ l. eqb (length l) 0) q ∙ ne_eqb (suc (length es)) 0 (λ z. omega arith)
 
-          same : executed-first X ≡ Over.ready E program X w
-          same = ap (λ t. executed-first (cond t (Over.issueResult E program X w).state X)) (sym live)
+          same : executed_first X ≡ Over.ready E program X w
+          same = ap (λ t. executed_first (cond t (Over.issue_result E program X w).state X)) (sym live)
 
           oldest : (t : Bool) → pending (entry_at X.entries 0).fate ≡ t
               → play E program x (next program x) ≡ committing (Over.ready E program X w)
@@ -98,7 +98,7 @@ module _ {O S : Type 0} (E : Engine O S) (program : List ℕ) where
               readied : (t : Bool)
                   → play E program x (cond t (execute 0 ∷ commit ∷ []) (commit ∷ []))
                   ≡ committing (cond t (Over.executions E program X w 0).state X)
-              readied true = ap (λ z. plays E program z commit) (quiet-plays x (execute 0) (execute-quiet E program X w 0))
+              readied true = ap (λ z. plays E program z commit) (quiet_plays x (execute 0) (execute_quiet E program X w 0))
               readied false = refl
 
 -- what a commit answers: its numbers, or a refusal
@@ -110,58 +110,58 @@ OfCommit done = ⊥
 OfCommit (committed i c r v d) = Unit {0}
 OfCommit (finished n) = ⊥
 
-commit-answers : {O S : Type 0} (E : Engine O S) (program : List ℕ) (X : Plain S) (memory : List ℕ)
+commit_answers : {O S : Type 0} (E : Engine O S) (program : List ℕ) (X : Plain S) (memory : List ℕ)
     → OfCommit (Over.commits E program X memory).answer
-commit-answers {S = S} E program X memory =
-    either (λ (r : Result S). OfCommit r.answer) (eqb (refusal (Over.commitChecks E program X memory)) 0) tt tt
+commit_answers {S = S} E program X memory =
+    either (λ (r : Result S). OfCommit r.answer) (eqb (refusal (Over.commit_checks E program X memory)) 0) tt tt
 
 -- a turn of a finish goes on where its commit was one, else it stops
-goes_one : {S : Type 0} (a : Answer) (here rest : Drain S) → OfCommit a → commitsIn a ≡ 1 → (continueOn a here rest).commits ≡ suc rest.commits
+goes_one : {S : Type 0} (a : Answer) (here rest : Drain S) → OfCommit a → commits_in a ≡ 1 → (continue_on a here rest).commits ≡ suc rest.commits
 goes_one (refused k) here rest o e = absurd (omega arith)
 goes_one (committed i c r v d) here rest o e = refl
 
-stops-none : {S : Type 0} (a : Answer) (here rest : Drain S) → OfCommit a → commitsIn a ≡ 0 → continueOn a here rest ≡ here
-stops-none (refused k) here rest o e = refl
-stops-none (committed i c r v d) here rest o e = absurd (omega arith)
+stops_none : {S : Type 0} (a : Answer) (here rest : Drain S) → OfCommit a → commits_in a ≡ 0 → continue_on a here rest ≡ here
+stops_none (refused k) here rest o e = refl
+stops_none (committed i c r v d) here rest o e = absurd (omega arith)
 
 -- ---- the run's steps
 
-none_left : (program : List ℕ) (r : Run) (m : ℕ) → ends program r ≡ true → stepsLeft program r m ≡ 0
-unfolding stepsLeft
+none_left : (program : List ℕ) (r : Run) (m : ℕ) → ends program r ≡ true → steps_left program r m ≡ 0
+unfolding steps_left
 none_left program r zero e = refl
 none_left program r (suc m) e = rw e
 
 one_left : (program : List ℕ) (r : Run) (m : ℕ) → ends program r ≡ false
-    → stepsLeft program r (suc m) ≡ suc (stepsLeft program (step program r) m)
-unfolding stepsLeft
+    → steps_left program r (suc m) ≡ suc (steps_left program (step program r) m)
+unfolding steps_left
 one_left program r m e = rw e
 
 -- where fewer steps than asked for are left, the run ends after them
-left-ends : (program memory : List ℕ) (m c : ℕ) → stepsLeft program (runAfter program memory c) m < m
-    → ends program (runAfter program memory (c + stepsLeft program (runAfter program memory c) m)) ≡ true
-unfolding runAfter
-left-ends program memory zero c h = absurd (omega arith)
-left-ends program memory (suc m) c h =
-    go (ends program (runAfter program memory c)) refl (left-ends program memory m (suc c))
+left_ends : (program memory : List ℕ) (m c : ℕ) → steps_left program (run_after program memory c) m < m
+    → ends program (run_after program memory (c + steps_left program (run_after program memory c) m)) ≡ true
+unfolding run_after
+left_ends program memory zero c h = absurd (omega arith)
+left_ends program memory (suc m) c h =
+    go (ends program (run_after program memory c)) refl (left_ends program memory m (suc c))
   where
     r : Run
-    r = runAfter program memory c
+    r = run_after program memory c
 
     rest : ℕ
-    rest = stepsLeft program (step program r) m
+    rest = steps_left program (step program r) m
 
-    go : (t : Bool) → ends program r ≡ t → (rest < m → ends program (runAfter program memory (suc c + rest)) ≡ true)
-        → ends program (runAfter program memory (c + stepsLeft program r (suc m))) ≡ true
+    go : (t : Bool) → ends program r ≡ t → (rest < m → ends program (run_after program memory (suc c + rest)) ≡ true)
+        → ends program (run_after program memory (c + steps_left program r (suc m))) ≡ true
     go true e later = rw (none_left program r (suc m) e, add-zero c) e
     go false e later =
         let one = one_left program r m e in
-        let at : suc c + rest ≡ c + stepsLeft program r (suc m) = omega (arith, one) in
-        subst (λ (j : ℕ). ends program (runAfter program memory j) ≡ true) at (later (omega (arith, one)))
+        let at : suc c + rest ≡ c + steps_left program r (suc m) = omega (arith, one) in
+        subst (λ (j : ℕ). ends program (run_after program memory j) ≡ true) at (later (omega (arith, one)))
 
 module _ {O S : Type 0} {E : Engine O S} (owes : Owes E) (program memory : List ℕ) where
   -- at the end of the program the run has ended
-  done-ends : (x : Played S) → Held owes program memory x → programDone x.state ≡ true → ends program (run program memory x) ≡ true
-  done-ends x h d = go x.state.entries refl
+  done_ends : (x : Played S) → Held owes program memory x → program_done x.state ≡ true → ends program (run program memory x) ≡ true
+  done_ends x h d = go x.state.entries refl
     where
       X : Plain S
       X = x.state
@@ -172,21 +172,21 @@ module _ {O S : Type 0} {E : Engine O S} (owes : Owes E) (program memory : List 
       go : (es : List Entry) → X.entries ≡ es → ends program (run program memory x) ≡ true
       go [] q =
           let index : X.next ≡ (run program memory x).index =
-          ap (λ (l : List Entry). headIndex l X.next) (sym q) ∙ h.kept.index in
-          let over : leb (length program / perInstruction) (run program memory x).index ≡ true =
-          le-leb (length program / perInstruction) (run program memory x).index
+          ap (λ (l : List Entry). head_index l X.next) (sym q) ∙ h.kept.index in
+          let over : leb (length program / per_instruction) (run program memory x).index ≡ true =
+          le-leb (length program / per_instruction) (run program memory x).index
           (omega (arith, h.linked.counted, leb-true X.count X.next parts.1)) in
           rw over
       go (e ∷ es) q = absurd (omega (arith, ap length q, eqb-true (length X.entries) 0 parts.0))
 
   -- a turn of a finish, and what comes after it: the run's next step, and its further ones
-  turn-counts : (k places : ℕ) (x : Played S) → Held owes program memory x
-      → ((z : Played S) → Held owes program memory z → (Over.finishes E program k (places - perCommit) z.state z.memory).commits
-      ≡ stepsLeft program (run program memory z) (min k ((places - perCommit) / perCommit)))
+  turn_counts : (k places : ℕ) (x : Played S) → Held owes program memory x
+      → ((z : Played S) → Held owes program memory z → (Over.finishes E program k (places - per_commit) z.state z.memory).commits
+      ≡ steps_left program (run program memory z) (min k ((places - per_commit) / per_commit)))
       → (Over.finishes E program (suc k) places x.state x.memory).commits
-      ≡ stepsLeft program (run program memory x) (min (suc k) (places / perCommit))
-  unfolding Over.finishes Over.respond runAfter stepsLeft
-  turn-counts k places x h later = go (ltb places perCommit) (programDone X) refl refl
+      ≡ steps_left program (run program memory x) (min (suc k) (places / per_commit))
+  unfolding Over.finishes Over.respond run_after steps_left
+  turn_counts k places x h later = go (ltb places per_commit) (program_done X) refl refl
     where
       X : Plain S
       X = x.state
@@ -205,87 +205,87 @@ module _ {O S : Type 0} {E : Engine O S} (owes : Owes E) (program memory : List 
 
       turned : Drain S
       turned =
-          continueOn r.answer (drainStopped Y x.memory) (Over.finishes E program k (places - perCommit) r.state r.memory)
+          continue_on r.answer (drain_stopped Y x.memory) (Over.finishes E program k (places - per_commit) r.state r.memory)
 
-      played : (play E program x (next program x)).commits ≡ x.commits + commitsIn r.answer
-      played = ap (λ (y : Played S). y.commits) (play-next E program x)
+      played : (play E program x (next program x)).commits ≡ x.commits + commits_in r.answer
+      played = ap (λ (y : Played S). y.commits) (play_next E program x)
 
-      go : (s d : Bool) → ltb places perCommit ≡ s → programDone X ≡ d
-          → (cond (s || d) (drainStopped X x.memory) turned).commits ≡ stepsLeft program now (min (suc k) (places / perCommit))
+      go : (s d : Bool) → ltb places per_commit ≡ s → program_done X ≡ d
+          → (cond (s || d) (drain_stopped X x.memory) turned).commits ≡ steps_left program now (min (suc k) (places / per_commit))
       go true d p q =
-          let none : 0 ≡ min (suc k) (places / perCommit) = omega (arith, ltb-true places perCommit p) in
-          ap (stepsLeft program now) none
-      go false true p q = sym (none_left program now (min (suc k) (places / perCommit)) (done-ends x h q))
+          let none : 0 ≡ min (suc k) (places / per_commit) = omega (arith, ltb-true places per_commit p) in
+          ap (steps_left program now) none
+      go false true p q = sym (none_left program now (min (suc k) (places / per_commit)) (done_ends x h q))
       go false false p q = on (ends program now) refl
         where
-          on : (t : Bool) → ends program now ≡ t → turned.commits ≡ stepsLeft program now (min (suc k) (places / perCommit))
+          on : (t : Bool) → ends program now ≡ t → turned.commits ≡ steps_left program now (min (suc k) (places / per_commit))
           on true e =
-              let nothing : commitsIn r.answer ≡ 0 = omega (arith, played, none-play owes program memory x h e (next program x)) in
+              let nothing : commits_in r.answer ≡ 0 = omega (arith, played, none_play owes program memory x h e (next program x)) in
               ap (λ (w : Drain S). w.commits)
-              (stops-none r.answer (drainStopped Y x.memory) _ (commit-answers E program Y x.memory) nothing)
-              ∙ sym (none_left program now (min (suc k) (places / perCommit)) e)
+              (stops_none r.answer (drain_stopped Y x.memory) _ (commit_answers E program Y x.memory) nothing)
+              ∙ sym (none_left program now (min (suc k) (places / per_commit)) e)
           on false e =
-              let goes = (needed-next owes program memory x h e).2 in
-              let held : Held owes program memory z = subst (Held owes program memory) (play-next E program x)
-              (held-play owes program memory x h (next program x)) in
-              let room : suc (min k ((places - perCommit) / perCommit)) ≡ min (suc k) (places / perCommit) =
-              omega (arith, ltb-false places perCommit p) in
+              let goes = (needed_next owes program memory x h e).2 in
+              let held : Held owes program memory z = subst (Held owes program memory) (play_next E program x)
+              (held_play owes program memory x h (next program x)) in
+              let room : suc (min k ((places - per_commit) / per_commit)) ≡ min (suc k) (places / per_commit) =
+              omega (arith, ltb-false places per_commit p) in
               let after : z.commits ≡ suc x.commits = omega (arith, played, goes) in
-              goes_one r.answer (drainStopped Y x.memory) _ (commit-answers E program Y x.memory)
+              goes_one r.answer (drain_stopped Y x.memory) _ (commit_answers E program Y x.memory)
               (omega (arith, played, goes))
               ∙ ap suc
               (later z held
-              ∙ ap (λ (n : ℕ). stepsLeft program (runAfter program memory n) (min k ((places - perCommit) / perCommit))) after)
-              ∙ sym (one_left program now (min k ((places - perCommit) / perCommit)) e)
-              ∙ ap (stepsLeft program now) room
+              ∙ ap (λ (n : ℕ). steps_left program (run_after program memory n) (min k ((places - per_commit) / per_commit))) after)
+              ∙ sym (one_left program now (min k ((places - per_commit) / per_commit)) e)
+              ∙ ap (steps_left program now) room
 
-  finish-counts : (k places : ℕ) (x : Played S) → Held owes program memory x
+  finish_counts : (k places : ℕ) (x : Played S) → Held owes program memory x
       → (Over.finishes E program k places x.state x.memory).commits
-      ≡ stepsLeft program (run program memory x) (min k (places / perCommit))
-  unfolding Over.finishes stepsLeft
-  finish-counts zero places x h =
-      let none : 0 ≡ min 0 (places / perCommit) = omega arith in
-      ap (stepsLeft program (run program memory x)) none
-  finish-counts (suc k) places x h = turn-counts k places x h (finish-counts k (places - perCommit))
+      ≡ steps_left program (run program memory x) (min k (places / per_commit))
+  unfolding Over.finishes steps_left
+  finish_counts zero places x h =
+      let none : 0 ≡ min 0 (places / per_commit) = omega arith in
+      ap (steps_left program (run program memory x)) none
+  finish_counts (suc k) places x h = turn_counts k places x h (finish_counts k (places - per_commit))
 
-  finish-truth : (x : Played S) → Held owes program memory x → (k : ℕ) (list : List ℕ)
+  finish_truth : (x : Played S) → Held owes program memory x → (k : ℕ) (list : List ℕ)
       → FinishTruth program memory x.commits k list (Over.respond E program (finish k list) x.state x.memory).answer
   unfolding Over.respond
-  finish-truth x h k list =
+  finish_truth x h k list =
       let X = x.state in
-      let left = stepsLeft program (run program memory x) (min k (length list / perCommit)) in
+      let left = steps_left program (run program memory x) (min k (length list / per_commit)) in
       let says : (Over.finishing E program X x.memory k list).answer ≡ finished left =
       ap (λ (r : Result S). r.answer)
-      (judged-accepted (refusal (Over.finishChecks E program X x.memory)) X x.memory list _
-      (lent-passes owes program X x.memory h.linked []))
-      ∙ ap finished (finish-counts k (length list) x h) in
+      (judged_accepted (refusal (Over.finish_checks E program X x.memory)) X x.memory list _
+      (lent_passes owes program X x.memory h.linked []))
+      ∙ ap finished (finish_counts k (length list) x h) in
       record {
-        commits-left = says;
+        commits_left = says;
         ended = λ n is less room.
             let count : left ≡ n = cc in
-            subst (λ (j : ℕ). ends program (runAfter program memory (x.commits + j)) ≡ true) count
-            (left-ends program memory (min k (length list / perCommit)) x.commits (omega (arith, count)));
+            subst (λ (j : ℕ). ends program (run_after program memory (x.commits + j)) ≡ true) count
+            (left_ends program memory (min k (length list / per_commit)) x.commits (omega (arith, count)));
       }
 
 -- ---- from an opening
 
 -- of the play
-pub finish-theorem : {O S : Type 0} {E : Engine O S} (owes : Owes E) (o : O) (program memory : List ℕ)
-    → refusal (Over.openChecks E o program memory) ≡ 0
+pub finish_theorem : {O S : Type 0} {E : Engine O S} (owes : Owes E) (o : O) (program memory : List ℕ)
+    → refusal (Over.open_checks E o program memory) ≡ 0
     → (calls : List Call) (k : ℕ) (list : List ℕ)
     → let x = after E o program memory calls in
     FinishTruth program memory x.commits k list (Over.respond E program (finish k list) x.state x.memory).answer
-finish-theorem {E = E} owes o program memory opens calls =
-    finish-truth owes program memory (after E o program memory calls) (held_after owes o program memory opens calls)
+finish_theorem {E = E} owes o program memory opens calls =
+    finish_truth owes program memory (after E o program memory calls) (held_after owes o program memory opens calls)
 
 -- of the calls: a finish after any life of an opened program
-pub calls-finish : {O S : Type 0} {E : Engine O S} (owes : Owes E) {R : Realization E} {o : O} {program w : List ℕ}
+pub calls_finish : {O S : Type 0} {E : Engine O S} (owes : Owes E) {R : Realization E} {o : O} {program w : List ℕ}
     {m : R.Machine} (opens : Opens R o program w done m) {cs : List Call} {answers : List Answer} {u : R.Machine}
     {v record' : List ℕ} {c : ℕ} (life : Life R program m w cs answers u v record' c) {k : ℕ} {list : List ℕ} {said : Answer}
     {x : R.Machine} {y kept : List ℕ}
     → Meets R program u (finish k list) v said x y kept
     → FinishTruth program w c k list said
-calls-finish owes {o = o} {program = program} {w = w} opens {cs = cs} life {k = k} {list = list} meets =
-    subst (FinishTruth program w _ k list) (sym (meets.answer (from-opening opens life).sound))
-    (finish-truth owes program w (there opens life)
-    (holds-there opens life (Held owes program w) (held_after owes o program w (done-opens opens) cs)) k list)
+calls_finish owes {o = o} {program = program} {w = w} opens {cs = cs} life {k = k} {list = list} meets =
+    subst (FinishTruth program w _ k list) (sym (meets.answer (from_opening opens life).sound))
+    (finish_truth owes program w (there opens life)
+    (holds_there opens life (Held owes program w) (held_after owes o program w (done_opens opens) cs)) k list)

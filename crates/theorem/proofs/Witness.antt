@@ -14,22 +14,22 @@ use Prim.Native.Nat.{ℕ, suc, ◌+◌, ◌≤◌}
 use native.Mathlib.Omega.{arith}
 use lib.ListN.{length, take, drop, replicate}
 use Rattle.marks.specs.Circle.{stage}
-use Rattle.table.specs.Limits.{sizesFit}
+use Rattle.table.specs.Limits.{sizes_fit}
 use Rattle.table.specs.Reference.{State}
 use Rattle.engine.specs.Contract.{refused, done, named, executed, committed, finished}
 use Rattle.machine_model.specs.Calls.{banked, buffered, Call, issue, execute, squash, commit, finish, Answer, respond, opened}
-use Rattle.sequential.specs.Sequential.{runAfter, ends, step}
-use Rattle.sequential.specs.Play.{without, Played, play, start, answersOf, allAccepted}
+use Rattle.sequential.specs.Sequential.{run_after, ends, step}
+use Rattle.sequential.specs.Play.{without, Played, play, start, answers_of, all_accepted}
 use Rattle.theorem.specs.Truth.{run, next, Truth}
-use Rattle.theorem.specs.Finish.{stepsLeft, FinishTruth}
+use Rattle.theorem.specs.Finish.{steps_left, FinishTruth}
 use Rattle.theorem.specs.Unrolled.{repeated, unrolled}
-use Rattle.theorem.specs.Answered.{told, toldAfter, oldest}
+use Rattle.theorem.specs.Answered.{told, told_after, oldest}
 use Rattle.sequential.proofs.Cases.{computing}
-use Rattle.theorem.proofs.Buffered.{buffer-owes}
-use Rattle.theorem.proofs.Record.{record-theorem}
-use Rattle.theorem.proofs.Finished.{finish-theorem}
-use Rattle.theorem.proofs.Outcome.{one-outcome}
-use Rattle.theorem.proofs.Answered.{commit-passes}
+use Rattle.theorem.proofs.Buffered.{buffer_owes}
+use Rattle.theorem.proofs.Record.{record_theorem}
+use Rattle.theorem.proofs.Finished.{finish_theorem}
+use Rattle.theorem.proofs.Outcome.{one_outcome}
+use Rattle.theorem.proofs.Answered.{commit_passes}
 
 -- r1 becomes 9; it is stored at 3; r2 loads 3; r3 loads 4
 abbrev pub program : List ℕ
@@ -53,7 +53,7 @@ x = play buffered program opening calls
 -- Nothing is live at first. The load takes 5, too early: the older store to 3 executes later and squashes from position 2, a
 -- violation. After two commits the window stands at stages 2 and 0. The load of 4 takes the one row; the older load of 3
 -- evicts it and squashes from position 1. The finish commits that load, and then the other, issued and executed once more.
-pub answered : answersOf buffered program opening calls
+pub answered : answers_of buffered program opening calls
     ≡ refused 11 ∷ named 0 ∷ named 1 ∷ named 2 ∷ executed 5 0 none ∷ executed 0 0 none ∷ executed 0 0 (some 2)
     ∷ committed 0 1 1 9 0
     ∷ committed 1 4 3 9 0
@@ -78,38 +78,38 @@ abbrev pub numbers : List ℕ
 numbers = 0 ∷ 1 ∷ 1 ∷ 9 ∷ 0 ∷ 1 ∷ 4 ∷ 3 ∷ 9 ∷ 0 ∷ 2 ∷ 3 ∷ 2 ∷ 9 ∷ 0 ∷ 3 ∷ 3 ∷ 3 ∷ 6 ∷ 0 ∷ []
 
 -- four commits, and what they recorded, as the sequential run does but for the distances
-pub recorded : (x.record' ≡ numbers) × (x.commits ≡ 4) × ((runAfter program memory 4).record' ≡ without numbers)
+pub recorded : (x.record' ≡ numbers) × (x.commits ≡ 4) × ((run_after program memory 4).record' ≡ without numbers)
 unfolding computing without
 recorded = (refl, refl, refl)
 
 -- one of the calls is refused, the first; without it none is
-pub told-apart : (allAccepted buffered program opening calls ≡ false) × (allAccepted buffered program opening (drop 1 calls) ≡ true)
+pub told_apart : (all_accepted buffered program opening calls ≡ false) × (all_accepted buffered program opening (drop 1 calls) ≡ true)
 unfolding computing
-told-apart = (refl, refl)
+told_apart = (refl, refl)
 
 -- and the theorem is about it: the opening passes its checks
-pub true-of-it : (cs : List Call) → Truth buffered program memory (play buffered program opening cs)
-unfolding computing sizesFit
-true-of-it cs = record-theorem buffer-owes (banked 1 1 3 8) program memory refl cs
+pub true_of_it : (cs : List Call) → Truth buffered program memory (play buffered program opening cs)
+unfolding computing sizes_fit
+true_of_it cs = record_theorem buffer_owes (banked 1 1 3 8) program memory refl cs
 
 -- After the wrap two instructions are committed and two are left. Two calls are needed to commit the next one, the load of 3.
-pub next-there : (next program wrap ≡ execute 0 ∷ commit ∷ []) × (wrap.commits ≡ 2) × (ends program (run program memory wrap) ≡ false)
+pub next_there : (next program wrap ≡ execute 0 ∷ commit ∷ []) × (wrap.commits ≡ 2) × (ends program (run program memory wrap) ≡ false)
     × ((step program (run program memory wrap)).record' ≡ without (take 15 numbers))
 unfolding computing without
-next-there = (refl, refl, refl, refl)
+next_there = (refl, refl, refl, refl)
 
 -- both are accepted, and the record then has its numbers too: concluded, not computed
-pub goes-on-there : (allAccepted buffered program wrap (next program wrap) ≡ true) × (length (next program wrap) ≤ 3)
+pub goes_on_there : (all_accepted buffered program wrap (next program wrap) ≡ true) × (length (next program wrap) ≤ 3)
     × ((play buffered program wrap (next program wrap)).commits ≡ 3)
     × (without (play buffered program wrap (next program wrap)).record' ≡ without (take 15 numbers))
-goes-on-there =
-    let g = (true-of-it (take 11 calls)).goes_on next-there.2 in
-    (g.0, g.1, g.2 ∙ ap suc next-there.1, g.3 ∙ next-there.3)
+goes_on_there =
+    let g = (true_of_it (take 11 calls)).goes_on next_there.2 in
+    (g.0, g.1, g.2 ∙ ap suc next_there.1, g.3 ∙ next_there.3)
 
 -- at the end no further calls commit anything
-pub stops-there : (more : List Call) → (play buffered program x more).commits ≡ 4
+pub stops_there : (more : List Call) → (play buffered program x more).commits ≡ 4
 unfolding computing
-stops-there more = (true-of-it calls).stops refl more
+stops_there more = (true_of_it calls).stops refl more
 
 -- the same program finished in order, on two banks and a longer window: as many commits, so one outcome
 abbrev y : Played State
@@ -119,13 +119,13 @@ as_many : x.commits ≡ y.commits
 unfolding computing
 as_many = refl
 
-true-in-order : Truth buffered program memory y
-unfolding computing sizesFit
-true-in-order = record-theorem buffer-owes (banked 2 1 5 8) program memory refl (finish 9 (replicate 20 0) ∷ [])
+true_in_order : Truth buffered program memory y
+unfolding computing sizes_fit
+true_in_order = record_theorem buffer_owes (banked 2 1 5 8) program memory refl (finish 9 (replicate 20 0) ∷ [])
 
-pub outcome-there : (without x.record' ≡ without y.record') × (x.state.registers ≡ y.state.registers)
+pub outcome_there : (without x.record' ≡ without y.record') × (x.state.registers ≡ y.state.registers)
     × (x.memory ≡ y.memory)
-outcome-there = one-outcome (true-of-it calls) true-in-order as_many
+outcome_there = one_outcome (true_of_it calls) true_in_order as_many
 
 -- ---- a finish
 
@@ -136,23 +136,23 @@ two = play buffered program opening (take 13 calls)
 abbrev said : Answer
 said = (respond program (finish 5 (replicate 20 0)) two.state two.memory).answer
 
-two-committed : two.commits ≡ 2
+two_committed : two.commits ≡ 2
 unfolding computing
-two-committed = refl
+two_committed = refl
 
-finish-true : FinishTruth program memory two.commits 5 (replicate 20 0) said
-unfolding computing sizesFit
-finish-true = finish-theorem buffer-owes (banked 1 1 3 8) program memory refl (take 13 calls) 5 (replicate 20 0)
+finish_true : FinishTruth program memory two.commits 5 (replicate 20 0) said
+unfolding computing sizes_fit
+finish_true = finish_theorem buffer_owes (banked 1 1 3 8) program memory refl (take 13 calls) 5 (replicate 20 0)
 
 -- it says 2, as many as the run has left: of the finish nothing is computed
-pub finish-says : said ≡ finished 2
-unfolding stepsLeft runAfter
-finish-says =
-    finish-true.commits-left ∙ ap (λ (c : ℕ). finished (stepsLeft program (runAfter program memory c) 4)) two-committed
+pub finish_says_lem : said ≡ finished 2
+unfolding steps_left run_after
+finish_says_lem =
+    finish_true.commits_left ∙ ap (λ (c : ℕ). finished (steps_left program (run_after program memory c) 4)) two_committed
 
 -- that is fewer than its limit and than its list has room for, so the run has ended
-pub finish-ends : ends program (runAfter program memory (two.commits + 2)) ≡ true
-finish-ends = finish-true.ended 2 finish-says (omega arith) (omega arith)
+pub finish_ends : ends program (run_after program memory (two.commits + 2)) ≡ true
+finish_ends = finish_true.ended 2 finish_says_lem (omega arith) (omega arith)
 
 -- ---- a run that ends at a fault
 
@@ -161,11 +161,11 @@ finish-ends = finish-true.ended 2 finish-says (omega arith) (omega arith)
 abbrev parts : List ℕ
 parts = 1 ∷ 1 ∷ 0 ∷ 511 ∷ 5 ∷ 1 ∷ 0 ∷ 13 ∷ 6 ∷ 1 ∷ 0 ∷ 14 ∷ 3 ∷ 2 ∷ 0 ∷ 3 ∷ 6 ∷ 1 ∷ 0 ∷ 13 ∷ []
 
-abbrev part-opening : Played State
-part-opening = start (opened (banked 1 1 3 8) parts) memory
+abbrev part_opening : Played State
+part_opening = start (opened (banked 1 1 3 8) parts) memory
 
-abbrev part-calls : List Call
-part-calls =
+abbrev part_calls : List Call
+part_calls =
     issue ∷ issue ∷ issue ∷ execute 0 ∷ execute 2 ∷ execute 1 ∷ commit ∷ issue ∷ issue ∷ execute 1 ∷ execute 2
     ∷ finish 5 (replicate 21 0)
     ∷ commit
@@ -174,7 +174,7 @@ part-calls =
 
 -- The half word goes first and is squashed by the byte, a store to its word. It goes again, and the load takes its word from
 -- one position older. The finish commits three and leaves the odd one executed, whose commit is refused.
-pub part-answered : answersOf buffered parts part-opening part-calls
+pub part_answered : answers_of buffered parts part_opening part_calls
     ≡ named 0 ∷ named 1 ∷ named 2 ∷ executed 0 0 none ∷ executed 0 0 none ∷ executed 0 0 (some 2)
     ∷ committed 0 1 1 511 0
     ∷ named 1
@@ -186,49 +186,49 @@ pub part-answered : answersOf buffered parts part-opening part-calls
     ∷ done
     ∷ []
 unfolding computing
-part-answered = refl
+part_answered = refl
 
 -- The record has the byte numbers and the whole words, and the load's distance though the half word committed before it. It is
 -- the run's but for the distances, and the run has ended.
-abbrev part-numbers : List ℕ
-part-numbers =
+abbrev part_numbers : List ℕ
+part_numbers =
     0 ∷ 1 ∷ 1 ∷ 511 ∷ 0 ∷ 1 ∷ 5 ∷ 13 ∷ 65285 ∷ 0 ∷ 2 ∷ 6 ∷ 14 ∷ 33554181 ∷ 0 ∷ 3 ∷ 3 ∷ 2 ∷ 33554181 ∷ 1 ∷ []
 
-pub part-recorded : ((play buffered parts part-opening part-calls).record' ≡ part-numbers)
-    × ((runAfter parts memory 4).record' ≡ without part-numbers)
-    × (ends parts (runAfter parts memory 4) ≡ true)
+pub part_recorded : ((play buffered parts part_opening part_calls).record' ≡ part_numbers)
+    × ((run_after parts memory 4).record' ≡ without part_numbers)
+    × (ends parts (run_after parts memory 4) ≡ true)
 unfolding computing without
-part-recorded = (refl, refl, refl)
+part_recorded = (refl, refl, refl)
 
 -- though an instruction is left and its place in the window is free again, no further calls commit anything
-pub part-stops : (more : List Call) → (play buffered parts (play buffered parts part-opening part-calls) more).commits ≡ 4
-unfolding computing sizesFit
-part-stops more = (record-theorem buffer-owes (banked 1 1 3 8) parts memory refl part-calls).stops refl more
+pub part_stops : (more : List Call) → (play buffered parts (play buffered parts part_opening part_calls) more).commits ≡ 4
+unfolding computing sizes_fit
+part_stops more = (record_theorem buffer_owes (banked 1 1 3 8) parts memory refl part_calls).stops refl more
 
 -- ---- what an execution answered
 
 -- of the three entries that are live before the finish: the byte and the half word have no distance, the load has one
-pub part-told : toldAfter [] (take 11 part-calls) (answersOf buffered parts part-opening (take 11 part-calls))
+pub part_told : told_after [] (take 11 part_calls) (answers_of buffered parts part_opening (take 11 part_calls))
     ≡ told 0 0 ∷ told 0 0 ∷ told 33554181 1 ∷ []
-unfolding computing toldAfter
-part-told = refl
+unfolding computing told_after
+part_told = refl
 
 -- the finish repeats three commits, and then issue, execute and a commit, which is refused
-abbrev until-load : List Call
-until-load = take 11 part-calls ++ (commit ∷ commit ∷ [])
+abbrev until_load : List Call
+until_load = take 11 part_calls ++ (commit ∷ commit ∷ [])
 
-pub part-unrolled : unrolled buffered parts part-opening (take 12 part-calls) ≡ until-load ++ (commit ∷ issue ∷ execute 0 ∷ commit ∷ [])
+pub part_unrolled : unrolled buffered parts part_opening (take 12 part_calls) ≡ until_load ++ (commit ∷ issue ∷ execute 0 ∷ commit ∷ [])
 unfolding computing unrolled repeated
-part-unrolled = refl
+part_unrolled = refl
 
 -- the third commits the load, two commits after its execution: what that one answered is concluded from the commit
-load-committed : (respond parts commit (play buffered parts part-opening until-load).state (play buffered parts part-opening until-load).memory
+load_committed : (respond parts commit (play buffered parts part_opening until_load).state (play buffered parts part_opening until_load).memory
     ).answer
     ≡ committed 3 3 2 33554181 1
 unfolding computing
-load-committed = refl
+load_committed = refl
 
-pub part-passed : oldest (toldAfter [] until-load (answersOf buffered parts part-opening until-load)) ≡ told 33554181 1
-part-passed =
-    commit-passes buffered parts part-opening refl (take 12 part-calls) until-load (issue ∷ execute 0 ∷ commit ∷ []) part-unrolled 3 3 2
-    33554181 1 load-committed
+pub part_passed : oldest (told_after [] until_load (answers_of buffered parts part_opening until_load)) ≡ told 33554181 1
+part_passed =
+    commit_passes buffered parts part_opening refl (take 12 part_calls) until_load (issue ∷ execute 0 ∷ commit ∷ []) part_unrolled 3 3 2
+    33554181 1 load_committed

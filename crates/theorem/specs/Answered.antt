@@ -37,10 +37,10 @@ tells ts commit a = cond (is_refused a) ts (drop 1 ts)
 tells ts (finish k list) a = ts
 
 -- the same after several calls
-unfoldable pub toldAfter : List Told → List Call → List Answer → List Told
-toldAfter ts [] answers = ts
-toldAfter ts (c ∷ cs) [] = ts
-toldAfter ts (c ∷ cs) (a ∷ answers) = toldAfter (tells ts c a) cs answers
+unfoldable pub told_after : List Told → List Call → List Answer → List Told
+told_after ts [] answers = ts
+told_after ts (c ∷ cs) [] = ts
+told_after ts (c ∷ cs) (a ∷ answers) = told_after (tells ts c a) cs answers
 
 -- what is told of the oldest
 abbrev pub oldest : List Told → Told

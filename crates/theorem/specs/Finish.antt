@@ -4,16 +4,16 @@
 -- Assumes nothing.
 use Rattle.std.specs.Prelude.{◌≡◌, true, cond, List, ℕ, zero, suc, ◌+◌, ◌*◌, ◌/◌, ◌≤◌, ◌<◌, min, length}
 use Rattle.engine.specs.Contract.{finished}
-use Rattle.machine_model.specs.Over.{Answer, perCommit}
-use Rattle.sequential.specs.Sequential.{Run, runAfter, ends, step}
+use Rattle.machine_model.specs.Over.{Answer, per_commit}
+use Rattle.sequential.specs.Sequential.{Run, run_after, ends, step}
 
 -- how many steps the run has left at r, counted up to m
-unfoldable pub stepsLeft : List ℕ → Run → ℕ → ℕ
-stepsLeft program r zero = 0
-stepsLeft program r (suc m) = cond (ends program r) 0 (suc (stepsLeft program (step program r) m))
+unfoldable pub steps_left : List ℕ → Run → ℕ → ℕ
+steps_left program r zero = 0
+steps_left program r (suc m) = cond (ends program r) 0 (suc (steps_left program (step program r) m))
 
 -- Of the run from this memory c instructions were committed, then a finish with limit k and this list said `said`.
 pub record FinishTruth (program memory : List ℕ) (c k : ℕ) (list : List ℕ) (said : Answer) : Type 0 where
-  pub commits-left : said ≡ finished (stepsLeft program (runAfter program memory c) (min k (length list / perCommit)))
-  pub ended : (n : ℕ) → said ≡ finished n → n < k → n * perCommit + perCommit ≤ length list
-      → ends program (runAfter program memory (c + n)) ≡ true
+  pub commits_left : said ≡ finished (steps_left program (run_after program memory c) (min k (length list / per_commit)))
+  pub ended : (n : ℕ) → said ≡ finished n → n < k → n * per_commit + per_commit ≤ length list
+      → ends program (run_after program memory (c + n)) ≡ true

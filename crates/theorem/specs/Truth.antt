@@ -3,30 +3,30 @@
 -- proofs/Closing.antt of every engine that owes what proofs/Owing.antt asks.
 -- Assumes nothing.
 use Rattle.std.specs.Prelude.{◌≡◌, true, false, List, ◌++◌, ℕ, suc, ◌*◌, ◌≤◌, length}
-use Rattle.machine_model.specs.Over.{Engine, Realization, Call, Answer, perCommit}
-use Rattle.sequential.specs.Sequential.{Run, runAfter, ends, step}
-use Rattle.sequential.specs.Play.{without, Played, play, needed, noneRefused, allAccepted}
+use Rattle.machine_model.specs.Over.{Engine, Realization, Call, Answer, per_commit}
+use Rattle.sequential.specs.Sequential.{Run, run_after, ends, step}
+use Rattle.sequential.specs.Play.{without, Played, play, needed, none_refused, all_accepted}
 use Rattle.theorem.specs.Life.{Life}
 
 -- the sequential run of the program from the memory as lent at opening, after as many steps as x has commits
 abbrev pub run : {S : Type 0} → List ℕ → List ℕ → Played S → Run
-run program memory x = runAfter program memory x.commits
+run program memory x = run_after program memory x.commits
 
 abbrev pub next : {S : Type 0} → List ℕ → Played S → List Call
 next program x = needed program x.state
 
--- Any list of calls on an opened program, refused ones among them, came to x. The record of x, perCommit (five) numbers a
+-- Any list of calls on an opened program, refused ones among them, came to x. The record of x, per_commit (five) numbers a
 -- commit, is without its distances the record of the run, and the committed registers and the memory are the run's. As long as
 -- the run has not ended, `next`, at most three calls that 01 names, are all accepted after x and commit its next instruction:
 -- they commit one more, and the record without its distances is then that of the run after its next step. Once it has ended, no
 -- further calls commit anything.
 pub record Truth {O S : Type 0} (E : Engine O S) (program memory : List ℕ) (x : Played S) : Type 0 where
   pub record_is : without x.record' ≡ (run program memory x).record'
-  pub record-grows : length x.record' ≡ x.commits * perCommit
-  pub registers-are : x.state.registers ≡ (run program memory x).registers
-  pub memory-is : x.memory ≡ (run program memory x).memory
+  pub record_grows : length x.record' ≡ x.commits * per_commit
+  pub registers_are : x.state.registers ≡ (run program memory x).registers
+  pub memory_is : x.memory ≡ (run program memory x).memory
   pub goes_on : ends program (run program memory x) ≡ false
-      → (allAccepted E program x (next program x) ≡ true) × (length (next program x) ≤ 3)
+      → (all_accepted E program x (next program x) ≡ true) × (length (next program x) ≤ 3)
       × ((play E program x (next program x)).commits ≡ suc x.commits)
       × (without (play E program x (next program x)).record' ≡ (step program (run program memory x)).record')
   pub stops : ends program (run program memory x) ≡ true → (more : List Call) → (play E program x more).commits ≡ x.commits
@@ -38,15 +38,15 @@ pub record Truth {O S : Type 0} (E : Engine O S) (program memory : List ℕ) (x 
 -- its next step. Once it has ended, any further calls tell of none.
 pub record CallsTruth {O S : Type 0} {E : Engine O S} (R : Realization E) (program w : List ℕ) (u : R.Machine)
     (v record' : List ℕ) (k : ℕ) : Type 0 where
-  pub record_is : without record' ≡ (runAfter program w k).record'
-  pub record-grows : length record' ≡ k * perCommit
-  pub registers-are : (R.plain u).registers ≡ (runAfter program w k).registers
-  pub memory-is : v ≡ (runAfter program w k).memory
-  pub goes_on : ends program (runAfter program w k) ≡ false → {answers : List Answer} {x : R.Machine} {y more : List ℕ} {j : ℕ}
+  pub record_is : without record' ≡ (run_after program w k).record'
+  pub record_grows : length record' ≡ k * per_commit
+  pub registers_are : (R.plain u).registers ≡ (run_after program w k).registers
+  pub memory_is : v ≡ (run_after program w k).memory
+  pub goes_on : ends program (run_after program w k) ≡ false → {answers : List Answer} {x : R.Machine} {y more : List ℕ} {j : ℕ}
       → Life R program u v (needed program (R.plain u)) answers x y more j
-      → (noneRefused answers ≡ true) × (length (needed program (R.plain u)) ≤ 3) × (j ≡ 1)
-      × (without (record' ++ more) ≡ (step program (runAfter program w k)).record')
-  pub stops : ends program (runAfter program w k) ≡ true → {cs : List Call} {answers : List Answer} {x : R.Machine}
+      → (none_refused answers ≡ true) × (length (needed program (R.plain u)) ≤ 3) × (j ≡ 1)
+      × (without (record' ++ more) ≡ (step program (run_after program w k)).record')
+  pub stops : ends program (run_after program w k) ≡ true → {cs : List Call} {answers : List Answer} {x : R.Machine}
       {y more : List ℕ} {j : ℕ}
       → Life R program u v cs answers x y more j
       → j ≡ 0

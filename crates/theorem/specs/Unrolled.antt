@@ -3,7 +3,7 @@
 -- Assumes nothing.
 use Rattle.std.specs.Prelude.{cond, ◌||◌, List, [], ◌∷◌, ◌++◌, ℕ, zero, suc, ◌-◌, eqb, ltb, length}
 use Rattle.engine.specs.Conditions.{refusal}
-use Rattle.machine_model.specs.Over.{Engine, Call, issue, execute, squash, commit, finish, perCommit, programDone, finishChecks}
+use Rattle.machine_model.specs.Over.{Engine, Call, issue, execute, squash, commit, finish, per_commit, program_done, finish_checks}
 use Rattle.sequential.specs.Play.{Played, plays, play, needed}
 
 -- none of these calls is a finish
@@ -25,8 +25,8 @@ module _ {O S : Type 0} (E : Engine O S) (program : List ℕ) where
   repeated (suc k) places x =
       let calls = needed program x.state in
       let y = play E program x calls in
-      cond (ltb places perCommit || programDone x.state) []
-      (calls ++ cond (eqb y.commits x.commits) [] (repeated k (places - perCommit) y))
+      cond (ltb places per_commit || program_done x.state) []
+      (calls ++ cond (eqb y.commits x.commits) [] (repeated k (places - per_commit) y))
 
   -- a finish stands for the calls that it repeats, a refused one for none, and any other call for itself
   abbrev pub stands_for : Played S → Call → List Call
@@ -35,7 +35,7 @@ module _ {O S : Type 0} (E : Engine O S) (program : List ℕ) where
   stands_for x (squash p) = squash p ∷ []
   stands_for x commit = commit ∷ []
   stands_for x (finish k list) =
-      cond (eqb (refusal (finishChecks E program x.state x.memory)) 0) (repeated k (length list) x) []
+      cond (eqb (refusal (finish_checks E program x.state x.memory)) 0) (repeated k (length list) x) []
 
   unfoldable pub unrolled : Played S → List Call → List Call
   unrolled x [] = []

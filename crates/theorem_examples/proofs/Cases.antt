@@ -3,8 +3,8 @@
 use mathlib.Core.Path.{refl}
 use Rattle.sequential.specs.Examples.{AllCome}
 use Rattle.sequential.proofs.Cases.{computing, each}
-use Rattle.theorem_examples.specs.Calls.{PlayExample, playedTo, callTable}
+use Rattle.theorem_examples.specs.Calls.{PlayExample, played_to, call_table}
 
-pub calls-shown : AllCome playedTo (λ (e : PlayExample). e.outcome) callTable
-unfolding callTable computing
-calls-shown = each playedTo (λ (e : PlayExample). e.outcome) callTable refl
+pub calls_shown : AllCome played_to (λ (e : PlayExample). e.outcome) call_table
+unfolding call_table computing
+calls_shown = each played_to (λ (e : PlayExample). e.outcome) call_table refl

@@ -6,9 +6,9 @@ use Rattle.std.specs.Prelude.{Bool, true, false, List, [], ◌∷◌, ◌++◌, 
 use Rattle.std.proofs.Math.Option.{none, some}
 use Rattle.engine.specs.Contract.{refused, named, executed, done, committed, finished}
 use Rattle.machine_model.specs.Calls.{banked, buffered, Call, issue, execute, squash, commit, finish, Answer, opened}
-use Rattle.sequential.specs.Play.{play, start, answersOf, allAccepted}
+use Rattle.sequential.specs.Play.{play, start, answers_of, all_accepted}
 use Rattle.theorem.specs.Truth.{next}
-use Rattle.sequential.specs.Examples.{five, A, P, L, S, B, H, bytes, mixed, mixedCommits, laid, laidCommits}
+use Rattle.sequential.specs.Examples.{five, A, P, L, S, B, H, bytes, mixed, mixed_commits, laid, laid_commits}
 
 -- what calls come to: their answers, whether none was refused, the record, the number of commits and the calls needed next
 pub record PlayOutcome : Type 0 where
@@ -25,13 +25,13 @@ pub record PlayExample : Type 0 where
   pub outcome : PlayOutcome
 
 -- what a row's calls come to after an opening with one bank, four rows, four stages and as many words as the memory has
-abbrev pub playedTo : PlayExample → PlayOutcome
-playedTo e =
+abbrev pub played_to : PlayExample → PlayOutcome
+played_to e =
     let x = start (opened (banked 1 4 4 (length e.memory)) e.program) e.memory in
     let y = play buffered e.program x e.calls in
     record {
-      answers = answersOf buffered e.program x e.calls;
-      accepted = allAccepted buffered e.program x e.calls;
+      answers = answers_of buffered e.program x e.calls;
+      accepted = all_accepted buffered e.program x e.calls;
       record' = y.record';
       commits = y.commits;
       needs = next e.program y;
@@ -51,8 +51,8 @@ called program memory calls answers accepted numbers commits needs =
 abbrev pub played : List Call → List Answer → Bool → List ℕ → ℕ → List Call → PlayExample
 played = called (A 1 0 5 ++ S 1 0 3 ++ L 2 0 3) (replicate 8 0)
 
-unfoldable pub callTable : List PlayExample
-callTable =
+unfoldable pub call_table : List PlayExample
+call_table =
     -- The empty list. With nothing live the next instruction is issued, executed and committed.
     played [] [] true [] 0 (issue ∷ execute 0 ∷ commit ∷ [])
     -- An oldest that waits is executed and committed; one that has executed is committed.
@@ -115,8 +115,8 @@ callTable =
     ∷ finish 9 (replicate 26 7) ∷ [])
     (named 0 ∷ named 1 ∷ named 2 ∷ named 3 ∷ executed 0 0 none ∷ executed 0 0 none ∷ executed 0 0 (some 3) ∷ executed 0 0 (some 2)
     ∷ committed 0 1 1 511 0 ∷ committed 1 5 3 (bytes 0 0 0 255) 0 ∷ named 0 ∷ executed 0 0 none ∷ finished 3 ∷ [])
-    true mixedCommits 5 (issue ∷ execute 0 ∷ commit ∷ [])
-    ∷ called mixed (0 ∷ []) (finish 9 (replicate 26 7) ∷ []) (finished 5 ∷ []) true mixedCommits 5
+    true mixed_commits 5 (issue ∷ execute 0 ∷ commit ∷ [])
+    ∷ called mixed (0 ∷ []) (finish 9 (replicate 26 7) ∷ []) (finished 5 ∷ []) true mixed_commits 5
     (issue ∷ execute 0 ∷ commit ∷ [])
     -- A load goes before a part that leaves its word as it was, and is kept; the part went before a store of another word, and is
     -- squashed by that.
@@ -126,7 +126,7 @@ callTable =
     (named 0 ∷ named 1 ∷ named 2 ∷ named 3 ∷ executed 0 0 none ∷ executed 0 0 none ∷ executed 0 0 none
     ∷ executed 0 0 (some 2) ∷ committed 0 1 1 511 0 ∷ committed 1 4 0 511 0 ∷ named 0 ∷ executed 0 0 none ∷ committed 2 5 0 256 0
     ∷ named 0 ∷ executed 256 0 none ∷ committed 3 3 2 256 0 ∷ [])
-    true laidCommits 4 (issue ∷ execute 0 ∷ commit ∷ [])
+    true laid_commits 4 (issue ∷ execute 0 ∷ commit ∷ [])
     -- A part and a load take the words of older parts that are not in memory yet; nothing is squashed.
     ∷ called (B 0 0 3 ++ L 1 0 0 ++ B 0 0 4) (replicate 8 0)
     (issue ∷ issue ∷ issue ∷ execute 0 ∷ execute 1 ∷ execute 2 ∷ commit ∷ commit ∷ [])

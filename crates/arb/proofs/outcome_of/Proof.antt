@@ -11,8 +11,8 @@ invariant-loop out i₀ first₀ i first = i ≤ length out
 abbrev decreases-loop : tie.decreases-loop
 decreases-loop out i₀ first₀ i first = i
 
-pub outcome-of-spec : {M : Type 1} → statement M
-outcome-of-spec =
+pub outcome_of_spec : {M : Type 1} → statement M
+outcome_of_spec =
     tie.close
     (tie.spec
     invariant-loop decreases-loop (λ c. search rules) (λ c. search rules) (λ c. search rules) (λ c. search rules) (λ c. search rules)

@@ -6,7 +6,7 @@ use lib.ListN.{length}
 use borrow.Author.Rules.{rules}
 use Rattle.player_model.specs.Playing.{longest}
 use Rattle.player_model.proofs.Invariant.{weight}
-use Rattle.player_model.proofs.StepContract.{fills-falls}
+use Rattle.player_model.proofs.StepContract.{fills_falls}
 use Rattle.arb.proofs.play.Statement.{statement}
 use Rattle.arb.proofs.play.Tie as tie
 
@@ -21,11 +21,11 @@ loop-less : tie.Need-loop-smaller invariant-loop decreases-loop
 loop-less c =
     let turn = c.before.before.before.before.before.before.before.before.before.before.before.before in
     let start = turn.before.before.before.before in
-    fills-falls turn.fill.ensures (sym start.before.is-over.ensures ∙ start.if1.false)
+    fills_falls turn.fill.ensures (sym start.before.is-over.ensures ∙ start.if1.false)
     start.before.before.loop.invariant.0
 
-pub play-spec : {M : Type 1} → statement M
-play-spec =
+pub play_spec : {M : Type 1} → statement M
+play_spec =
     tie.close
     (tie.spec
     invariant-loop decreases-loop (λ c κs. search rules) (λ c. search rules) (λ c κs. search rules) (λ c. search rules) (λ c. search rules)

@@ -12,8 +12,8 @@ invariant-loop buf₀ done₀ buf done = (done ≤ length buf) × (length buf �
 abbrev decreases-loop : tie.decreases-loop
 decreases-loop buf₀ done₀ buf done = length buf - done
 
-pub read-all-spec : {M : Type 1} → statement M
-read-all-spec =
+pub read_all_spec : {M : Type 1} → statement M
+read_all_spec =
     tie.close
     (tie.spec
     invariant-loop decreases-loop (λ c. search rules) (λ c. search rules) (λ c. search rules) (λ c. search rules) (λ c κs. search rules)

@@ -1,4 +1,4 @@
--- `buffer_moves::commit` meets its contract. Broken rules are refused with 2 (broken-meets); each other return is a law of
+-- `buffer_moves::commit` meets its contract. Broken rules are refused with 2 (broken_meets); each other return is a law of
 -- proofs/Committing.antt on the table passed, given what the tests before it said: the rules hold, memory has W words,
 -- a reference is live, the oldest has executed, it does not fault. Assumes nothing.
 use Rattle.std.proofs.Common.{◌≡◌, ℕ, ◌<◌, true, false, length, sym, ap, ◌∙◌, arith, rules}
@@ -6,17 +6,17 @@ use borrow.Author.Tests.{not-true, not-false}
 use Rattle.marks.specs.Stages.{has}
 use Rattle.table.specs.declared.Table.{Table}
 use Rattle.table.specs.Rules.{Rules}
-use Rattle.engine.proofs.Lengths.{Lengths, lengths-of, fits, circle-asks, oldest-small, next-asks}
-use Rattle.lookup.specs.computed.Search.{markedFate}
+use Rattle.engine.proofs.Lengths.{Lengths, lengths_of, fits, circle_asks, oldest_small, next_asks}
+use Rattle.lookup.specs.Computed.Search.{marked_fate}
 use Rattle.engine.specs.Conditions.{faults}
-use Rattle.buffer_model.proofs.MeetingContract.{checked-rules, broken-meets}
+use Rattle.buffer_model.proofs.MeetingContract.{checked_rules, broken_meets}
 use Rattle.buffer_model.proofs.Committing.{
-  oldestFate,
-  length-refused,
-  empty-refused,
-  waiting-refused,
-  fault-refused,
-  commit-meets,
+  oldest_fate,
+  length_refused,
+  empty_refused,
+  waiting_refused,
+  fault_refused,
+  commit_meets,
 }
 use Rattle.buffer_moves.proofs.commit.Statement.{statement}
 use Rattle.buffer_moves.proofs.commit.Tie as tie
@@ -49,11 +49,11 @@ abbrev lawful : tie.Else4 → tie.Else1
 lawful c = checked (lent (live c))
 
 lengths : (c : tie.Start) → Lengths (table c)
-lengths c = lengths-of (table c) c.well-formed.0
+lengths c = lengths_of (table c) c.well-formed.0
 
 -- past the check the table keeps its rules
-rules-at : (c : tie.Else1) → Rules (table (entry c))
-rules-at c = checked-rules _ c.before.keeps-rules.ensures c.if1.false
+rules_at : (c : tie.Else1) → Rules (table (entry c))
+rules_at c = checked_rules _ c.before.keeps-rules.ensures c.if1.false
 
 length_at : (c : tie.Else2) → let start = entry (checked c) in length start.args.memory.now ≡ (table start).words
 length_at c = search rules
@@ -61,83 +61,83 @@ length_at c = search rules
 live_at : (c : tie.Else3) → 0 < (table (entry (checked (lent c)))).live
 live_at c = search rules
 
-executed-at : (c : tie.Else4) → let t = table (entry (lawful c)) in has t.executed t.oldest ≡ true
-executed-at c = sym c.before.contains.ensures ∙ not-false _ c.if4.false
+executed_at : (c : tie.Else4) → let t = table (entry (lawful c)) in has t.executed t.oldest ≡ true
+executed_at c = sym c.before.contains.ensures ∙ not-false _ c.if4.false
 
-fate-at : (c : tie.After-mark-at) → markedFate c.mark-at.result ≡ oldestFate (table (entry (lawful (marked c))))
-fate-at c = ap markedFate c.mark-at.ensures
+fate_at_lem : (c : tie.After-mark-at) → marked_fate c.mark_at.result ≡ oldest_fate (table (entry (lawful (marked c))))
+fate_at_lem c = ap marked_fate c.mark_at.ensures
 
-fault-at : (c : tie.After-mark-faults) → let t = table (entry (lawful (marked c.before))) in
-    c.mark-faults.result ≡ faults t.words (oldestFate t)
-fault-at c =
+fault_at : (c : tie.After-mark-faults) → let t = table (entry (lawful (marked c.before))) in
+    c.mark_faults.result ≡ faults t.words (oldest_fate t)
+fault_at c =
     let t = table (entry (lawful (marked c.before))) in
-    c.mark-faults.ensures ∙ ap (faults t.words) (fate-at c.before)
+    c.mark_faults.ensures ∙ ap (faults t.words) (fate_at_lem c.before)
 
-faultless-at : (c : tie.Else5) → let t = table (entry (lawful (executed c))) in
-    faults t.words (oldestFate t) ≡ false
-faultless-at c = sym (fault-at c.before) ∙ c.if5.false
+faultless_at : (c : tie.Else5) → let t = table (entry (lawful (executed c))) in
+    faults t.words (oldest_fate t) ≡ false
+faultless_at c = sym (fault_at c.before) ∙ c.if5.false
 
 returns : tie.Need-returns
-returns c = broken-meets _ _ _ c.before.keeps-rules.ensures c.if1.true
+returns c = broken_meets _ _ _ c.before.keeps-rules.ensures c.if1.true
 
 returns-2 : tie.Need-returns-2
-returns-2 c = length-refused _ (rules-at c.before) _ c.if2.true
+returns-2 c = length_refused _ (rules_at c.before) _ c.if2.true
 
 returns-3 : tie.Need-returns-3
-returns-3 c = empty-refused _ (rules-at c.before.before) _ (length_at c.before) c.if3.true
+returns-3 c = empty_refused _ (rules_at c.before.before) _ (length_at c.before) c.if3.true
 
 contains-requires : tie.Need-contains-requires
-contains-requires c κs = omega (arith, oldest-small _ (rules-at (checked (lent c))))
+contains-requires c κs = omega (arith, oldest_small _ (rules_at (checked (lent c))))
 
 returns-4 : tie.Need-returns-4
 returns-4 c =
     let l = c.before.before in
-    waiting-refused _ (rules-at (checked (lent l))) _ (length_at (lent l)) (live_at l)
+    waiting_refused _ (rules_at (checked (lent l))) _ (length_at (lent l)) (live_at l)
     (sym c.before.contains.ensures ∙ not-true _ c.if4.true)
 
 mark-at-requires : tie.Need-mark-at-requires
 mark-at-requires c κs =
     let past = lawful c.before.before.before.before.before in
-    let rules = rules-at past in
+    let rules = rules_at past in
     let l = lengths (entry past) in
-    (((fits _ rules).banks, oldest-small _ rules, l.addresses, l.loads), (l.stores, l.values))
+    (((fits _ rules).banks, oldest_small _ rules, l.addresses, l.loads), (l.stores, l.values))
 
 returns-5 : tie.Need-returns-5
 returns-5 c =
     let e = marked c.before.before in
-    fault-refused _ (rules-at (lawful e)) _ (length_at (lent (live e))) (live_at (live e)) (executed-at e)
-    (sym (fault-at c.before) ∙ c.if5.true)
+    fault_refused _ (rules_at (lawful e)) _ (length_at (lent (live e))) (live_at (live e)) (executed_at e)
+    (sym (fault_at c.before) ∙ c.if5.true)
 
 write-back-requires : tie.Need-write-back-requires
 write-back-requires c κs =
-    ap (λ (n : ℕ). faults n (markedFate c.before.before.before.mark-at.result))
+    ap (λ (n : ℕ). faults n (marked_fate c.before.before.before.mark_at.result))
     (length_at (lent (live (executed c.before))))
-    ∙ sym c.before.before.mark-faults.ensures ∙ c.before.if5.false
+    ∙ sym c.before.before.mark_faults.ensures ∙ c.before.if5.false
 
 mul-number : tie.Need-overflow-mul-number
-mul-number c = omega (arith, oldest-small _ (rules-at (lawful (executed c.before.before.before.before))))
+mul-number c = omega (arith, oldest_small _ (rules_at (lawful (executed c.before.before.before.before))))
 
 element-copy-out-number : tie.Need-element-copy-out-number
-element-copy-out-number c = oldest-small _ (rules-at (lawful (executed c.before.before.before.before)))
+element-copy-out-number c = oldest_small _ (rules_at (lawful (executed c.before.before.before.before)))
 
 stage-at-requires : tie.Need-stage-at-requires
 stage-at-requires c κs =
     let past = executed c.before.before.before.before.before in
-    circle-asks _ (rules-at (lawful past)) 1 (live_at (live past))
+    circle_asks _ (rules_at (lawful past)) 1 (live_at (live past))
 
 first-stages-requires : tie.Need-first-stages-requires
 first-stages-requires c κs =
-    next-asks _ (rules-at (lawful (executed c.before.before.before.before.before.before))) c.Stage-at.ensures
+    next_asks _ (rules_at (lawful (executed c.before.before.before.before.before.before))) c.Stage-at.ensures
 
 keep-requires : tie.Need-keep-requires
 keep-requires c κs =
     let past = lawful (executed c.before.before.before.before.before.before.before.before) in
-    ((fits _ (rules-at past)).banks, (lengths (entry past)).loads)
+    ((fits _ (rules_at past)).banks, (lengths (entry past)).loads)
 
 keep-requires-2 : tie.Need-keep-requires-2
 keep-requires-2 c κs =
     let past = lawful (executed c.before.before.before.before.before.before.before.before.before.before) in
-    ((fits _ (rules-at past)).banks, (lengths (entry past)).stores)
+    ((fits _ (rules_at past)).banks, (lengths (entry past)).stores)
 
 returns-6 : tie.Need-returns-6
 returns-6 c =
@@ -149,13 +149,13 @@ returns-6 c =
       c.before.before.before.before.first-stages.ensures,
       c.before.before.before.before.before.Stage-at.ensures,
       c.before.before.before.before.before.before.before.before.before.write-back.ensures,
-      fate-at s.before.before,
+      fate_at_lem s.before.before,
     )
-    (commit-meets _ (rules-at (lawful e)) _ (length_at (lent (live e))) (live_at (live e)) (executed-at e)
-    (faultless-at s))
+    (commit_meets _ (rules_at (lawful e)) _ (length_at (lent (live e))) (live_at (live e)) (executed_at e)
+    (faultless_at s))
 
-pub commit-spec : {M : Type 1} → statement M
-commit-spec =
+pub commit_spec : {M : Type 1} → statement M
+commit_spec =
     tie.close
     (tie.spec (λ c κs. search rules) returns returns-2 returns-3 contains-requires returns-4 mark-at-requires (search rules)
     returns-5 write-back-requires mul-number element-copy-out-number stage-at-requires (search rules)

@@ -4,7 +4,7 @@ use Rattle.embed.proofs.arb_v_byte.Statement.{statement}
 use Rattle.embed.proofs.arb_v_byte.Tie as tie
 
 returns : tie.Need-returns
-returns c = record { said = _; meets = c.before.before.execute-part.ensures; numbers-are = c.execute-numbers.ensures }
+returns c = record { said = _; meets = c.before.before.execute-part.ensures; numbers_are = c.execute-numbers.ensures }
 
-pub arb-v-byte-spec : {M : Type 1} → statement M
-arb-v-byte-spec = tie.close (tie.spec (λ c κs. search rules) (λ c κs. search rules) returns)
+pub arb_v_byte_spec : {M : Type 1} → statement M
+arb_v_byte_spec = tie.close (tie.spec (λ c κs. search rules) (λ c κs. search rules) returns)

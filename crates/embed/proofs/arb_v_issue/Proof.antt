@@ -7,9 +7,9 @@ returns : tie.Need-returns
 returns c = λ m. record {
   said = _;
   meets = c.before.before.before.issue.ensures m;
-  numbers-are = (c.named-number.ensures, c.before.named-ticket.ensures);
+  numbers_are = (c.named-number.ensures, c.before.named-ticket.ensures);
 }
 
-pub arb-v-issue-spec : {M : Type 1} → statement M
-arb-v-issue-spec =
+pub arb_v_issue_spec : {M : Type 1} → statement M
+arb_v_issue_spec =
     tie.close (tie.spec (λ c κs. search rules) (λ c κs. search rules) (λ c κs. search rules) returns)

@@ -4,7 +4,7 @@ use Rattle.embed.proofs.arb_v_load.Statement.{statement}
 use Rattle.embed.proofs.arb_v_load.Tie as tie
 
 returns : tie.Need-returns
-returns c = record { said = _; meets = c.before.before.execute-load.ensures; numbers-are = c.execute-numbers.ensures }
+returns c = record { said = _; meets = c.before.before.execute-load.ensures; numbers_are = c.execute-numbers.ensures }
 
-pub arb-v-load-spec : {M : Type 1} → statement M
-arb-v-load-spec = tie.close (tie.spec (λ c κs. search rules) (λ c κs. search rules) returns)
+pub arb_v_load_spec : {M : Type 1} → statement M
+arb_v_load_spec = tie.close (tie.spec (λ c κs. search rules) (λ c κs. search rules) returns)

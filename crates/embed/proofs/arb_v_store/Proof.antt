@@ -4,7 +4,7 @@ use Rattle.embed.proofs.arb_v_store.Statement.{statement}
 use Rattle.embed.proofs.arb_v_store.Tie as tie
 
 returns : tie.Need-returns
-returns c = record { said = _; meets = c.before.before.execute-store.ensures; numbers-are = c.execute-numbers.ensures }
+returns c = record { said = _; meets = c.before.before.execute-store.ensures; numbers_are = c.execute-numbers.ensures }
 
-pub arb-v-store-spec : {M : Type 1} → statement M
-arb-v-store-spec = tie.close (tie.spec (λ c κs. search rules) (λ c κs. search rules) returns)
+pub arb_v_store_spec : {M : Type 1} → statement M
+arb_v_store_spec = tie.close (tie.spec (λ c κs. search rules) (λ c κs. search rules) returns)

@@ -8,11 +8,11 @@ returns : tie.Need-returns
 returns c =
     crosses _ _ _
     c.before.before.before.before.before.before.before.machine-by.ensures
-    c.before.before.before.before.before.commit.ensures c.before.commit-numbers.ensures
+    c.before.before.before.before.before.commit.ensures c.before.commit_numbers.ensures
     c.crossed.ensures
 
-pub arb-m-commit-spec : {M : Type 1} → statement M
-arb-m-commit-spec =
+pub arb_m_commit_spec : {M : Type 1} → statement M
+arb_m_commit_spec =
     tie.close
     (tie.spec (λ c κs. search rules) (λ c κs. search rules) (λ c κs. search rules) (λ c κs. search rules)
     (λ c. search rules) returns)

@@ -11,7 +11,7 @@ returns c =
     c.before.before.before.execute.ensures c.before.execute-numbers.ensures
     c.crossed.ensures
 
-pub arb-m-execute-spec : {M : Type 1} → statement M
-arb-m-execute-spec =
+pub arb_m_execute_spec : {M : Type 1} → statement M
+arb_m_execute_spec =
     tie.close
     (tie.spec (λ c κs. search rules) (λ c κs. search rules) (λ c κs. search rules) (λ c κs. search rules) returns)

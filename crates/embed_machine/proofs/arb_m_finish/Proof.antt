@@ -11,8 +11,8 @@ returns c =
     c.before.before.before.before.before.before.before.finish.ensures c.before.finish-numbers.ensures
     c.crossed.ensures
 
-pub arb-m-finish-spec : {M : Type 1} → statement M
-arb-m-finish-spec =
+pub arb_m_finish_spec : {M : Type 1} → statement M
+arb_m_finish_spec =
     tie.close
     (tie.spec (λ c κs. search rules) (λ c κs. search rules) (λ c κs. search rules) (λ c κs. search rules)
     (λ c. search rules) (λ c. search rules) returns)

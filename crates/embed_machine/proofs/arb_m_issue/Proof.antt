@@ -8,10 +8,10 @@ returns : tie.Need-returns
 returns c w =
     crosses _ _ _
     c.before.before.before.before.machine-by.ensures
-    (c.before.before.before.issue.ensures w) c.before.issue-numbers.ensures
+    (c.before.before.before.issue.ensures w) c.before.issue_numbers.ensures
     c.crossed.ensures
 
-pub arb-m-issue-spec : {M : Type 1} → statement M
-arb-m-issue-spec =
+pub arb_m_issue_spec : {M : Type 1} → statement M
+arb_m_issue_spec =
     tie.close
     (tie.spec (λ c κs. search rules) (λ c κs. search rules) (λ c κs. search rules) (λ c κs. search rules) returns)

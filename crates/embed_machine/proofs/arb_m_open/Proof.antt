@@ -7,5 +7,5 @@ use Rattle.embed_machine.proofs.arb_m_open.Tie as tie
 returns : tie.Need-returns
 returns c = starts _ _ _ c.before.before.before.«open».ensures c.before.done-numbers.ensures c.image-of.ensures
 
-pub arb-m-open-spec : {M : Type 1} → statement M
-arb-m-open-spec = tie.close (tie.spec (λ c κs. search rules) (λ c κs. search rules) (λ c κs. search rules) returns)
+pub arb_m_open_spec : {M : Type 1} → statement M
+arb_m_open_spec = tie.close (tie.spec (λ c κs. search rules) (λ c κs. search rules) (λ c κs. search rules) returns)

@@ -11,7 +11,7 @@ returns c w =
     (c.before.before.before.squash.ensures w) c.before.done-numbers.ensures
     c.crossed.ensures
 
-pub arb-m-squash-spec : {M : Type 1} → statement M
-arb-m-squash-spec =
+pub arb_m_squash_spec : {M : Type 1} → statement M
+arb_m_squash_spec =
     tie.close
     (tie.spec (λ c κs. search rules) (λ c κs. search rules) (λ c κs. search rules) (λ c κs. search rules) returns)

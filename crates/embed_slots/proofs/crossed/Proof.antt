@@ -12,5 +12,5 @@ returns-2 : tie.Need-returns-2
 returns-2 c =
     rw (eq-eqb c.before.before.before.args.numbers.refusal 0 (omega (arith, c.before.if1.false)), c.image-of.ensures)
 
-pub crossed-spec : {M : Type 1} → statement M
-crossed-spec = tie.close (tie.spec returns (λ c κs. search rules) returns-2)
+pub crossed_spec : {M : Type 1} → statement M
+crossed_spec = tie.close (tie.spec returns (λ c κs. search rules) returns-2)

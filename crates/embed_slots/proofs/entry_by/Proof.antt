@@ -6,5 +6,5 @@ use Rattle.embed_slots.proofs.entry_by.Tie as tie
 returns : tie.Need-returns
 returns c = rw (c.before.instruction-by.ensures, c.fate-by.ensures)
 
-pub entry-by-spec : {M : Type 1} → statement M
-entry-by-spec = tie.close (tie.spec (λ c κs. search rules) (λ c κs. search rules) returns)
+pub entry_by_spec : {M : Type 1} → statement M
+entry_by_spec = tie.close (tie.spec (λ c κs. search rules) (λ c κs. search rules) returns)

@@ -10,5 +10,5 @@ returns c = search (rules, eq-eqb)
 returns-2 : tie.Need-returns-2
 returns-2 c = search (rules, ne_eqb)
 
-pub fate-by-spec : {M : Type 1} → statement M
-fate-by-spec = tie.close (tie.spec returns returns-2)
+pub fate_by_spec : {M : Type 1} → statement M
+fate_by_spec = tie.close (tie.spec returns returns-2)

@@ -2,20 +2,20 @@
 use mathlib.Core.Path.{sym, ap, ◌∙◌}
 use borrow.Author.Rules.{rules}
 use Rattle.machine_model.specs.declared.FinishAnswer.{FinishAnswer}
-use Rattle.machine_model.specs.Contract.{finishSays}
-use Rattle.embed_image.specs.Telling.{numbersOf}
+use Rattle.machine_model.specs.Contract.{finish_says}
+use Rattle.embed_image.specs.Telling.{numbers_of}
 use Rattle.embed_slots.proofs.finish_numbers.Statement.{statement}
 use Rattle.embed_slots.proofs.finish_numbers.Tie as tie
 
 returns : tie.Need-returns
 returns c =
-    c.numbers-by.ensures ∙ sym (ap (λ (a : FinishAnswer). numbersOf (finishSays a)) c.before.before.answer.given.1)
+    c.numbers-by.ensures ∙ sym (ap (λ (a : FinishAnswer). numbers_of (finish_says a)) c.before.before.answer.given.1)
 
 returns-2 : tie.Need-returns-2
 returns-2 c =
-    c.numbers-by2.ensures ∙ sym (ap (λ (a : FinishAnswer). numbersOf (finishSays a)) c.before.before.answer2.given.1)
+    c.numbers-by2.ensures ∙ sym (ap (λ (a : FinishAnswer). numbers_of (finish_says a)) c.before.before.answer2.given.1)
 
-pub finish-numbers-spec : {M : Type 1} → statement M
-finish-numbers-spec =
+pub finish_numbers_spec : {M : Type 1} → statement M
+finish_numbers_spec =
     tie.close
     (tie.spec (λ c. search rules) (λ c κs. search rules) (λ c. search rules) (λ c κs. search rules) returns returns-2)

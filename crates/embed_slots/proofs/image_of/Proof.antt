@@ -6,5 +6,5 @@ use Rattle.embed_slots.proofs.image_of.Tie as tie
 returns : tie.Need-returns
 returns c = rw c.window-of.ensures
 
-pub image-of-spec : {M : Type 1} → statement M
-image-of-spec = tie.close (tie.spec (λ c κs. search rules) returns)
+pub image_of_spec : {M : Type 1} → statement M
+image_of_spec = tie.close (tie.spec (λ c κs. search rules) returns)

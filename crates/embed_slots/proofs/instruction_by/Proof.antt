@@ -14,5 +14,5 @@ returns-2 c =
     let code = c.before.before.args.code in
     rw (not-false (leb 1 code && leb code 6) c.before.if1.false) c.decode.ensures
 
-pub instruction-by-spec : {M : Type 1} → statement M
-instruction-by-spec = tie.close (tie.spec returns (λ c κs. search rules) returns-2)
+pub instruction_by_spec : {M : Type 1} → statement M
+instruction_by_spec = tie.close (tie.spec returns (λ c κs. search rules) returns-2)

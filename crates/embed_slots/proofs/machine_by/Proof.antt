@@ -6,5 +6,5 @@ use Rattle.embed_slots.proofs.machine_by.Tie as tie
 returns : tie.Need-returns
 returns c = rw c.window-by.ensures
 
-pub machine-by-spec : {M : Type 1} → statement M
-machine-by-spec = tie.close (tie.spec (λ c κs. search rules) returns)
+pub machine_by_spec : {M : Type 1} → statement M
+machine_by_spec = tie.close (tie.spec (λ c κs. search rules) returns)

@@ -9,5 +9,5 @@ returns c =
     let three = c.three-of.ensures in
     rw (four.0, four.1, four.2, four.3, three.0, three.1, three.2)
 
-pub slot-of-spec : {M : Type 1} → statement M
-slot-of-spec = tie.close (tie.spec (λ c κs. search rules) (λ c κs. search rules) returns)
+pub slot_of_spec : {M : Type 1} → statement M
+slot_of_spec = tie.close (tie.spec (λ c κs. search rules) (λ c κs. search rules) returns)

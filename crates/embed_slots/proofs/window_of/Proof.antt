@@ -1,4 +1,4 @@
--- `embed_slots::window_of` meets its contract. The loop's invariant: the places passed are `slotOf` of the window's.
+-- `embed_slots::window_of` meets its contract. The loop's invariant: the places passed are `slot_of` of the window's.
 -- Assumes nothing.
 use mathlib.Core.Path.{◌≡◌, refl, sym, ap, ◌∙◌}
 use mathlib.Core.List.{map}
@@ -7,19 +7,19 @@ use native.Mathlib.Omega.{arith}
 use lib.ListN.{length, take, length-set}
 use lib.Seq.{take_all}
 use borrow.Author.Rules.{rules}
-use Rattle.table.specs.Limits.{stagesMost}
-use Rattle.embed_image.specs.Slots.{slotOf}
+use Rattle.table.specs.Limits.{stages_most}
+use Rattle.embed_image.specs.Slots.{slot_of}
 use Rattle.embed_image.proofs.Round.{turn}
 use Rattle.embed_slots.proofs.window_of.Statement.{statement}
 use Rattle.embed_slots.proofs.window_of.Tie as tie
 
 abbrev invariant-loop : tie.invariant-loop
-invariant-loop w a₀ i₀ a i = (i ≤ stagesMost) × (length a ≡ stagesMost) × (take i a ≡ map slotOf (take i w))
+invariant-loop w a₀ i₀ a i = (i ≤ stages_most) × (length a ≡ stages_most) × (take i a ≡ map slot_of (take i w))
 
 abbrev decreases-loop : tie.decreases-loop
-decreases-loop w a₀ i₀ a i = stagesMost - i
+decreases-loop w a₀ i₀ a i = stages_most - i
 
-whole : (c : tie.Start invariant-loop decreases-loop) → length c.args.t1 ≡ stagesMost
+whole : (c : tie.Start invariant-loop decreases-loop) → length c.args.t1 ≡ stages_most
 whole c = c.well-formed.0.1.0.1
 
 loop-holds : tie.Need-loop-init invariant-loop decreases-loop
@@ -48,19 +48,19 @@ loop-again c =
     let below : at.i < length w = omega (arith, whole c.before.before.before.before) in (
       omega arith,
       length-set at.a at.i _ ∙ at.invariant.1,
-      turn slotOf w at.a at.i _ _ c.slot_of.ensures below room at.invariant.2,
+      turn slot_of w at.a at.i _ _ c.slot_of.ensures below room at.invariant.2,
     )
 
 returns : tie.Need-returns invariant-loop decreases-loop
 returns c =
     let at = c.before.loop in
     let w = c.before.before.args.t1 in
-    let last : at.i ≡ stagesMost = omega arith in
+    let last : at.i ≡ stages_most = omega arith in
     sym (take_all at.i at.a (omega arith)) ∙ at.invariant.2
-    ∙ ap (map slotOf) (take_all at.i w (omega (arith, whole c.before.before)))
+    ∙ ap (map slot_of) (take_all at.i w (omega (arith, whole c.before.before)))
 
-pub window-of-spec : {M : Type 1} → statement M
-window-of-spec =
+pub window_of_spec : {M : Type 1} → statement M
+window_of_spec =
     tie.close
     (tie.spec invariant-loop decreases-loop loop-holds mul-e array-copy-out-e requires mul-a array-set-from-a (λ c. omega arith)
     (λ c. omega arith) loop-again returns)

@@ -1,5 +1,5 @@
 -- `engine_steps::effect_of` meets its contract: each arm is the definition's case of its action, and gives what the searches
--- that it calls give. A part's store hands what it found on from search to search (part-made). Assumes nothing.
+-- that it calls give. A part's store hands what it found on from search to search (part_made). Assumes nothing.
 use mathlib.Core.Bool.{true}
 use mathlib.Core.List.{List}
 use mathlib.Core.Path.{◌≡◌}
@@ -8,21 +8,21 @@ use native.Mathlib.Omega.{arith}
 use Rattle.table.specs.Bank.{bank}
 use Rattle.lookup.specs.declared.Place.{Place}
 use Rattle.lookup.specs.declared.Taken.{Taken}
-use Rattle.lookup.specs.computed.Search.{forward, placeFor, leftAfter}
+use Rattle.lookup.specs.Computed.Search.{forward, place_for, left_after}
 use Rattle.engine.specs.declared.Action.TheVariants.{PartAt}
 use Rattle.engine.specs.declared.Effect.{Effect}
 use Rattle.engine.specs.declared.Part.{Part}
 use Rattle.engine.specs.Part.{word_of, whole}
-use Rattle.engine.specs.computed.Effect.{effect_of}
+use Rattle.engine.specs.Computed.Effect.{effect_of}
 use Rattle.engine_steps.proofs.effect_of.Statement.{statement}
 use Rattle.engine_steps.proofs.effect_of.Tie as tie
 
-part-made : (banks rows stages oldest live : ℕ) (addresses loads stores values taken : List ℕ) (p below : ℕ) (part : Part)
+part_made : (banks rows stages oldest live : ℕ) (addresses loads stores values taken : List ℕ) (p below : ℕ) (part : Part)
     (b x v left : ℕ) (place : Place) (found : Taken)
-    → place ≡ placeFor oldest stages live rows addresses loads stores (bank banks (word_of b)) (word_of b) p
+    → place ≡ place_for oldest stages live rows addresses loads stores (bank banks (word_of b)) (word_of b) p
     → found ≡ forward oldest stages stores values place.row p below
     → v ≡ whole part b found.word x
-    → left ≡ leftAfter oldest stages live loads stores taken place.row place.left p v
+    → left ≡ left_after oldest stages live loads stores taken place.row place.left p v
     → ◌≡◌ {A = Effect}
     (record {
       load = true;
@@ -36,7 +36,7 @@ part-made : (banks rows stages oldest live : ℕ) (addresses loads stores values
       taken = found.word;
     })
     (effect_of banks rows stages oldest live addresses loads stores values taken p below (PartAt part b x))
-part-made banks rows stages oldest live addresses loads stores values taken p below part b x v left place found hp hf hv hl =
+part_made banks rows stages oldest live addresses loads stores values taken p below part b x v left place found hp hf hv hl =
     rw (hl, hv, hf, hp)
 
 returns : tie.Need-returns
@@ -64,13 +64,13 @@ returns-4 c =
     let args = found.before.before.before.before.args in
     let act = found.before.before.action4.given.0 in
     rw found.before.before.action4.given.1
-    (part-made args.banks args.rows args.stages args.oldest args.live args.addresses.now args.loads.now
+    (part_made args.banks args.rows args.stages args.oldest args.live args.addresses.now args.loads.now
     args.stores.now args.values.now args.taken.now args.p args.below act.0 act.1.0 act.1.1.0
     _ _ _ _ found.place-of3.ensures.1
     c.before.before.forwarded2.ensures c.before.merge.ensures c.left-after2.ensures)
 
-pub effect-of-spec : {M : Type 1} → statement M
-effect-of-spec =
+pub effect_of_spec : {M : Type 1} → statement M
+effect_of_spec =
     tie.close
     (tie.spec
     (λ c. omega arith) (λ c. omega arith) (λ c. omega arith) (λ c. omega arith) (λ c. omega arith) (λ c. omega arith)

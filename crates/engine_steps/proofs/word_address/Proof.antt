@@ -7,5 +7,5 @@ use Rattle.engine_steps.proofs.word_address.Tie as tie
 returns : tie.Need-returns
 returns c = rw (sym c.before.is-part.ensures ∙ c.if1.true, c.before.before.address-in.ensures)
 
-pub word-address-spec : {M : Type 1} → statement M
-word-address-spec = tie.close (tie.spec (λ c κs. search rules) (λ c κs. search rules) returns (λ c. search rules))
+pub word_address_spec : {M : Type 1} → statement M
+word_address_spec = tie.close (tie.spec (λ c κs. search rules) (λ c κs. search rules) returns (λ c. search rules))

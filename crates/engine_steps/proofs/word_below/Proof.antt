@@ -11,5 +11,5 @@ returns c =
     c.word.ensures
     ∙ ap (λ (a : ℕ). get_or c.before.before.before.args.memory.now a 0) c.before.word_address.ensures
 
-pub word-below-spec : {M : Type 1} → statement M
-word-below-spec = tie.close (tie.spec (λ c κs. search rules) (λ c κs. search rules) returns)
+pub word_below_spec : {M : Type 1} → statement M
+word_below_spec = tie.close (tie.spec (λ c κs. search rules) (λ c κs. search rules) returns)

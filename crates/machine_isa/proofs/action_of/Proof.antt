@@ -22,8 +22,8 @@ returns-5 c = rw (c.before.before.i4.given.1, c.wrapping-add-u325.ensures)
 returns-6 : tie.Need-returns-6
 returns-6 c = rw (c.before.before.i5.given.1, c.wrapping-add-u326.ensures)
 
-pub action-of-spec : {M : Type 1} → statement M
-action-of-spec =
+pub action_of_spec : {M : Type 1} → statement M
+action_of_spec =
     tie.close
     (tie.spec (λ c. omega arith) (λ c. omega arith) (λ c. omega arith) (λ c. omega arith) (λ c. omega arith)
     (λ c. omega arith) (λ c. omega arith)

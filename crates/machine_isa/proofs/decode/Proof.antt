@@ -22,5 +22,5 @@ returns-5 c = search (rules, eq-eqb, ne_eqb)
 returns-6 : tie.Need-returns-6
 returns-6 c = search (rules, ne_eqb)
 
-pub decode-spec : {M : Type 1} → statement M
-decode-spec = tie.close (tie.spec returns returns-2 returns-3 returns-4 returns-5 returns-6)
+pub decode_spec : {M : Type 1} → statement M
+decode_spec = tie.close (tie.spec returns returns-2 returns-3 returns-4 returns-5 returns-6)

@@ -16,8 +16,8 @@ returns-2 c =
     let own = told.Numbers-of.ensures in
     rw (lt-ltb _ _ below, n.0.0, n.0.1, n.1.0, n.1.1, own.0, own.1, own.2, own.3)
 
-pub entry-fits-spec : {M : Type 1} → statement M
-entry-fits-spec =
+pub entry_fits_spec : {M : Type 1} → statement M
+entry_fits_spec =
     tie.close
     (tie.spec (λ c. omega arith) (λ c. omega arith) (λ c. omega arith) returns (λ c. omega arith) (λ c. omega arith)
     returns-2)

@@ -4,7 +4,7 @@ use Rattle.machine_isa.proofs.is_misaligned.Statement.{statement}
 use Rattle.machine_isa.proofs.is_misaligned.Tie as tie
 
 returns : tie.Need-returns
-returns c = rw (c.address-of.ensures, c.before.code_of_lem.ensures)
+returns c = rw (c.address-of.ensures, c.before.code_of.ensures)
 
-pub is-misaligned-spec : {M : Type 1} → statement M
-is-misaligned-spec = tie.close (tie.spec (λ c κs. search rules) (λ c κs. search rules) returns)
+pub is_misaligned_spec : {M : Type 1} → statement M
+is_misaligned_spec = tie.close (tie.spec (λ c κs. search rules) (λ c κs. search rules) returns)

@@ -12,5 +12,5 @@ returns-2 c = rw (le-ltb _ 3 c.before.if1.false, lt-ltb _ 5 c.if2.true)
 returns-3 : tie.Need-returns-3
 returns-3 c = rw (le-ltb _ 3 c.before.if1.false, le-ltb _ 5 c.if2.false)
 
-pub kind-by-spec : {M : Type 1} → statement M
-kind-by-spec = tie.close (tie.spec returns (λ c. omega arith) returns-2 returns-3)
+pub kind_by_spec : {M : Type 1} → statement M
+kind_by_spec = tie.close (tie.spec returns (λ c. omega arith) returns-2 returns-3)

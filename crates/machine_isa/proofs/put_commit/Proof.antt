@@ -9,7 +9,7 @@ returns c =
     let last : at + 4 ≡ suc (suc (suc (suc at))) = omega arith in
     rw (last, c.before.before.put_four.ensures)
 
-pub put-commit-spec : {M : Type 1} → statement M
-put-commit-spec =
+pub put_commit_spec : {M : Type 1} → statement M
+put_commit_spec =
     tie.close
     (tie.spec (λ c κs. search rules) (λ c. omega arith) (λ c. omega arith) (λ c. omega arith) (λ c. search rules) returns)

@@ -20,8 +20,8 @@ returns c =
     let three : at + 3 ≡ suc (suc (suc at)) = omega arith in
     rw (one, two, three)
 
-pub put-four-spec : {M : Type 1} → statement M
-put-four-spec =
+pub put_four_spec : {M : Type 1} → statement M
+put_four_spec =
     tie.close
     (tie.spec (λ c. omega arith) (λ c. omega arith) (λ c. omega arith) (λ c. omega arith) slice-write-list-2
     (λ c. omega arith)

@@ -1,15 +1,15 @@
 -- `machine_steps::commit_refusal` meets its contract: each return knows the tests before it, and whether it faults is told by the
--- entry alone (fault-at). Assumes nothing.
+-- entry alone (fault_at). Assumes nothing.
 use mathlib.Core.Bool.{false}
 use mathlib.Core.Path.{◌≡◌, sym, ap, ◌∙◌}
 use lib.Dec.{eqb}
 use borrow.Author.Rules.{rules}
 use borrow.Author.Tests.{eq-eqb, ne_eqb}
 use Rattle.lookup.specs.declared.Mark.{Mark}
-use Rattle.lookup.specs.computed.Search.{markedFate}
+use Rattle.lookup.specs.Computed.Search.{marked_fate}
 use Rattle.engine.specs.Conditions.{faults}
 use Rattle.machine_model.specs.Window.{pending, reference}
-use Rattle.machine_laws.proofs.Comparing.{mark-faults}
+use Rattle.machine_laws.proofs.Comparing.{mark_faults_lem}
 use Rattle.machine_steps.proofs.commit_refusal.Statement.{statement}
 use Rattle.machine_steps.proofs.commit_refusal.Tie as tie
 
@@ -24,17 +24,17 @@ executed c = c.before.before
 live_at : (c : tie.Else1) → eqb c.before.args.live 0 ≡ false
 live_at c = ne_eqb c.before.args.live 0 c.if1.false
 
-executed-at : (c : tie.Else2) → pending (entered c).args.e.fate ≡ false
-executed-at c = sym c.before.is-pending.ensures ∙ c.if2.false
+executed_at : (c : tie.Else2) → pending (entered c).args.e.fate ≡ false
+executed_at c = sym c.before.is-pending.ensures ∙ c.if2.false
 
 -- whether it faults
-fault-at : (c : tie.After-mark-faults)
-    → let args = (entered (executed c)).args in faults args.words (reference args.e) ≡ c.mark-faults.result
-fault-at c =
+fault_at : (c : tie.After-mark-faults)
+    → let args = (entered (executed c)).args in faults args.words (reference args.e) ≡ c.mark_faults.result
+fault_at c =
     let args = (entered (executed c)).args in
-    sym (mark-faults args.words args.e.instruction args.e.fate 0)
-    ∙ ap (λ (x : Mark). faults args.words (markedFate x)) (sym c.before.oldest-mark.ensures)
-    ∙ sym c.mark-faults.ensures
+    sym (mark_faults_lem args.words args.e.instruction args.e.fate 0)
+    ∙ ap (λ (x : Mark). faults args.words (marked_fate x)) (sym c.before.oldest-mark.ensures)
+    ∙ sym c.mark_faults.ensures
 
 returns : tie.Need-returns
 returns c = rw (eq-eqb c.before.args.live 0 c.if1.true)
@@ -45,7 +45,7 @@ returns-2 c = rw (live_at c.before.before, sym c.before.is-pending.ensures ∙ c
 returns-3 : tie.Need-returns-3
 returns-3 c =
     let e = executed c.before in
-    rw (live_at e.before.before, executed-at e, fault-at c.before ∙ c.if3.true)
+    rw (live_at e.before.before, executed_at e, fault_at c.before ∙ c.if3.true)
 
 returns-4 : tie.Need-returns-4
 returns-4 c =
@@ -53,8 +53,8 @@ returns-4 c =
     let e = executed f.before in
     rw (
       live_at e.before.before,
-      executed-at e,
-      fault-at f.before ∙ f.if3.false,
+      executed_at e,
+      fault_at f.before ∙ f.if3.false,
       sym c.before.is-misaligned.ensures ∙ c.if4.true,
     )
 
@@ -64,12 +64,12 @@ returns-5 c =
     let e = executed f.before in
     rw (
       live_at e.before.before,
-      executed-at e,
-      fault-at f.before ∙ f.if3.false,
+      executed_at e,
+      fault_at f.before ∙ f.if3.false,
       sym c.before.is-misaligned.ensures ∙ c.if4.false,
     )
 
-pub commit-refusal-spec : {M : Type 1} → statement M
-commit-refusal-spec =
+pub commit_refusal_spec : {M : Type 1} → statement M
+commit_refusal_spec =
     tie.close
     (tie.spec returns (search rules) returns-2 (search rules) (search rules) returns-3 (search rules) returns-4 returns-5)

@@ -6,5 +6,5 @@ use Rattle.machine_steps.proofs.entry_issued.Tie as tie
 returns : tie.Need-returns
 returns c = rw c.instruction-at.ensures
 
-pub entry-issued-spec : {M : Type 1} → statement M
-entry-issued-spec = tie.close (tie.spec (λ c κs. search rules) returns)
+pub entry_issued_spec : {M : Type 1} → statement M
+entry_issued_spec = tie.close (tie.spec (λ c κs. search rules) returns)

@@ -14,5 +14,5 @@ returns-2 c =
     let args = c.before.before.args in
     rw (c.before.answered.ensures, le-ltb args.effect.left args.live c.if1.false)
 
-pub execute-answer-spec : {M : Type 1} → statement M
-execute-answer-spec = tie.close (tie.spec (search rules) returns returns-2)
+pub execute_answer_spec : {M : Type 1} → statement M
+execute_answer_spec = tie.close (tie.spec (search rules) returns returns-2)

@@ -16,5 +16,5 @@ returns-3 c =
     let args = c.before.before.args in
     rw (c.before.if1.false, lt-leb args.count args.next c.if2.false)
 
-pub issue-refusal-spec : {M : Type 1} → statement M
-issue-refusal-spec = tie.close (tie.spec returns returns-2 returns-3)
+pub issue_refusal_spec : {M : Type 1} → statement M
+issue_refusal_spec = tie.close (tie.spec returns returns-2 returns-3)

@@ -10,15 +10,15 @@ returns c =
     let value = far.before in
     let place = value.before in
     rw (
-      place.before.code_of_lem.ensures,
+      place.before.code_of.ensures,
       place.target-of.ensures,
-      value.value_of_lem.ensures,
+      value.value_of.ensures,
       far.distance-of.ensures,
     )
     at put.put-commit.ensures
 
-pub list-commit-spec : {M : Type 1} → statement M
-list-commit-spec =
+pub list_commit_spec : {M : Type 1} → statement M
+list_commit_spec =
     tie.close
     (tie.spec (search rules) (search rules) (search rules) (search rules) (search rules) (λ c κs. search rules) (search rules)
     returns)

@@ -9,5 +9,5 @@ returns c = rw (lt-ltb c.before.args.left c.before.args.live c.if1.true)
 returns-2 : tie.Need-returns-2
 returns-2 c = rw (le-ltb c.before.args.left c.before.args.live c.if1.false)
 
-pub next-after-spec : {M : Type 1} → statement M
-next-after-spec = tie.close (tie.spec returns returns-2)
+pub next_after_spec : {M : Type 1} → statement M
+next_after_spec = tie.close (tie.spec returns returns-2)

@@ -15,21 +15,21 @@ returns c =
     rw (c.before.entry_IsPlace.ensures, ← c.before.before.entry-kind.ensures, c.if1.true)
 
 -- past the first test the second decides
-second-test : (b : Bool) (a v : ℕ) {t : Bool} → b ≡ t → cond t (mark.Store a v) Absent ≡ cond b (mark.Store a v) Absent
-second-test b a v e = ap (λ (x : Bool). cond x (mark.Store a v) Absent) (sym e)
+second_test : (b : Bool) (a v : ℕ) {t : Bool} → b ≡ t → cond t (mark.Store a v) Absent ≡ cond b (mark.Store a v) Absent
+second_test b a v e = ap (λ (x : Bool). cond x (mark.Store a v) Absent) (sym e)
 
 returns-2 : tie.Need-returns-2
 returns-2 c =
     let told = c.before.before in
     let kind = told.before.entry-kind in
     rw (told.entry_IsPlace.ensures, ← kind.ensures, ne_eqb kind.result 1 c.before.if1.false)
-    (second-test _ _ _ c.if2.true)
+    (second_test _ _ _ c.if2.true)
 
 returns-3 : tie.Need-returns-3
 returns-3 c =
     let kind = c.before.before.before.entry-kind in
-    rw (← kind.ensures, ne_eqb kind.result 1 c.before.if1.false) (second-test _ _ _ c.if2.false)
+    rw (← kind.ensures, ne_eqb kind.result 1 c.before.if1.false) (second_test _ _ _ c.if2.false)
 
-pub oldest-mark-spec : {M : Type 1} → statement M
-oldest-mark-spec =
+pub oldest_mark_spec : {M : Type 1} → statement M
+oldest_mark_spec =
     tie.close (tie.spec (search rules) (search rules) returns returns-2 returns-3)

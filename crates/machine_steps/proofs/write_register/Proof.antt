@@ -10,35 +10,35 @@ use lib.ListN.{length, set}
 use lib.Seq.{set_out}
 use borrow.Author.Rules.{rules}
 use Rattle.machine_model.specs.Calls.{writing}
-use Rattle.machine_laws.specs.computed.Parts.{registerNumber}
-use Rattle.machine_model.specs.Program.{registersMost, destination}
+use Rattle.machine_laws.specs.Computed.Parts.{register_number}
+use Rattle.machine_model.specs.Program.{registers_most, destination}
 use Rattle.machine_steps.proofs.write_register.Statement.{statement}
 use Rattle.machine_steps.proofs.write_register.Tie as tie
 
-register-set : (registers : List ℕ) (d : Option ℕ) (v : ℕ) → registerNumber d < registersMost
-    → set registers (registerNumber d) v ≡ writing registers d v
-register-set registers none v h = absurd (omega arith)
-register-set registers (some d) v h = refl
+register_set : (registers : List ℕ) (d : Option ℕ) (v : ℕ) → register_number d < registers_most
+    → set registers (register_number d) v ≡ writing registers d v
+register_set registers none v h = absurd (omega arith)
+register_set registers (some d) v h = refl
 
-register-kept : (registers : List ℕ) (d : Option ℕ) (v : ℕ) → length registers ≤ registerNumber d
+register_kept : (registers : List ℕ) (d : Option ℕ) (v : ℕ) → length registers ≤ register_number d
     → registers ≡ writing registers d v
-register-kept registers none v h = refl
-register-kept registers (some d) v h = sym (set_out registers d v h)
+register_kept registers none v h = refl
+register_kept registers (some d) v h = sym (set_out registers d v h)
 
 returns : tie.Need-returns
 returns c =
     let start = c.before.before.before in
     let registers = start.args.registers.now in
     let d = c.before.before.destination-of in
-    ap₂ (λ (k v : ℕ). set registers k v) d.ensures c.value_of_lem.ensures
-    ∙ register-set registers (destination start.args.e.instruction) _ (rw d.ensures at c.before.if1.true)
+    ap₂ (λ (k v : ℕ). set registers k v) d.ensures c.value_of.ensures
+    ∙ register_set registers (destination start.args.e.instruction) _ (rw d.ensures at c.before.if1.true)
 
 returns-2 : tie.Need-returns-2
 returns-2 c =
     let args = c.before.before.args in
-    register-kept args.registers.now (destination args.e.instruction) _ (omega arith)
+    register_kept args.registers.now (destination args.e.instruction) _ (omega arith)
 
-pub write-register-spec : {M : Type 1} → statement M
-write-register-spec =
+pub write_register_spec : {M : Type 1} → statement M
+write_register_spec =
     tie.close
     (tie.spec (search rules) (search rules) (search rules) (search rules) (search rules) returns returns-2)

@@ -11,5 +11,5 @@ returns c = sym (ap value_of c.enum_told.given.1)
 returns-2 : tie.Need-returns-2
 returns-2 c = sym (ap value_of c.before.fate.given.1)
 
-pub operand-of-spec : {M : Type 1} → statement M
-operand-of-spec = tie.close (tie.spec (search rules) (search rules) returns returns-2)
+pub operand_of_spec : {M : Type 1} → statement M
+operand_of_spec = tie.close (tie.spec (search rules) (search rules) returns returns-2)

@@ -7,7 +7,7 @@ use lib.Dec.{eqb}
 use borrow.Author.Rules.{rules}
 use borrow.Author.Tests.{ne_eqb}
 use Rattle.marks.specs.Stages.{has}
-use Rattle.machine_laws.specs.computed.Parts.{markNumber}
+use Rattle.machine_laws.specs.Computed.Parts.{mark_number}
 use Rattle.machine_window.proofs.stage_agrees.Statement.{statement}
 use Rattle.machine_window.proofs.stage_agrees.Tie as tie
 
@@ -26,12 +26,12 @@ returns-3 c =
     rw (ne_eqb _ 4 found.before.before.if1.false, ne_eqb _ 0 found.before.if2.false)
     (ap (λ (k : ℕ). eqb k args.kind)
     (c.mark-number.ensures
-    ∙ ap₂ markNumber
+    ∙ ap₂ mark_number
     (c.before.before.contains4.ensures ∙ ap (λ (w : ℕ). has w args.s) found.marks-at.ensures.0)
     (c.before.contains5.ensures ∙ ap (λ (w : ℕ). has w args.s) found.marks-at.ensures.1)))
 
-pub stage-agrees-spec : {M : Type 1} → statement M
-stage-agrees-spec =
+pub stage_agrees_spec : {M : Type 1} → statement M
+stage_agrees_spec =
     tie.close
     (tie.spec (search rules) returns (search rules) (search rules) returns-2 (search rules) (search rules) (search rules)
     (search rules) returns-3)

@@ -4,16 +4,16 @@ use mathlib.Core.Path.{ap}
 use Prim.Native.Nat.{ℕ, ◌-◌}
 use native.Mathlib.Omega.{arith}
 use Rattle.marks.specs.Stages.{width}
-use Rattle.marks.proofs.Sets.{has-least, one_up}
+use Rattle.marks.proofs.Sets.{has_least, one_up}
 use Rattle.marks.proofs.excluding.Statement.{statement}
 use Rattle.marks.proofs.excluding.Tie as tie
 
 sub-result : tie.Need-overflow-sub-result
 sub-result c =
-    omega (arith, one_up width c.args.k c.requires.0, has-least c.args.word c.args.k c.requires.1)
+    omega (arith, one_up width c.args.k c.requires.0, has_least c.args.word c.args.k c.requires.1)
 
 returns : tie.Need-returns
 returns c = ap (λ (x : ℕ). c.args.word - x) (one_up width c.args.k c.requires.0)
 
-pub excluding-spec : {M : Type 1} → statement M
-excluding-spec = tie.close (tie.spec (λ c. omega arith) (λ c. omega arith) sub-result returns)
+pub excluding_spec : {M : Type 1} → statement M
+excluding_spec = tie.close (tie.spec (λ c. omega arith) (λ c. omega arith) sub-result returns)

@@ -11,5 +11,5 @@ use Rattle.marks.proofs.including.Tie as tie
 returns : tie.Need-returns
 returns c = ap (bit_or c.args.word) (one_up width c.args.k c.requires)
 
-pub including-spec : {M : Type 1} → statement M
-including-spec = tie.close (tie.spec (λ c. omega arith) (λ c. omega arith) returns)
+pub including_spec : {M : Type 1} → statement M
+including_spec = tie.close (tie.spec (λ c. omega arith) (λ c. omega arith) returns)

@@ -12,5 +12,5 @@ returns c = search (rules, le-leb)
 returns-2 : tie.Need-returns-2
 returns-2 c = search (rules, lt-leb)
 
-pub position-of-spec : {M : Type 1} → statement M
-position-of-spec = tie.close (tie.spec (λ c. omega arith) (λ c. omega arith) returns returns-2)
+pub position_of_spec : {M : Type 1} → statement M
+position_of_spec = tie.close (tie.spec (λ c. omega arith) (λ c. omega arith) returns returns-2)

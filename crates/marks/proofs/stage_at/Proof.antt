@@ -12,5 +12,5 @@ returns c = search (rules, lt-ltb)
 returns-2 : tie.Need-returns-2
 returns-2 c = search (rules, le-ltb)
 
-pub stage-at-spec : {M : Type 1} → statement M
-stage-at-spec = tie.close (tie.spec (λ c. omega arith) returns returns-2)
+pub stage_at_spec : {M : Type 1} → statement M
+stage_at_spec = tie.close (tie.spec (λ c. omega arith) returns returns-2)

@@ -23,8 +23,8 @@ loop-again c =
     (⊎_elim (λ w. ap length w.15 ∙ inv) (λ w. ap length w.14 ∙ inv)))))))
     c.before.if1.branch
 
-pub mixes-buffer-spec : {M : Type 1} → statement M
-mixes-buffer-spec =
+pub mixes_buffer_spec : {M : Type 1} → statement M
+mixes_buffer_spec =
     tie.close
     (tie.spec invariant-loop decreases-loop (λ c κs. tt) (λ c κs. tt) (λ c κs. tt) (λ c. refl) (λ c. omega arith) (λ c κs. tt) (λ c κs. tt)
     (λ c κs. tt) (λ c κs. tt) (λ c κs. tt) (λ c κs. tt) (λ c κs. tt) (λ c κs. tt) (λ c κs. tt) (λ c κs. tt) (λ c κs. tt)

@@ -27,8 +27,8 @@ same_length c =
     let finishing = c.before.before.before.before.before.before in
     search (rules, finishing.before.before.before.before.loop.invariant)
 
-pub mixes-machine-spec : {M : Type 1} → statement M
-mixes-machine-spec =
+pub mixes_machine_spec : {M : Type 1} → statement M
+mixes_machine_spec =
     tie.close
     (tie.spec invariant-loop decreases-loop (λ c κs. tt) (λ c κs. tt) (λ c κs. tt) (λ c. refl) (λ c. omega arith) (λ c κs. tt)
     (λ c κs. tt) (λ c κs. tt) (λ c κs. tt) (λ c κs. tt) (λ c κs. tt) (λ c κs. tt) (λ c κs. tt) (λ c κs. tt)

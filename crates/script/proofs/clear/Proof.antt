@@ -5,7 +5,7 @@ use Prim.Native.Nat.{ℕ, ◌-◌, ◌≤◌}
 use native.Mathlib.Omega.{arith}
 use lib.ListN.{length, take, replicate, length-set}
 use borrow.Author.Rules.{rules}
-use Rattle.player_model.proofs.Zeros.{zero_more, zero-all}
+use Rattle.player_model.proofs.Zeros.{zero_more, zero_all}
 use Rattle.script.proofs.clear.Statement.{statement}
 use Rattle.script.proofs.clear.Tie as tie
 
@@ -37,7 +37,7 @@ returns : tie.Need-returns invariant-loop decreases-loop
 returns c =
     let at = c.before.loop in
     let lent = length c.before.before.args.memory.now in
-    zero-all at.memory at.i lent (omega arith) at.invariant.1 at.invariant.2
+    zero_all at.memory at.i lent (omega arith) at.invariant.1 at.invariant.2
 
 pub clear_spec : {M : Type 1} → statement M
 clear_spec =

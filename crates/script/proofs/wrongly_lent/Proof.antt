@@ -3,5 +3,5 @@ use borrow.Author.Rules.{rules}
 use Rattle.script.proofs.wrongly_lent.Statement.{statement}
 use Rattle.script.proofs.wrongly_lent.Tie as tie
 
-pub wrongly-lent-spec : {M : Type 1} → statement M
-wrongly-lent-spec = tie.close (tie.spec (λ c κs. search rules) (λ c. rw c.words_of.ensures.0))
+pub wrongly_lent_spec : {M : Type 1} → statement M
+wrongly_lent_spec = tie.close (tie.spec (λ c κs. search rules) (λ c. rw c.words_of.ensures.0))

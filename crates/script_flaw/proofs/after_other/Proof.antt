@@ -6,5 +6,5 @@ use Rattle.script_flaw.proofs.after_other.Tie as tie
 returns : tie.Need-returns
 returns c = rw c.enum_told.given.1
 
-pub after-other-spec : {M : Type 1} → statement M
-after-other-spec = tie.close (tie.spec (search rules) (search rules) (search rules) returns (λ c. search rules) (λ c. search rules))
+pub after_other_spec : {M : Type 1} → statement M
+after_other_spec = tie.close (tie.spec (search rules) (search rules) (search rules) returns (λ c. search rules) (λ c. search rules))

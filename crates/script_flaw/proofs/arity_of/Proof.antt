@@ -2,7 +2,7 @@
 use native.Mathlib.Omega.{arith}
 use borrow.Author.Rules.{rules}
 use borrow.Author.Tests.{eq-eqb, ne_eqb, lt-ltb, le-ltb}
-use Rattle.script_model.specs.Language.{letterCode}
+use Rattle.script_model.specs.Language.{letter_code}
 use Rattle.script_flaw.proofs.arity_of.Statement.{statement}
 use Rattle.script_flaw.proofs.arity_of.Tie as tie
 
@@ -18,7 +18,7 @@ returns-3 c =
     rw (
       c.before.before.before.if1.false,
       c.before.before.if2.false,
-      lt-ltb 0 (letterCode b) (omega (arith, c.before.code_of_lem.ensures, c.if3.true)),
+      lt-ltb 0 (letter_code b) (omega (arith, c.before.code_of.ensures, c.if3.true)),
     )
 
 returns-4 : tie.Need-returns-4
@@ -27,7 +27,7 @@ returns-4 c =
     rw (
       c.before.before.before.before.if1.false,
       c.before.before.before.if2.false,
-      le-ltb 0 (letterCode b) (omega (arith, c.before.before.code_of_lem.ensures, c.before.if3.false)),
+      le-ltb 0 (letter_code b) (omega (arith, c.before.before.code_of.ensures, c.before.if3.false)),
       eq-eqb b 78 c.if4.true,
     )
 
@@ -37,9 +37,9 @@ returns-5 c =
     rw (
       c.before.before.before.before.if1.false,
       c.before.before.before.if2.false,
-      le-ltb 0 (letterCode b) (omega (arith, c.before.before.code_of_lem.ensures, c.before.if3.false)),
+      le-ltb 0 (letter_code b) (omega (arith, c.before.before.code_of.ensures, c.before.if3.false)),
       ne_eqb b 78 c.if4.false,
     )
 
-pub arity-of-spec : {M : Type 1} → statement M
-arity-of-spec = tie.close (tie.spec returns returns-2 (λ c κs. search rules) returns-3 returns-4 returns-5)
+pub arity_of_spec : {M : Type 1} → statement M
+arity_of_spec = tie.close (tie.spec returns returns-2 (λ c κs. search rules) returns-3 returns-4 returns-5)

@@ -6,7 +6,7 @@ use Prim.Native.Nat.{◌+◌, ◌-◌, ◌≤◌}
 use native.Mathlib.Omega.{arith}
 use lib.Seq.{slice}
 use Rattle.flaw_model.specs.Flaw.{commas}
-use Rattle.flaw_model.proofs.Looking.{commas-here, commas-later, commas-none}
+use Rattle.flaw_model.proofs.Looking.{commas_here, commas_later, commas_none}
 use Rattle.script_flaw.proofs.count_commas.Statement.{statement}
 use Rattle.script_flaw.proofs.count_commas.Tie as tie
 
@@ -36,8 +36,8 @@ loop-again c =
     let counted : (c.if1.n + commas (slice (l.i + 1) a.to a.s.now) ≡ l.n + commas (slice l.i a.to a.s.now))
     × (c.if1.n ≤ l.n + 1) =
     ⊎_elim
-    (λ w. (omega (arith, commas-here a.s.now l.i a.to (omega arith) k w.0.taken), omega arith))
-    (λ w. (omega (arith, commas-later a.s.now l.i a.to (omega arith) k w.0.left), omega arith)) c.if1.branch
+    (λ w. (omega (arith, commas_here a.s.now l.i a.to (omega arith) k w.0.taken), omega arith))
+    (λ w. (omega (arith, commas_later a.s.now l.i a.to (omega arith) k w.0.left), omega arith)) c.if1.branch
     in
     (omega (arith, l.invariant.0), omega (arith, l.invariant.1), omega arith)
 
@@ -45,11 +45,11 @@ returns : tie.Need-returns invariant-loop decreases-loop
 returns c =
     let a = c.before.before.args in
     let l = c.before.loop in (
-      omega (arith, l.invariant.0, commas-none a.s.now l.i a.to (omega arith) c.before.before.requires.1),
+      omega (arith, l.invariant.0, commas_none a.s.now l.i a.to (omega arith) c.before.before.requires.1),
       omega (arith, l.invariant.1, l.invariant.2),
     )
 
-pub count-commas-spec : {M : Type 1} → statement M
-count-commas-spec =
+pub count_commas_spec : {M : Type 1} → statement M
+count_commas_spec =
     tie.close
     (tie.spec invariant-loop decreases-loop loop-holds shared-slice-read-if1 add-n add-i (λ c. omega arith) loop-again returns)

@@ -5,8 +5,8 @@ use Prim.Native.Nat.{◌+◌, ◌-◌, ◌<◌, ◌≤◌}
 use native.Mathlib.Omega.{arith}
 use lib.ListN.{length, get_or}
 use Rattle.flaw_model.specs.Flaw.{arity}
-use Rattle.flaw_model.proofs.Looking.{malformed-blank, malformed-return, malformed-letter, malformed-alone, malformed-glued}
-use Rattle.flaw_model.proofs.Looking.{malformed-count, malformed-fields}
+use Rattle.flaw_model.proofs.Looking.{malformed_blank, malformed_return, malformed_letter, malformed_alone, malformed_glued}
+use Rattle.flaw_model.proofs.Looking.{malformed_count, malformed_fields}
 use borrow.Author.Rules.{rules}
 use Rattle.script_flaw.proofs.find_malformed.Statement.{statement}
 use Rattle.script_flaw.proofs.find_malformed.Tie as tie
@@ -37,7 +37,7 @@ two_at c = (
 returns : tie.Need-returns
 returns c =
     let a = c.before.before.args in
-    malformed-blank a.s.now a.from a.to c.if1.true (omega (arith, c.before.before.requires.1))
+    malformed_blank a.s.now a.from a.to c.if1.true (omega (arith, c.before.before.requires.1))
 
 shared-slice-read-b : tie.Need-shared-slice-read-b
 shared-slice-read-b c = omega (arith, c.before.before.before.requires.1)
@@ -48,13 +48,13 @@ shared-slice-read-if2 c = omega (arith, c.before.before.before.before.requires.1
 returns-2 : tie.Need-returns-2
 returns-2 c =
     let a = c.before.before.before.before.before.args in
-    malformed-return a.s.now a.from a.to c.before.before.before.if1.false
+    malformed_return a.s.now a.from a.to c.before.before.before.if1.false
     (omega (arith, c.before.before.before.before.before.requires.1)) c.if2.true
 
 returns-3 : tie.Need-returns-3
 returns-3 c =
     let a = c.before.before.before.before.before.before.before.args in
-    malformed-letter a.s.now a.from a.to c.before.before.before.before.before.if1.false
+    malformed_letter a.s.now a.from a.to c.before.before.before.before.before.if1.false
     (omega (arith, c.before.before.before.before.before.before.before.requires.1)) c.before.before.if2.false
     (sym c.before.arity-of.ensures ∙ c.if3.true)
 
@@ -62,7 +62,7 @@ returns-4 : tie.Need-returns-4
 returns-4 c =
     let a = c.before.before.before.before.before.before.before.before.args in
     let w = known_at c.before in
-    malformed-alone a.s.now a.from a.to w.0 w.1 w.2 w.3 c.if4.true
+    malformed_alone a.s.now a.from a.to w.0 w.1 w.2 w.3 c.if4.true
 
 add-c : tie.Need-overflow-add-c
 add-c c = omega (arith, two_at c)
@@ -74,7 +74,7 @@ returns-5 : tie.Need-returns-5
 returns-5 c =
     let a = c.before.before.before.before.before.before.before.before.before.before.args in
     let w = known_at c.before.before.before in
-    malformed-glued a.s.now a.from a.to w.0 w.1 w.2 w.3 (two_at c.before.before).0 c.if5.true
+    malformed_glued a.s.now a.from a.to w.0 w.1 w.2 w.3 (two_at c.before.before).0 c.if5.true
 
 add-count-commas : tie.Need-overflow-add-count-commas
 add-count-commas c = omega (arith, two_at c.before.before)
@@ -89,7 +89,7 @@ returns-6 : tie.Need-returns-6
 returns-6 c =
     let a = c.before.before.before.before.before.before.before.before.before.before.before.before.args in
     let w = known_at c.before.before.before.before.before in
-    malformed-count a.s.now a.from a.to w.0 w.1 w.2 w.3
+    malformed_count a.s.now a.from a.to w.0 w.1 w.2 w.3
     (two_at c.before.before.before.before).0 c.before.before.if5.false
     c.before.count-commas.result c.before.count-commas.ensures.0
     (λ e. c.if6.true (e ∙ sym c.before.before.before.before.before.before.arity-of.ensures))
@@ -105,13 +105,13 @@ returns-7 c =
     let a = c.before.before.before.before.before.before.before.before.before.before.before.before.before.args in
     let w = known_at c.before.before.before.before.before.before in
     c.find-defect.ensures
-    ∙ malformed-fields a.s.now a.from a.to w.0 w.1 w.2 w.3
+    ∙ malformed_fields a.s.now a.from a.to w.0 w.1 w.2 w.3
     (two_at c.before.before.before.before.before).0 c.before.before.before.if5.false
     c.before.before.count-commas.result c.before.before.count-commas.ensures.0
     (c.before.if6.false ∙ c.before.before.before.before.before.before.before.arity-of.ensures)
 
-pub find-malformed-spec : {M : Type 1} → statement M
-find-malformed-spec =
+pub find_malformed_spec : {M : Type 1} → statement M
+find_malformed_spec =
     tie.close
     (tie.spec returns shared-slice-read-b (λ c. omega arith) shared-slice-read-if2 returns-2 (search rules) returns-3
     (λ c. omega arith) returns-4 add-c shared-slice-read-c returns-5 add-count-commas count-commas-requires

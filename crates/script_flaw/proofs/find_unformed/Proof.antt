@@ -10,5 +10,5 @@ returns c = rw (sym c.before.well-formed-2.ensures ∙ c.if1.true)
 returns-2 : tie.Need-returns-2
 returns-2 c = rw (sym c.before.before.well-formed-2.ensures ∙ c.before.if1.false) c.leftmost.ensures
 
-pub find-unformed-spec : {M : Type 1} → statement M
-find-unformed-spec = tie.close (tie.spec (search rules) returns (search rules) returns-2)
+pub find_unformed_spec : {M : Type 1} → statement M
+find_unformed_spec = tie.close (tie.spec (search rules) returns (search rules) returns-2)

@@ -7,16 +7,16 @@ use native.Mathlib.Omega.{arith}
 use lib.ListN.{length}
 use Rattle.flaw_model.specs.declared.Outlook.{Outlook}
 use Rattle.flaw_model.specs.declared.Outlook.TheVariants.{Goes}
-use Rattle.flaw_model.specs.Flaw.{flawOf}
+use Rattle.flaw_model.specs.Flaw.{flaw_of}
 use Rattle.script_model.specs.Output.{most}
-use Rattle.flaw_model.specs.computed.Looking.{flawOn, Looks}
-use Rattle.flaw_model.proofs.Looking.{flaw-long, flaw-start}
+use Rattle.flaw_model.specs.Computed.Looking.{flaw_on, Looks}
+use Rattle.flaw_model.proofs.Looking.{flaw_long, flaw_start}
 use borrow.Author.Rules.{rules}
 use Rattle.script_flaw.proofs.flaw_of.Statement.{statement}
 use Rattle.script_flaw.proofs.flaw_of.Tie as tie
 
 abbrev invariant-loop : tie.invariant-loop
-invariant-loop s at₀ line₀ part₀ at line part = (flawOn s at line part ≡ flawOf s) × (line ≤ at + 1) × (at ≤ length s) ×
+invariant-loop s at₀ line₀ part₀ at line part = (flaw_on s at line part ≡ flaw_of s) × (line ≤ at + 1) × (at ≤ length s) ×
     (length s ≤ most)
 
 abbrev decreases-loop : tie.decreases-loop
@@ -33,10 +33,10 @@ ahead c =
     c.before.outlook2.given.1 c.before.before.before.look.ensures
 
 returns : tie.Need-returns invariant-loop decreases-loop
-returns c = flaw-long c.before.before.args.s.now c.if1.true
+returns c = flaw_long c.before.before.args.s.now c.if1.true
 
 loop-holds : tie.Need-loop-init invariant-loop decreases-loop
-loop-holds c = (flaw-start c.before.before.args.s.now c.if1.false, omega arith, omega arith, c.if1.false)
+loop-holds c = (flaw_start c.before.before.args.s.now c.if1.false, omega arith, omega arith, c.if1.false)
 
 returns-2 : tie.Need-returns-2 invariant-loop decreases-loop
 returns-2 c =
@@ -57,8 +57,8 @@ loop-again c =
     let l = c.before.before.before.before.loop in
     (rw (add-one l.line) (sym ((ahead c).0 l.line) ∙ l.invariant.0), omega (arith, (ahead c).1, l.invariant.1), (ahead c).2, l.invariant.3)
 
-pub flaw-of-spec : {M : Type 1} → statement M
-flaw-of-spec =
+pub flaw_of_spec : {M : Type 1} → statement M
+flaw_of_spec =
     tie.close
     (tie.spec invariant-loop decreases-loop returns loop-holds (search rules) (search rules) returns-2 (search rules) add-line
     loop-less loop-again)

@@ -17,5 +17,5 @@ returns-4 c = rw (c.before.if1.true, c.if2.false)
 returns-5 : tie.Need-returns-5
 returns-5 c = rw c.if1.false
 
-pub leftmost-spec : {M : Type 1} → statement M
-leftmost-spec = tie.close (tie.spec returns returns-2 returns-3 returns-4 returns-5)
+pub leftmost_spec : {M : Type 1} → statement M
+leftmost_spec = tie.close (tie.spec returns returns-2 returns-3 returns-4 returns-5)

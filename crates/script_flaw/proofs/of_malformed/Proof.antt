@@ -21,8 +21,8 @@ returns-2 c = rw c.before.enum-told2.given.1 c.find-malformed.ensures
 returns-3 : tie.Need-returns-3
 returns-3 c = rw c.before.enum-told3.given.1 c.find-malformed2.ensures
 
-pub of-malformed-spec : {M : Type 1} → statement M
-of-malformed-spec =
+pub of_malformed_spec : {M : Type 1} → statement M
+of_malformed_spec =
     tie.close
     (tie.spec (search rules) find-first-requires (search rules) find-malformed-requires (search rules)
     find-malformed-requires-2 returns returns-2 returns-3)

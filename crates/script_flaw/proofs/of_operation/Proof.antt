@@ -13,8 +13,8 @@ returns-2 c = rw c.enum_told.given.1
 returns-3 : tie.Need-returns-3
 returns-3 c = rw (c.before.before.part.given.1, le-ltb 0 _ c.if1.false)
 
-pub of-operation-spec : {M : Type 1} → statement M
-of-operation-spec =
+pub of_operation_spec : {M : Type 1} → statement M
+of_operation_spec =
     tie.close
     (tie.spec (search rules) (search rules) (search rules) returns (search rules) returns-2 returns-3
     (λ c. search rules))

@@ -6,8 +6,8 @@ use Rattle.script_flaw.proofs.of_sizes.Tie as tie
 returns : tie.Need-returns
 returns c = rw c.before.enum_told.given.1 c.find-unfit.ensures
 
-pub of-sizes-spec : {M : Type 1} → statement M
-of-sizes-spec =
+pub of_sizes_spec : {M : Type 1} → statement M
+of_sizes_spec =
     tie.close
     (tie.spec (search rules) (search rules) (search rules) (search rules) returns (λ c. search rules)
     (λ c. search rules))

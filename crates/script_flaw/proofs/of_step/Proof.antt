@@ -6,5 +6,5 @@ use Rattle.script_flaw.proofs.of_step.Tie as tie
 returns : tie.Need-returns
 returns c = rw c.enum_told.given.1
 
-pub of-step-spec : {M : Type 1} → statement M
-of-step-spec = tie.close (tie.spec (search rules) (search rules) (search rules) returns (λ c. search rules) (λ c. search rules))
+pub of_step_spec : {M : Type 1} → statement M
+of_step_spec = tie.close (tie.spec (search rules) (search rules) (search rules) returns (λ c. search rules) (λ c. search rules))

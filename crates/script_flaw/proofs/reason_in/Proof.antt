@@ -4,8 +4,8 @@ use native.Mathlib.Omega.{arith}
 use lib.ListN.{get_or}
 use lib.Seq.{slice}
 use Rattle.script_model.specs.declared.Item.{Item}
-use Rattle.flaw_model.specs.Flaw.{ofStep, reasonIn}
-use Rattle.script_reading.proofs.Steps.{of-step}
+use Rattle.flaw_model.specs.Flaw.{of_step, reason_in}
+use Rattle.script_reading.proofs.Steps.{of_step_lem}
 use borrow.Author.Rules.{rules}
 use Rattle.script_flaw.proofs.reason_in.Statement.{statement}
 use Rattle.script_flaw.proofs.reason_in.Tie as tie
@@ -29,13 +29,13 @@ returns-3 c =
 returns-4 : tie.Need-returns-4
 returns-4 c =
     let a = c.before.before.before.before.args in
-    c.of-step.ensures ∙ ap (ofStep a.part) c.before.before.first_byte.ensures
-    ∙ of-step (λ (i : Item). ofStep a.part (get_or (slice a.from a.to a.s.now) 0 0)
-    ≡ reasonIn a.part i (slice a.from a.to a.s.now))
+    c.of_step.ensures ∙ ap (of_step a.part) c.before.before.first_byte.ensures
+    ∙ of_step_lem (λ (i : Item). of_step a.part (get_or (slice a.from a.to a.s.now) 0 0)
+    ≡ reason_in a.part i (slice a.from a.to a.s.now))
     refl (λ k. refl) (λ k. refl) refl (λ k. refl) a.item c.before.match.keys4
 
-pub reason-in-spec : {M : Type 1} → statement M
-reason-in-spec =
+pub reason_in_spec : {M : Type 1} → statement M
+reason_in_spec =
     tie.close
     (tie.spec first-byte-requires (search rules) of-malformed-requires (search rules) (search rules) (search rules)
     (search rules) (search rules) returns returns-2 returns-3 returns-4)

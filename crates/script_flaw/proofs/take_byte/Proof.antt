@@ -31,7 +31,7 @@ returns-5 c =
     rw (ne_eqb a.b 44 c.before.before.before.if1.false, le-leb 48 a.b (omega arith), le-leb a.b 57 (omega arith))
     c.take-digit.ensures
 
-pub take-byte-spec : {M : Type 1} → statement M
-take-byte-spec =
+pub take_byte_spec : {M : Type 1} → statement M
+take_byte_spec =
     tie.close
     (tie.spec returns returns-2 returns-3 returns-4 (search rules) (search rules) returns-5)

@@ -17,6 +17,6 @@ returns-3 c = rw (c.before.if1.true, le-ltb 0 _ c.if2.false)
 returns-4 : tie.Need-returns-4
 returns-4 c = rw c.if1.false
 
-pub take-digit-spec : {M : Type 1} → statement M
-take-digit-spec =
+pub take_digit_spec : {M : Type 1} → statement M
+take_digit_spec =
     tie.close (tie.spec (search rules) (search rules) (search rules) (search rules) returns returns-2 returns-3 returns-4)

@@ -26,8 +26,8 @@ returns c =
       omega (arith, p0.1, p1.1, p2.1, p3.1, p4.1, p5.1),
     )
 
-pub put-count-spec : {M : Type 1} → statement M
-put-count-spec =
+pub put_count_spec : {M : Type 1} → statement M
+put_count_spec =
     tie.close
     (tie.spec (search rules) (search rules) (search rules) (search rules) (search rules) (search rules) (search rules)
     (search rules) (search rules) (search rules) (search rules) returns)

@@ -20,8 +20,8 @@ returns c =
           (arith, p0.1, p1.1, p2.1, p3.1, p4.1),
     )
 
-pub put-field-spec : {M : Type 1} → statement M
-put-field-spec =
+pub put_field_spec : {M : Type 1} → statement M
+put_field_spec =
     tie.close
     (tie.spec (search rules) (search rules) (search rules) (search rules) (search rules) (search rules) (search rules)
     (search rules) returns)

@@ -15,7 +15,7 @@ returns c =
     let p2 = c.before.before.put2.ensures in
     (writes_then (writes_then p0.0 p1.0) p2.0, omega (arith, p0.1, p1.1, p2.1))
 
-pub put-other-spec : {M : Type 1} → statement M
-put-other-spec =
+pub put_other_spec : {M : Type 1} → statement M
+put_other_spec =
     tie.close
     (tie.spec (search rules) (search rules) (search rules) (search rules) (search rules) returns)

@@ -20,8 +20,8 @@ returns c =
       omega (arith, p0.1, p1.1, p2.1, p3.1, p4.1, p5.1),
     )
 
-pub put-place-spec : {M : Type 1} → statement M
-put-place-spec =
+pub put_place_spec : {M : Type 1} → statement M
+put_place_spec =
     tie.close
     (tie.spec (search rules) (search rules) (search rules) (search rules) (search rules) (search rules) (search rules)
     (search rules) (search rules) (search rules) returns)

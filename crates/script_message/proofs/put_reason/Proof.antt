@@ -4,9 +4,9 @@ use mathlib.Core.Path.{ap}
 use native.Mathlib.Omega.{arith}
 use Rattle.text.specs.Decimal.{digits}
 use Rattle.text.specs.Ascii.{ascii}
-use Rattle.flaw_model.specs.Message.{reasonText}
-use Rattle.player_model.proofs.Writing.{writes_then, writes-none}
-use Rattle.flaw_model.proofs.Messages.{writes_as, writes-in}
+use Rattle.flaw_model.specs.Message.{reason_text}
+use Rattle.player_model.proofs.Writing.{writes_then, writes_none}
+use Rattle.flaw_model.proofs.Messages.{writes_as, writes_in}
 use borrow.Author.Rules.{rules}
 use Rattle.script_message.proofs.put_reason.Statement.{statement}
 use Rattle.script_message.proofs.put_reason.Tie as tie
@@ -15,13 +15,13 @@ use Rattle.script_message.proofs.put_reason.Tie as tie
 long : tie.Need-returns-2
 unfolding ascii digits
 long c =
-    writes-in c.before.before.put.ensures (ap reasonText c.before.before.before.before.before.enum-told2.given.1)
+    writes_in c.before.before.put.ensures (ap reason_text c.before.before.before.before.before.enum-told2.given.1)
     (omega arith)
 
 full : tie.Need-returns-13
 unfolding ascii digits
 full c =
-    writes-in c.before.before.put7.ensures (ap reasonText c.before.before.before.before.before.enum-told8.given.1)
+    writes_in c.before.before.put7.ensures (ap reason_text c.before.before.before.before.before.enum-told8.given.1)
     (omega arith)
 
 glued : tie.Need-returns-10
@@ -30,13 +30,13 @@ glued c =
     let found = c.before.before.before.before.before.before in
     let p0 = found.put-other3.ensures in
     let p1 = c.before.before.put-form.ensures in (
-      writes_as (writes_then p0.0 p1.0) (ap reasonText found.before.before.before.before.r3.given.1),
+      writes_as (writes_then p0.0 p1.0) (ap reason_text found.before.before.before.before.r3.given.1),
       omega (arith, p0.1, p1.1),
     )
 
-pub put-reason-spec : {M : Type 1} → statement M
+pub put_reason_spec : {M : Type 1} → statement M
 unfolding ascii
-put-reason-spec =
+put_reason_spec =
     tie.close
     (tie.spec (search rules) (search rules) (search rules) (search rules) (search rules) (search rules) (search rules)
     (search rules) (search rules) (search rules) (search rules) (search rules) (search rules) (search rules)
@@ -44,26 +44,26 @@ put-reason-spec =
     (search rules) (search rules) (search rules) (search rules) (search rules) (search rules) (search rules)
     (search rules) (search rules) (search rules) (search rules) (search rules) (search rules) (search rules)
     (search rules) (search rules) (search rules) (search rules)
-    (λ c. (writes_as (writes-none _ _) (ap reasonText c.enum_told.given.1), omega arith)) (search rules)
+    (λ c. (writes_as (writes_none _ _) (ap reason_text c.enum_told.given.1), omega arith)) (search rules)
     long
-    (search rules) (λ c. writes-in c.before.before.put2.ensures
-    (ap reasonText c.before.before.before.before.before.enum-told3.given.1) (omega arith))
-    (search rules) (λ c. writes-in c.before.before.put3.ensures
-    (ap reasonText c.before.before.before.before.before.enum-told4.given.1) (omega arith))
-    (search rules) (λ c. writes-in c.before.before.put4.ensures
-    (ap reasonText c.before.before.before.before.before.enum-told5.given.1) (omega arith))
-    (search rules) (λ c. writes-in c.before.before.put5.ensures
-    (ap reasonText c.before.before.before.before.before.enum-told6.given.1) (omega arith))
-    (search rules) (λ c. writes-in c.before.before.put_other.ensures
-    (ap reasonText c.before.before.before.before.before.before.r.given.1) (omega arith))
-    (search rules) (λ c. writes-in c.before.before.put6.ensures
-    (ap reasonText c.before.before.before.before.before.enum-told7.given.1) (omega arith))
-    (search rules) (λ c. writes-in c.before.before.put-other2.ensures
-    (ap reasonText c.before.before.before.before.before.before.r2.given.1) (omega arith))
-    (search rules) glued (search rules) (λ c. writes-in c.before.before.put_count.ensures
-    (ap reasonText c.before.before.before.before.before.r4.given.1) (omega arith))
-    (search rules) (λ c. writes-in c.before.before.put-field.ensures
-    (ap reasonText c.before.before.before.before.before.r5.given.1) (omega arith))
+    (search rules) (λ c. writes_in c.before.before.put2.ensures
+    (ap reason_text c.before.before.before.before.before.enum-told3.given.1) (omega arith))
+    (search rules) (λ c. writes_in c.before.before.put3.ensures
+    (ap reason_text c.before.before.before.before.before.enum-told4.given.1) (omega arith))
+    (search rules) (λ c. writes_in c.before.before.put4.ensures
+    (ap reason_text c.before.before.before.before.before.enum-told5.given.1) (omega arith))
+    (search rules) (λ c. writes_in c.before.before.put5.ensures
+    (ap reason_text c.before.before.before.before.before.enum-told6.given.1) (omega arith))
+    (search rules) (λ c. writes_in c.before.before.put_other.ensures
+    (ap reason_text c.before.before.before.before.before.before.r.given.1) (omega arith))
+    (search rules) (λ c. writes_in c.before.before.put6.ensures
+    (ap reason_text c.before.before.before.before.before.enum-told7.given.1) (omega arith))
+    (search rules) (λ c. writes_in c.before.before.put-other2.ensures
+    (ap reason_text c.before.before.before.before.before.before.r2.given.1) (omega arith))
+    (search rules) glued (search rules) (λ c. writes_in c.before.before.put_count.ensures
+    (ap reason_text c.before.before.before.before.before.r4.given.1) (omega arith))
+    (search rules) (λ c. writes_in c.before.before.put-field.ensures
+    (ap reason_text c.before.before.before.before.before.r5.given.1) (omega arith))
     (search rules) full
-    (search rules) (λ c. writes-in c.before.before.put8.ensures
-    (ap reasonText c.before.before.before.before.before.enum-told9.given.1) (omega arith)))
+    (search rules) (λ c. writes_in c.before.before.put8.ensures
+    (ap reason_text c.before.before.before.before.before.enum-told9.given.1) (omega arith)))

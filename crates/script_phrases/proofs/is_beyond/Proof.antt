@@ -4,8 +4,8 @@ use borrow.Author.Rules.{rules}
 use Rattle.script_phrases.proofs.is_beyond.Statement.{statement}
 use Rattle.script_phrases.proofs.is_beyond.Tie as tie
 
-pub is-beyond-spec : {M : Type 1} → statement M
-is-beyond-spec =
+pub is_beyond_spec : {M : Type 1} → statement M
+is_beyond_spec =
     tie.close
     (tie.spec (search rules) (search rules) (search rules) (search rules) (search rules) (search rules)
     (λ c b k. search rules) (λ c b k. search rules) (λ c b k. search rules) (λ c b k. search rules) (λ c b k. search rules)

@@ -8,7 +8,7 @@ use Rattle.script_phrases.proofs.of_four.Tie as tie
 returns : tie.Need-returns
 returns c = (cc, omega arith)
 
-pub of-four-spec : {M : Type 1} → statement M
-of-four-spec =
+pub of_four_spec : {M : Type 1} → statement M
+of_four_spec =
     tie.close
     (tie.spec (search rules) (search rules) (search rules) returns)

@@ -20,8 +20,8 @@ returns-2 c =
       omega (arith, p0.1, p1.1),
     )
 
-pub put-byte-spec : {M : Type 1} → statement M
-put-byte-spec =
+pub put_byte_spec : {M : Type 1} → statement M
+put_byte_spec =
     tie.close
     (tie.spec (search rules) (search rules) (search rules) returns (search rules) (search rules) (search rules)
     (search rules) returns-2)

@@ -29,8 +29,8 @@ returns-2 c =
     let a = chosen.before.before.before.args in
     (writes_as p.0 (rw (chosen.before.is-beyond.ensures a.b a.k, chosen.if1.false)), omega (arith, p.1))
 
-pub put-expected-spec : {M : Type 1} → statement M
-put-expected-spec =
+pub put_expected_spec : {M : Type 1} → statement M
+put_expected_spec =
     tie.close
     (tie.spec (search rules) (search rules) (search rules) (search rules) (search rules) (search rules) (search rules)
     (search rules) (search rules) (search rules) (search rules) returns (search rules) (search rules) (search rules) returns-2)

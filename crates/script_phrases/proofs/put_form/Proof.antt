@@ -22,8 +22,8 @@ returns c =
       omega (arith, p0.1, p1.1),
     )
 
-pub put-form-spec : {M : Type 1} → statement M
-put-form-spec =
+pub put_form_spec : {M : Type 1} → statement M
+put_form_spec =
     tie.close
     (tie.spec (search rules) (search rules) (search rules) (search rules) (search rules) (search rules) (search rules)
     (search rules) (search rules) (search rules) (search rules) (search rules) returns)

@@ -9,5 +9,5 @@ use Rattle.script_printing.proofs.letter_of.Tie as tie
 returns-2 : tie.Need-returns-2
 returns-2 c = sym (get_or-eq_default letters 0 c.if1.false)
 
-pub letter-of-spec : {M : Type 1} → statement M
-letter-of-spec = tie.close (tie.spec (search rules) (search rules) returns-2)
+pub letter_of_spec : {M : Type 1} → statement M
+letter_of_spec = tie.close (tie.spec (search rules) (search rules) returns-2)

@@ -5,7 +5,7 @@ use mathlib.Core.Path.{◌≡◌, ◌∙◌}
 use Prim.Native.Nat.{◌+◌}
 use native.Mathlib.Omega.{arith}
 use lib.ListN.{length, set, length-set}
-use Rattle.player_model.proofs.Writing.{writes-length, writes-two, writes-commit}
+use Rattle.player_model.proofs.Writing.{writes_length, writes_two, writes_commit}
 use borrow.Author.Rules.{rules}
 use Rattle.script_printing.proofs.put_commit.Statement.{statement}
 use Rattle.script_printing.proofs.put_commit.Tie as tie
@@ -17,7 +17,7 @@ kept_at : (c : tie.After-letter-of)
     length (set (set p.new.0 p.result c.letter-of.result) (p.result + 1) 44) ≡ length a.out.now
 kept_at c =
     let p = c.before.before.before.put-number in
-    writes-length (writes-two p.new.0 p.result c.letter-of.result 44) ∙ p.auto.0
+    writes_length (writes_two p.new.0 p.result c.letter-of.result 44) ∙ p.auto.0
 
 slice-write-out-2 : tie.Need-slice-write-out-2
 slice-write-out-2 c =
@@ -45,12 +45,12 @@ returns c =
     let q = c.before.before.before.before.before.before.put-number2.ensures in
     let w = c.before.before.put-number3.ensures in
     let a = lettered.before.before.before.before.before.before.args in (
-      writes-commit a.i a.code a.r a.v letter.result letter.ensures p.0 q.0 w.0,
+      writes_commit a.i a.code a.r a.v letter.result letter.ensures p.0 q.0 w.0,
       omega (arith, p.1, q.1, w.1),
     )
 
-pub put-commit-spec : {M : Type 1} → statement M
-put-commit-spec =
+pub put_commit_spec : {M : Type 1} → statement M
+put_commit_spec =
     tie.close
     (tie.spec (search rules) (search rules) (search rules) (search rules) slice-write-out-2 (search rules)
     put-number-requires-2 put-number-requires-3 same_length returns)

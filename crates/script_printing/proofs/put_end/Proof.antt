@@ -10,7 +10,7 @@ use lib.Seq.{sets}
 use Rattle.script_model.specs.declared.Ending.{Ending}
 use Rattle.script_model.specs.Output.{fate}
 use Rattle.player_model.specs.Playing.{Writes}
-use Rattle.player_model.proofs.Writing.{writes_then, writes-text, writes-length}
+use Rattle.player_model.proofs.Writing.{writes_then, writes_text, writes_length}
 use borrow.Author.Rules.{rules}
 use Rattle.script_printing.proofs.put_end.Statement.{statement}
 use Rattle.script_printing.proofs.put_end.Tie as tie
@@ -23,32 +23,32 @@ titled : {e f : Ending} {out mid into : List ℕ} {at m r : ℕ} → e ≡ f →
     → (r ≡ at + length (title f)) × (mid ≡ sets out at (title f)) → into ≡ mid → m ≡ r
     → Writes out at (title e) into m × (m ≤ at + 10)
 titled {f = f} told short put same ends =
-    (rw (told, same, ends) (writes-text (title f) put), omega (arith, put.0))
+    (rw (told, same, ends) (writes_text (title f) put), omega (arith, put.0))
 
-titled-at : (c : tie.At-match-branch)
+titled_at : (c : tie.At-match-branch)
     → let a = c.before.before.args in
     Writes a.out.now a.at (title a.e) c.match.out c.match.a × (c.match.a ≤ a.at + 10)
-titled-at c =
+titled_at c =
     ⊎_elim (λ w. titled w.1.given.1 (omega arith) w.4.ensures w.7 w.8)
     (⊎_elim (λ w. titled w.1.given.1 (omega arith) w.4.ensures w.7 w.8)
     (λ w. titled w.1.given.1 (omega arith) w.4.ensures w.7 w.8)) c.match.branch
 
 put-number-requires : tie.Need-put-number-requires
 put-number-requires c κs =
-    let p = titled-at c.before in
-    omega (arith, writes-length p.0, p.1)
+    let p = titled_at c.before in
+    omega (arith, writes_length p.0, p.1)
 
 same_length : tie.Need-same-length
-same_length c = c.before.before.put-number.auto.0 ∙ writes-length (titled-at c.before.before.before.before).0
+same_length c = c.before.before.put-number.auto.0 ∙ writes_length (titled_at c.before.before.before.before).0
 
 returns : tie.Need-returns
 returns c =
-    let p = titled-at c.before.before.before.before in
+    let p = titled_at c.before.before.before.before in
     let q = c.before.before.put-number.ensures in
     (writes_then p.0 q.0, omega (arith, p.1, q.1))
 
-pub put-end-spec : {M : Type 1} → statement M
-put-end-spec =
+pub put_end_spec : {M : Type 1} → statement M
+put_end_spec =
     tie.close
     (tie.spec (search rules) (search rules) (search rules) (search rules) (search rules) (search rules) (search rules)
     (search rules) (search rules) put-number-requires same_length returns)

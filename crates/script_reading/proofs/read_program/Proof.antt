@@ -6,8 +6,8 @@ use Prim.Native.Nat.{◌+◌, ◌-◌, ◌≤◌}
 use native.Mathlib.Omega.{arith}
 use lib.ListN.{length}
 use borrow.Author.Rules.{rules}
-use Rattle.machine_model.specs.Program.{perInstruction, programMost}
-use Rattle.player_model.proofs.Programs.{Reading, reading-all, reading-goes, reading-stops, reading-ends}
+use Rattle.machine_model.specs.Program.{per_instruction, program_most}
+use Rattle.player_model.proofs.Programs.{Reading, reading_all, reading_goes, reading_stops, reading_ends}
 use Rattle.script_reading.proofs.read_program.Statement.{statement}
 use Rattle.script_reading.proofs.read_program.Tie as tie
 
@@ -16,12 +16,12 @@ invariant-loop s from program₀ cursor₀ line₀ used₀ program cursor line u
     (length program ≡ length program₀) × Reading s from program₀ program cursor line used
 
 abbrev decreases-loop : tie.decreases-loop
-decreases-loop s from program₀ cursor₀ line₀ used₀ program cursor line used = programMost - used
+decreases-loop s from program₀ cursor₀ line₀ used₀ program cursor line used = program_most - used
 
 -- four places are left wherever one is
 room_at : (c : tie.In-loop invariant-loop decreases-loop)
     → let l = c.before.loop in
-    l.used + perInstruction ≤ length l.program
+    l.used + per_instruction ≤ length l.program
 room_at c =
     let l = c.before.loop in
     omega (arith, c.loop-test.true, l.invariant.1.lines, l.invariant.1.room)
@@ -29,7 +29,7 @@ room_at c =
 loop-holds : tie.Need-loop-init invariant-loop decreases-loop
 loop-holds c =
     let start = c.before.before in
-    (refl, reading-all start.args.s.now start.args.program.now start.args.from start.requires)
+    (refl, reading_all start.args.s.now start.args.program.now start.args.from start.requires)
 
 same_length : tie.Need-same-length invariant-loop decreases-loop
 same_length c = c.before.before.before.before.loop.invariant.0
@@ -37,7 +37,7 @@ same_length c = c.before.before.before.before.loop.invariant.0
 returns : tie.Need-returns invariant-loop decreases-loop
 returns c =
     let nothing = sym c.before.before.find-operation.ensures ∙ c.enum_told.given.1 in
-    reading-stops _ _ _ _ _ _ _ c.before.before.before.before.loop.invariant.1 nothing
+    reading_stops _ _ _ _ _ _ _ c.before.before.before.before.loop.invariant.1 nothing
 
 put-four-requires : tie.Need-put-four-requires invariant-loop decreases-loop
 put-four-requires c κs = room_at c.before.before.before.before.before
@@ -61,7 +61,7 @@ loop-again c =
     let turn = found.before.before.before in
     let l = turn.before.loop in (
       c.before.program.given ∙ l.invariant.0,
-      reading-goes _ _ l.program _ _ _ _ _ _ _ _ _ _ l.invariant.1 (omega (arith, turn.loop-test.true))
+      reading_goes _ _ l.program _ _ _ _ _ _ _ _ _ _ l.invariant.1 (omega (arith, turn.loop-test.true))
           (sym found.before.before.find-operation.ensures ∙ found.found.given.1)
           c.before.before.put_four.ensures,
     )
@@ -70,10 +70,10 @@ same-length-2 : tie.Need-same-length-2 invariant-loop decreases-loop
 same-length-2 c = c.before.loop.invariant.0
 
 returns-2 : tie.Need-returns-2 invariant-loop decreases-loop
-returns-2 c = reading-ends _ _ _ _ _ _ _ c.before.loop.invariant.1 (omega (arith, c.loop-test.false))
+returns-2 c = reading_ends _ _ _ _ _ _ _ c.before.loop.invariant.1 (omega (arith, c.loop-test.false))
 
-pub read-program-spec : {M : Type 1} → statement M
-read-program-spec =
+pub read_program_spec : {M : Type 1} → statement M
+read_program_spec =
     tie.close
     (tie.spec invariant-loop decreases-loop loop-holds (search rules) (search rules) same_length returns (search rules)
     put-four-requires add-used add-line loop-less loop-again same-length-2 returns-2)

@@ -4,7 +4,7 @@ use Rattle.script_reading.proofs.say_three.Statement.{statement}
 use Rattle.script_reading.proofs.say_three.Tie as tie
 
 returns : tie.Need-returns
-returns c = rw (c.choose.ensures, c.before.code_of_lem.ensures)
+returns c = rw (c.choose.ensures, c.before.code_of.ensures)
 
-pub say-three-spec : {M : Type 1} → statement M
-say-three-spec = tie.close (tie.spec (λ c κs. search rules) (λ c κs. search rules) returns)
+pub say_three_spec : {M : Type 1} → statement M
+say_three_spec = tie.close (tie.spec (λ c κs. search rules) (λ c κs. search rules) returns)

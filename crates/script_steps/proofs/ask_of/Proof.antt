@@ -1,17 +1,17 @@
 -- `script_steps::ask_of` meets its contract: each item computes. Assumes nothing.
 use mathlib.Core.Path.{◌≡◌, sym, ap}
 use Rattle.script_model.specs.declared.Item.{Item}
-use Rattle.player_model.specs.Playing.{askIn}
+use Rattle.player_model.specs.Playing.{ask_in}
 use borrow.Author.Rules.{rules}
 use Rattle.script_steps.proofs.ask_of.Statement.{statement}
 use Rattle.script_steps.proofs.ask_of.Tie as tie
 
 -- what an item asks for, by the item that it is
-asked : (c : tie.Start) {is : Item} → c.args.item ≡ is → askIn is c.args.line ≡ askIn c.args.item c.args.line
-asked c e = ap (λ (i : Item). askIn i c.args.line) (sym e)
+asked : (c : tie.Start) {is : Item} → c.args.item ≡ is → ask_in is c.args.line ≡ ask_in c.args.item c.args.line
+asked c e = ap (λ (i : Item). ask_in i c.args.line) (sym e)
 
-pub ask-of-spec : {M : Type 1} → statement M
-ask-of-spec =
+pub ask_of_spec : {M : Type 1} → statement M
+ask_of_spec =
     tie.close
     (tie.spec
     (λ c. search rules) (λ c. search rules) (λ c. search rules) (λ c. search rules) (λ c. search rules) (λ c. search rules)

@@ -4,7 +4,7 @@ use mathlib.Core.Path.{sym, ap₂, ◌∙◌}
 use Prim.Native.Nat.{ℕ}
 use lib.Dec.{ltb, leb}
 use borrow.Author.Rules.{rules}
-use Rattle.machine_laws.proofs.Comparing.{faults-kind}
+use Rattle.machine_laws.proofs.Comparing.{faults_kind}
 use Rattle.script_steps.proofs.has_faulted.Statement.{statement}
 use Rattle.script_steps.proofs.has_faulted.Tie as tie
 
@@ -14,10 +14,10 @@ returns c =
     ap₂ (λ (a b : Bool). a || b)
     (ap₂ (λ (k p : ℕ). (ltb 0 k && ltb k 4) && leb entry.words p) c.before.before.entry-kind.ensures
     c.before.entry_IsPlace.ensures
-    ∙ sym (faults-kind entry.words entry.e.instruction entry.e.fate))
+    ∙ sym (faults_kind entry.words entry.e.instruction entry.e.fate))
     c.is-misaligned.ensures
 
-pub has-faulted-spec : {M : Type 1} → statement M
-has-faulted-spec =
+pub has_faulted_spec : {M : Type 1} → statement M
+has_faulted_spec =
     tie.close
     (tie.spec (λ c κs. search rules) (λ c κs. search rules) (λ c κs. search rules) (search rules) returns)

@@ -12,5 +12,5 @@ returns-2 c =
     let list = c.before.args.program.now in
     (omega arith, take_all (length list) list (omega arith) ∙ sym (take_all _ list c.if1.false))
 
-pub places-spec : {M : Type 1} → statement M
-places-spec = tie.close (tie.spec (λ c. search rules) returns-2)
+pub places_spec : {M : Type 1} → statement M
+places_spec = tie.close (tie.spec (λ c. search rules) returns-2)

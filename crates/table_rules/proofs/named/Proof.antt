@@ -11,5 +11,5 @@ returns c = rw (le-ltb _ _ c.if1.true)
 returns-2 : tie.Need-returns-2
 returns-2 c = rw (lt-ltb _ _ c.before.before.if1.false, c.before.position-of.ensures)
 
-pub named-spec : {M : Type 1} → statement M
-named-spec = tie.close (tie.spec returns (λ c. omega arith) (λ c. omega arith) (λ c. omega arith) returns-2)
+pub named_spec : {M : Type 1} → statement M
+named_spec = tie.close (tie.spec returns (λ c. omega arith) (λ c. omega arith) (λ c. omega arith) returns-2)

@@ -2,7 +2,7 @@
 -- the struct owns. `line_at` is called on the slice and the number in the cell, and `place_after` on the line and the number; all
 -- that the proof knows of the two is that each meets its contract. The number that `place_after` returned is stored in the cell,
 -- and the borrow is closed at the struct with that number. The struct is Copy: of what it owns one copy is kept, and of the other
--- what src owns goes to `line_at`. A line's feed stands inside the text, so the place behind it fits its type (`fits-behind`).
+-- what src owns goes to `line_at`. A line's feed stands inside the text, so the place behind it fits its type (`fits_behind`).
 -- Assumes nothing.
 use mathlib.Core.Path.{◌≡◌, refl, sym, ap, ◌∙◌}
 use Prim.Native.Nat.{ℕ, ◌+◌, ◌<◌, ◌^◌}
@@ -50,7 +50,7 @@ use denote.Triple.Entry.{Vals, on_entry}
 use denote.Triple.Spec.{triple_of}
 use denote.Triple.Table.{cited}
 use denote.Triple.Walked.{says, Stays, stay_ref, walk_of, Goes-ref, Walks, ends_at, walked}
-use Rattle.text.specs.Lines.{line_at, afterLine}
+use Rattle.text.specs.Lines.{line_at, after_line}
 use Rattle.text_lines.specs.declared.LineReader.{LineReader}
 use Rattle.text.specs.declared.Line.{Line}
 use Rattle.text.specs.declared.Line.TheVariants.{Whole}
@@ -66,8 +66,8 @@ use Rattle.text_lines.specs.contracts.place_after as place
 use Rattle.text_lines.proofs.place_after.Symbol as place-def
 use Rattle.text_lines.proofs.place_after.Symbol.{name as #lines·place-after}
 use Rattle.text_lines.proofs.place_after.Met as place-thm
-use Rattle.text.proofs.Splits.{line-is}
-use Rattle.text_lines.proofs.Walks.{returned, walk-entered}
+use Rattle.text.proofs.Splits.{line_is}
+use Rattle.text_lines.proofs.Walks.{returned, walk_entered}
 use Rattle.text_lines.specs.contracts.next_line.Key.{name as #lines·next-line}
 use Rattle.text_lines.specs.contracts.next_line as next
 use Rattle.text_lines.proofs.next_line.Statement as stated
@@ -81,9 +81,9 @@ abbrev stayed : Stays (next.ended).signature.params (next.ended).kept
 stayed = (stay_ref (0 ∷ []) tt behind, tt)
 
 -- the place behind the line at an index of a text that fits its type
-fits-behind : (s : List ℕ) (at : ℕ) (l : Line) → length s < 2 ^ 64 → l ≡ line_at s at
+fits_behind : (s : List ℕ) (at : ℕ) (l : Line) → length s < 2 ^ 64 → l ≡ line_at s at
     → (i to : ℕ) → l ≡ Whole i to → to + 1 < 2 ^ 64
-fits-behind s at l fits e i to w = omega (arith, fits, (line-is s at (Whole i to) (sym e ∙ w)).2)
+fits_behind s at l fits e i to w = omega (arith, fits, (line_is s at (Whole i to) (sym e ∙ w)).2)
 
 module _ {M : Type 1} {𝓤 : Ura M} (𝓛 : Logic 𝓤) (at_mem : Memory → SProp 𝓤) (run : Routine → Fun 𝓤) where
   -- the contracts that the proof cites
@@ -144,17 +144,17 @@ module _ {M : Type 1} {𝓤 : Ura M} (𝓛 : Logic 𝓤) (at_mem : Memory → SP
   abbrev passed : Vals line.signature (κ', tt)
   passed = (v ∷ [], (vint w64 h.at ∷ [], tt))
 
-  abbrev to-line : (LineAt 𝓛 at_mem run).Ghost
-  to-line = (((κ', tt), (q', tt), tt, (h.src, (h.at, tt)), passed), tt)
+  abbrev to_line : (LineAt 𝓛 at_mem run).Ghost
+  to_line = (((κ', tt), (q', tt), tt, (h.src, (h.at, tt)), passed), tt)
 
   asked : ent 𝓤 (on_entry 𝓛 line.signature (κ', tt) (q', tt) (h.src, (h.at, tt)) passed)
-      ((LineAt 𝓛 at_mem run).pre to-line)
+      ((LineAt 𝓛 at_mem run).pre to_line)
   asked = qed 𝓛 ((‵ (flft κ' q') ⊛ ‵ ftrue) ∷ ‵ (owns (ShrSlice (named 0) κ' u8 ∷ usize ∷ []) (h.src, (h.at, tt))
       passed) ∷ []) ∵ join ! $ frame ! $ done !
 
   -- what the struct owns gives what `line_at` asks, and is kept
   apart : h.at < 2 ^ 64 → ent 𝓤 (⋆ 𝓛 (‵ Own ∷ (‵ (flft κ' q') ⊛ ‵ ftrue) ∷ []))
-      (sep 𝓤 ((LineAt 𝓛 at_mem run).pre to-line) (sem 𝓛 Own))
+      (sep 𝓤 ((LineAt 𝓛 at_mem run).pre to_line) (sem 𝓛 Own))
   apart fits =
       qed 𝓛 (‵ Own ∷ (‵ (flft κ' q') ⊛ ‵ ftrue) ∷ []) ∵
       use1 𝓛 (‵ Own ⊛ ‵ Own) ((LL.copy D (T'.the_copy α) 𝓛).twice h (mach h.at ∷ [])) $ split ! $
@@ -165,16 +165,16 @@ module _ {M : Type 1} {𝓤 : Ura M} (𝓛 : Logic 𝓤) (at_mem : Memory → SP
       -- [what src owns; what at owns; what the struct owns; the token]
       move ! (1 ∷ []) $ drop ! $ nothing ! $ owned ! usize (Is usize) (uint_Makes 𝓛 w64) h.at _
       (refl, fits) $ fjoin ! $ move ! (1 ∷ 0 ∷ []) $ fjoin ! $
-      move ! (2 ∷ 0 ∷ []) $ use2 𝓛 (raw ((LineAt 𝓛 at_mem run).pre to-line)) asked $ frame ! $ done !)
+      move ! (2 ∷ 0 ∷ []) $ use2 𝓛 (raw ((LineAt 𝓛 at_mem run).pre to_line)) asked $ frame ! $ done !)
 
   -- what `place_after` is passed, at the line l with the machine value u, and what it asks
-  abbrev to-place : Line → Val → (PlaceAfter 𝓛 at_mem run).Ghost
-  to-place l u = ((tt, tt, tt, (l, (h.at, tt)), (u ∷ [], (vint w64 h.at ∷ [], tt))), tt)
+  abbrev to_place : Line → Val → (PlaceAfter 𝓛 at_mem run).Ghost
+  to_place l u = ((tt, tt, tt, (l, (h.at, tt)), (u ∷ [], (vint w64 h.at ∷ [], tt))), tt)
 
-  goes-place : (l : Line) (u : Val) → Is S.the_row l (u ∷ []) → h.at < 2 ^ 64
+  goes_place : (l : Line) (u : Val) → Is S.the_row l (u ∷ []) → h.at < 2 ^ 64
       → ((i to : ℕ) → l ≡ Whole i to → to + 1 < 2 ^ 64)
-      → ent 𝓤 (emp 𝓤) ((PlaceAfter 𝓛 at_mem run).pre (to-place l u))
-  goes-place l u is fits room =
+      → ent 𝓤 (emp 𝓤) ((PlaceAfter 𝓛 at_mem run).pre (to_place l u))
+  goes_place l u is fits room =
       qed 𝓛 [] ∵ says ! room $ nothing ! $ frame ! $
       nothing ! $ owned ! usize (Is usize) (uint_Makes 𝓛 w64) h.at _ (refl, fits) $ fjoin ! $
       owned ! S.the_row (Is S.the_row) (EL.makes S.the_type S'.the_plain 𝓛) l _ is $ fjoin ! $ done !
@@ -184,7 +184,7 @@ module _ {M : Type 1} {𝓤 : Ura M} (𝓛 : Logic 𝓤) (at_mem : Memory → SP
   again m ok = qed 𝓛 (‵ Own ∷ []) ∵ owned ! usize (Is usize) (uint_Makes 𝓛 w64) m _ (refl, ok) $ move ! (1 ∷ 0 ∷ []) $
       by ! (own_put 𝓛 D L 1 vd m (mach h.at))
 
-  exits : (l : Line) (u : Val) (m : ℕ) → Is S.the_row l (u ∷ []) → l ≡ found → m ≡ afterLine l h.at
+  exits : (l : Line) (u : Val) (m : ℕ) → Is S.the_row l (u ∷ []) → l ≡ found → m ≡ after_line l h.at
       → ent 𝓤 (⋆ 𝓛 (‵ (fobs γ (R.coded.code (h' m))) ∷ ‵ (fbor κ (Body (mem R) b o γ)) ∷ ‵ (flft κ q)
       ∷ (‵ (flft κ' q') ⊛ ‵ ftrue) ∷ [])) (Post u)
   exits l u m is e e' =
@@ -223,9 +223,9 @@ module _ {M : Type 1} {𝓤 : Ura M} (𝓛 : Logic 𝓤) (at_mem : Memory → SP
         (look_in ! 0 (sub ! 1 refl (whole !)))))
         (from ! (stop !)) (init ! 9 refl (tt, wt.1.1.0)) $
         move ! (1 ∷ 5 ∷ []) $
-        use2 𝓛 (raw ((LineAt 𝓛 at_mem run).pre to-line) ⊛ ‵ Own) (apart wt.1.1.0.fits) $ split ! $
+        use2 𝓛 (raw ((LineAt 𝓛 at_mem run).pre to_line) ⊛ ‵ Own) (apart wt.1.1.0.fits) $ split ! $
         -- [what `line_at` asks; what the struct owns; the struct's cell; the open borrow; obs; auth; …; _5; …]
-        calls_at ! fm (LineAt 𝓛 at_mem run) known-line to-line (and_then ! (load ! (from ! (stop !)) (look ! 11 refl))
+        calls_at ! fm (LineAt 𝓛 at_mem run) known-line to_line (and_then ! (load ! (from ! (stop !)) (look ! 11 refl))
         (and_then ! (load ! (from ! (stop !)) (look ! 9 refl)) (no_more !))) (λ u.
         returned ! tt (‵ (flft κ' q') ⊛ ‵ ftrue) S.the_row line.ended (κ', tt) (h.src, (h.at, tt)) (λ (r : Line). r ≡ found) u
         (id⊢ 𝓤 _) (λ l e is.
@@ -235,12 +235,12 @@ module _ {M : Type 1} {𝓤 : Ura M} (𝓛 : Logic 𝓤) (at_mem : Memory → SP
         assigns ! (of_opd ! (load ! (from ! (hop ! (look ! 16 refl) (fld ! refl (stop !))))
         (look_in ! 3 (sub ! 1 refl (whole !)))))
         (from ! (stop !)) (init ! 8 refl (tt, wt.1.1.0)) $
-        drop ! $ nothing ! $ use1 𝓛 (raw ((PlaceAfter 𝓛 at_mem run).pre (to-place l u)))
-        (goes-place l u is wt.1.1.0.fits (fits-behind h.src.now h.at l wt.1.0.1.0.fits e)) $
-        calls_at ! fm (PlaceAfter 𝓛 at_mem run) known-place (to-place l u)
+        drop ! $ nothing ! $ use1 𝓛 (raw ((PlaceAfter 𝓛 at_mem run).pre (to_place l u)))
+        (goes_place l u is wt.1.1.0.fits (fits_behind h.src.now h.at l wt.1.0.1.0.fits e)) $
+        calls_at ! fm (PlaceAfter 𝓛 at_mem run) known-place (to_place l u)
         (and_then ! (load ! (from ! (stop !)) (look ! 14 refl))
         (and_then ! (load ! (from ! (stop !)) (look ! 8 refl)) (no_more !)))
-        (λ w. returned ! tt (‵ ftrue) usize place.ended tt (l, (h.at, tt)) (λ (m : ℕ). m ≡ afterLine l h.at) w (id⊢ 𝓤 _)
+        (λ w. returned ! tt (‵ ftrue) usize place.ended tt (l, (h.at, tt)) (λ (m : ℕ). m ≡ after_line l h.at) w (id⊢ 𝓤 _)
         (λ m e' is'.
         -- [the number's facts; …; 'a's token; what the struct owns; the struct's cell; the open borrow; obs; auth; …; _5; …]
         land ! (from ! (stop !)) (store ! 11 refl ((uint_Lawful 𝓛 w64).typed m _ is').0) $
@@ -262,24 +262,24 @@ module _ {M : Type 1} {𝓤 : Ura M} (𝓛 : Logic 𝓤) (at_mem : Memory → SP
     (run : Routine → Fun 𝓤) where
   open 𝓛 use {H}
 
-  next-walks : (C : Calls 𝓤 H) (Λ : Loops 𝓤 H) → FmC 𝓤 H 𝓛.laws C
+  next_walks : (C : Calls 𝓤 H) (Λ : Loops 𝓤 H) → FmC 𝓤 H 𝓛.laws C
       → Triple 𝓤 (C #lines·line-at) (LineAt 𝓛 at_mem run) → Triple 𝓤 (C #lines·place-after) (PlaceAfter 𝓛 at_mem run)
       → Walks 𝓛 next.ended stayed (WpFn 𝓤 H C Λ code.function) (next.clauses 𝓛 at_mem run)
-  next-walks C Λ fm known-line known-place = walked 𝓛 next.ended stayed (next.clauses 𝓛 at_mem run)
+  next_walks C Λ fm known-line known-place = walked 𝓛 next.ended stayed (next.clauses 𝓛 at_mem run)
       (WpFn 𝓤 H C Λ code.function) (λ κs. (mut_vals, tt))
       (λ κs. (mut_Tells (named 0) κs.0 (T.the_row (named_lft 2 1 tt κs)), tt))
       (λ κs qs bounds a g are. via 𝓤 _ (fst∗ 𝓤 _ (emp 𝓤)) (walk 𝓛 at_mem run κs.0 κs.1.0 qs.0 qs.1.0 bounds
       a.0.ref_ptr.0 a.0.ref_ptr.1 a.0.ghost_name a.0.now C Λ fm known-line known-place))
 
-pub next-line-spec : {M : Type 1} → stated.statement M
+pub next_line_spec : {M : Type 1} → stated.statement M
 unfolding code.routine
-next-line-spec 𝓤 𝓛 𝓜 𝓡 =
+next_line_spec 𝓤 𝓛 𝓜 𝓡 =
     let A = 𝓛.A in
     let own = tables 𝓤 𝓛.H 𝓜 𝓡 code.env in
-    walk-entered 𝓛 𝓜 𝓡 next.ended stayed (Goes-ref 𝓛 2 0 tt behind, tt)
+    walk_entered 𝓛 𝓜 𝓡 next.ended stayed (Goes-ref 𝓛 2 0 tt behind, tt)
     (next.clauses 𝓛 𝓜.mem 𝓡.run) code.env #lines·next-line code.function (code.unfolded 𝓤 𝓛.H 𝓜 𝓡)
-    (λ fm. next-walks 𝓛 𝓜.mem 𝓡.run own.C own.Λ fm
-    (cited 𝓤 𝓛.H (LineAt 𝓛 𝓜.mem 𝓡.run) 𝓜 𝓡 code.env #lines·line-at line-def.routine code.calls-text-lines::line-at
+    (λ fm. next_walks 𝓛 𝓜.mem 𝓡.run own.C own.Λ fm
+    (cited 𝓤 𝓛.H (LineAt 𝓛 𝓜.mem 𝓡.run) 𝓜 𝓡 code.env #lines·line-at line-def.routine code.calls-text-lines::line_at_lem
     (line-thm.met 𝓤 𝓛 𝓜 𝓡))
     (cited 𝓤 𝓛.H (PlaceAfter 𝓛 𝓜.mem 𝓡.run) 𝓜 𝓡 code.env #lines·place-after place-def.routine
     code.calls-text-lines::place-after (place-thm.met 𝓤 𝓛 𝓜 𝓡)))

@@ -36,7 +36,7 @@ use denote.Exit.{yes}
 use Rattle.text_lines.specs.declared.LineReader.{LineReader}
 use Rattle.text_lines.specs.contracts.LineReader as T
 use Rattle.text_lines.proofs.LineReader.TheLaws as T'
-use Rattle.text_lines.proofs.Walks.{walk-entered}
+use Rattle.text_lines.proofs.Walks.{walk_entered}
 use Rattle.text_lines.specs.contracts.read_from.Key.{name as #lines·read-from}
 use Rattle.text_lines.specs.contracts.read_from as read
 use Rattle.text_lines.proofs.read_from.Statement as stated
@@ -101,21 +101,21 @@ module _ {M : Type 1} {𝓤 : Ura M} (𝓛 : Logic 𝓤) (mem : Memory → SProp
     (run : Routine → Fun 𝓤) where
   open 𝓛 use {H}
 
-  read-walks : (C : Calls 𝓤 H) (Λ : Loops 𝓤 H) → Walks 𝓛 read.ended stayed (WpFn 𝓤 H C Λ code.function)
+  read_walks : (C : Calls 𝓤 H) (Λ : Loops 𝓤 H) → Walks 𝓛 read.ended stayed (WpFn 𝓤 H C Λ code.function)
       (read.clauses 𝓛 mem run)
-  read-walks C Λ = walked 𝓛 read.ended stayed (read.clauses 𝓛 mem run) (WpFn 𝓤 H C Λ code.function)
+  read_walks C Λ = walked 𝓛 read.ended stayed (read.clauses 𝓛 mem run) (WpFn 𝓤 H C Λ code.function)
       (λ κs. (shr_slice_vals, (uint_vals w64, tt))) (λ κs. (shr_slice_Tells (named 0) κs.0 u8, (uint_Tells w64, tt)))
       (λ κs qs bounds a g are. via 𝓤 _ (fst∗ 𝓤 _ (emp 𝓤)) (walk 𝓛 mem run κs.0 qs.0 a.0 a.1.0
       are.1.0.1 C Λ are.0))
 
-pub read-from-spec : {M : Type 1} → stated.statement M
+pub read_from_spec : {M : Type 1} → stated.statement M
 unfolding code.routine
-read-from-spec 𝓤 𝓛 𝓜 𝓡 =
+read_from_spec 𝓤 𝓛 𝓜 𝓡 =
     let A = 𝓛.A in
     let own = tables 𝓤 𝓛.H 𝓜 𝓡 code.env in
-    walk-entered 𝓛 𝓜 𝓡 read.ended stayed (
+    walk_entered 𝓛 𝓜 𝓡 read.ended stayed (
       Goes-none_slice 𝓛 1 (0 ∷ []) tt (plain (λ _. u8)) yes,
       (Goes-none 𝓛 1 (λ _. usize) yes (λ κs x f. refl), tt),
     )
     (read.clauses 𝓛 𝓜.mem 𝓡.run) code.env #lines·read-from code.function (code.unfolded 𝓤 𝓛.H 𝓜 𝓡)
-    (λ fm. read-walks 𝓛 𝓜.mem 𝓡.run own.C own.Λ)
+    (λ fm. read_walks 𝓛 𝓜.mem 𝓡.run own.C own.Λ)

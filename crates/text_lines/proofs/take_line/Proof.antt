@@ -52,7 +52,7 @@ use denote.Triple.Spec.{triple_of}
 use denote.Triple.Table.{cited}
 use denote.Triple.Walked.{says, Stays, stay_none, stay_none_slice, walk_of, Goes-none, Goes-none_slice, Walks, ends_at, walked}
 use denote.Exit.{yes}
-use Rattle.text.specs.Lines.{line_at, afterLine}
+use Rattle.text.specs.Lines.{line_at, after_line}
 use Rattle.text_lines.specs.declared.LineReader.{LineReader}
 use Rattle.text.specs.declared.Line.{Line}
 use Rattle.text_lines.specs.declared.Taken.{Taken}
@@ -70,7 +70,7 @@ use Rattle.text_lines.specs.contracts.next_line as next
 use Rattle.text_lines.proofs.next_line.Symbol as next-def
 use Rattle.text_lines.proofs.next_line.Symbol.{name as #lines·next-line}
 use Rattle.text_lines.proofs.next_line.Met as next-thm
-use Rattle.text_lines.proofs.Walks.{Reader, returned, walk-entered}
+use Rattle.text_lines.proofs.Walks.{Reader, returned, walk_entered}
 use Rattle.text_lines.specs.contracts.take_line.Key.{name as #lines·take-line}
 use Rattle.text_lines.specs.contracts.take_line as take
 use Rattle.text_lines.proofs.take_line.Statement as stated
@@ -125,9 +125,9 @@ module _ {M : Type 1} {𝓤 : Ura M} (𝓛 : Logic 𝓤) (at_mem : Memory → SP
   abbrev to_read : (Read 𝓛 at_mem run).Ghost
   to_read = (((κ, tt), (q, tt), tt, (s, (n, tt)), at), tt)
 
-  goes-read : ent 𝓤 (on_entry 𝓛 take.signature (κ, tt) (q, tt) (s, (n, tt)) at)
+  goes_read : ent 𝓤 (on_entry 𝓛 take.signature (κ, tt) (q, tt) (s, (n, tt)) at)
       (sep 𝓤 ((Read 𝓛 at_mem run).pre to_read) (sem 𝓛 Own))
-  goes-read =
+  goes_read =
       qed 𝓛 ((‵ (flft κ q) ⊛ ‵ ftrue) ∷ ‵ (owns (ShrSlice (named 0) κ u8 ∷ usize ∷ []) (s, (n, tt)) at) ∷ []) ∵
       move ! (1 ∷ []) $ fsplit ! $ use1 𝓛 (‵ Own ⊛ ‵ Own) ((shr_slice_copy 𝓛 (named 0) κ u8).twice s (v ∷ [])) $
       split ! $
@@ -158,21 +158,21 @@ module _ {M : Type 1} {𝓤 : Ura M} (𝓛 : Logic 𝓤) (at_mem : Memory → SP
   abbrev lent : LineReader → ℕ → GName → MutBor LineReader
   lent r l δ = record { ref_ptr = (l, 0); ghost_name = δ; now = r }
 
-  abbrev to-next : LineReader → ℕ → ℕ → GName → (Next 𝓛 at_mem run).Ghost
-  to-next r l ν δ =
+  abbrev to_next : LineReader → ℕ → ℕ → GName → (Next 𝓛 at_mem run).Ghost
+  to_next r l ν δ =
       (((ν ∷ κ, (κ, tt)), (◑, (◐, tt)), (meet_⊑_right (ν ∷ []) κ, tt), (lent r l δ, tt), (vptr l 0 ∷ [], tt)), tt)
 
-  goes-next : (r : LineReader) (l ν : ℕ) (δ : GName)
+  goes_next : (r : LineReader) (l ν : ℕ) (δ : GName)
       → ent 𝓤 (⋆ 𝓛 (‵ (flft (ν ∷ κ) ◑) ∷ ‵ (flft κ ◐) ∷ ‵ ((MutRef (named 0) (ν ∷ κ) R).own_val (lent r l δ) (vptr l 0 ∷ []))
-      ∷ [])) ((Next 𝓛 at_mem run).pre (to-next r l ν δ))
-  goes-next r l ν δ =
+      ∷ [])) ((Next 𝓛 at_mem run).pre (to_next r l ν δ))
+  goes_next r l ν δ =
       qed 𝓛 (‵ (flft (ν ∷ κ) ◑) ∷ ‵ (flft κ ◐) ∷ ‵ ((MutRef (named 0) (ν ∷ κ) R).own_val (lent r l δ) (vptr l 0 ∷ [])) ∷ []) ∵
       nothing ! $ move ! (2 ∷ 0 ∷ []) $ join ! $ move ! (1 ∷ 0 ∷ []) $ join ! $
       nothing ! $ move ! (2 ∷ 0 ∷ []) $ fjoin ! $ move ! (1 ∷ 0 ∷ []) $ join ! $ frame ! $ done !
 
   -- what `next_line` says of the line t and of the reader g that it left
   abbrev Said : LineReader → Line → LineReader → Type 0
-  Said r t g = (t ≡ line_at r.src.now r.at) × (g.src ≡ r.src) × (g.at ≡ afterLine t r.at)
+  Said r t g = (t ≡ line_at r.src.now r.at) × (g.src ≡ r.src) × (g.at ≡ after_line t r.at)
 
   -- the result, its machine value where the line's is w, and what is known of it
   abbrev result : Line → LineReader → Taken
@@ -181,9 +181,9 @@ module _ {M : Type 1} {𝓤 : Ura M} (𝓛 : Logic 𝓤) (at_mem : Memory → SP
   abbrev value : Val → LineReader → Val
   value w g = vstruct (vcons w (vcons (vint w64 g.at) vnil))
 
-  is-result : (t : Line) (w : Val) (g : LineReader) → Is S.the_row t (w ∷ []) → g.at < 2 ^ 64
+  is_result : (t : Line) (w : Val) (g : LineReader) → Is S.the_row t (w ∷ []) → g.at < 2 ^ 64
       → Is U.the_row (result t g) (value w g ∷ [])
-  is-result t w g is fits = ((w ∷ [], (vint w64 g.at ∷ [], tt)), (refl, (is, ((refl, fits), tt))))
+  is_result t w g is fits = ((w ∷ [], (vint w64 g.at ∷ [], tt)), (refl, (is, ((refl, fits), tt))))
 
   exits : (r : LineReader) (t : Line) (w : Val) (g : LineReader) → (r.src ≡ s) × (r.at ≡ n) → Said r t g
       → Is S.the_row t (w ∷ []) → g.at < 2 ^ 64
@@ -194,10 +194,10 @@ module _ {M : Type 1} {𝓤 : Ura M} (𝓛 : Logic 𝓤) (at_mem : Memory → SP
       qed 𝓛 ((‵ (flft κ ◐) ⊛ ‵ ftrue) ∷ ‵ (flft κ ◑) ∷ ‵ Own ∷ []) ∵
       suffices ! _ (ends_at 𝓛 take.ended stayed (take.clauses 𝓛 at_mem run)
       (((κ, tt), (q, tt), tt, (s, (n, tt)), at), tt) (value w g) (result t g) (tt, (tt, tt)) (tt, (tt, tt))) $
-      says ! (here, e'.2 ∙ ap₂ afterLine here e.1) $
+      says ! (here, e'.2 ∙ ap₂ after_line here e.1) $
       split ! $ move ! (0 ∷ 2 ∷ []) $ use2 𝓛 (‵ (flft κ q)) (𝓛.lfts.lft_join κ q) $ join ! $ frame ! $
       nothing ! $ owned ! usize (Is usize) (uint_Makes 𝓛 w64) n _ (refl, ok) $ fjoin ! $ move ! (1 ∷ 0 ∷ []) $ fjoin ! $
-      owned ! U.the_row (Is U.the_row) (LL.makes U.the_type U'.the_plain 𝓛) (result t g) _ (is-result t w g is fits) $
+      owned ! U.the_row (Is U.the_row) (LL.makes U.the_type U'.the_plain 𝓛) (result t g) _ (is_result t w g is fits) $
       move ! (1 ∷ 0 ∷ []) $ done !
 
   module _ (C : Calls 𝓤 H) (Λ : Loops 𝓤 H) (fm : FmC 𝓤 H 𝓛.laws C)
@@ -212,7 +212,7 @@ module _ {M : Type 1} {𝓤 : Ura M} (𝓛 : Logic 𝓤) (at_mem : Memory → SP
         alloc1 ! (λ l₇. alloc0 ! $ params1 ! $
         pass1 ! (init ! 12 refl ((shr_slice_Lawful 𝓛 (named 0) κ u8).typed s (v ∷ []) p).0) $
         pass1 ! (init ! 10 refl (tt, record { fits = ok })) $ pass0 ! $
-        move ! (16 ∷ []) $ use1 𝓛 (raw ((Read 𝓛 at_mem run).pre to_read) ⊛ ‵ Own) goes-read $ split ! $
+        move ! (16 ∷ []) $ use1 𝓛 (raw ((Read 𝓛 at_mem run).pre to_read) ⊛ ‵ Own) goes_read $ split ! $
         calls_at ! fm (Read 𝓛 at_mem run) known_read to_read (and_then ! (load ! (from ! (stop !)) (look ! 14 refl))
         (and_then ! (load ! (from ! (stop !)) (look ! 12 refl)) (no_more !))) (λ u.
         returned ! tt (‵ (flft κ q) ⊛ ‵ ftrue) (Reader (κ, tt)) read.ended (κ, tt) (s, (n, tt))
@@ -232,8 +232,8 @@ module _ {M : Type 1} {𝓤 : Ura M} (𝓛 : Logic 𝓤) (at_mem : Memory → SP
         use1 𝓛 (‵ (flft κ ◐) ⊛ ‵ (flft κ ◑)) (𝓛.lfts.lft_split κ q) $ split ! $ move ! (4 ∷ 1 ∷ []) $
         use2 𝓛 (‵ (flft (ν ∷ κ) ◑) ⊛ raw (wand 𝓤 (A.lft (ν ∷ []) ◑) (A.lft (ν ∷ []) full_share)))
         (within_token 𝓛 ν κ ◑) $ split ! $ move ! (0 ∷ 2 ∷ 3 ∷ []) $
-        use3 𝓛 (raw ((Next 𝓛 at_mem run).pre (to-next r l₃ ν δ))) (goes-next r l₃ ν δ) $
-        calls_at ! fm (Next 𝓛 at_mem run) known_next (to-next r l₃ ν δ)
+        use3 𝓛 (raw ((Next 𝓛 at_mem run).pre (to_next r l₃ ν δ))) (goes_next r l₃ ν δ) $
+        calls_at ! fm (Next 𝓛 at_mem run) known_next (to_next r l₃ ν δ)
         (and_then ! (load ! (from ! (stop !)) (look ! 6 refl)) (no_more !)) (λ w.
         use1 𝓛 (later (some (λ (t : Line). ((‵ (flft (ν ∷ κ) ◑) ⊛ ‵ (flft κ ◐) ⊛ ‵ ftrue) ⊛ ‵ ((S.the_row).own_val t (w ∷ []))) ⊛ raw
         (ensured 𝓛 next.ended (next.clauses 𝓛 at_mem run) (ν ∷ κ, (κ, tt)) (lent r l₃ δ, tt) tt t)))) (id⊢ 𝓤 _) $
@@ -261,7 +261,7 @@ module _ {M : Type 1} {𝓤 : Ura M} (𝓛 : Logic 𝓤) (at_mem : Memory → SP
         assigns ! (agg ! (and_then ! (load ! (from ! (stop !)) (look ! 13 refl))
         (and_then ! (load ! (from ! (stop !)) (look ! 7 refl)) (no_more !)))) (from ! (stop !))
         (init ! 20 refl ((LL.lawful U.the_type U'.the_laws 𝓛).typed (result t gs.0) _
-        (is-result t w gs.0 is' wt.1.1.0.fits)).0) $
+        (is_result t w gs.0 is' wt.1.1.0.fits)).0) $
         returns ! (look ! 20 refl) $ forget ! 0 refl $ forget ! 7 refl $ forget ! 9 refl $ forget ! 11 refl $ forget ! 13 refl $
         forget ! 16 refl $ forget ! 18 refl $ forget ! 20 refl $
         move ! (20 ∷ 21 ∷ []) $ free1 ! $ move ! (18 ∷ 19 ∷ []) $ free1 ! $ move ! (16 ∷ 17 ∷ []) $ free1 ! $
@@ -282,12 +282,12 @@ module _ {M : Type 1} {𝓤 : Ura M} (𝓛 : Logic 𝓤) (at_mem : Memory → SP
       (λ κs qs bounds a g are. via 𝓤 _ (fst∗ 𝓤 _ (emp 𝓤)) (walk 𝓛 at_mem run κs.0 qs.0 a.0 a.1.0
       are.1.0.1 C Λ fm known_read known_next are.0))
 
-pub take-line-spec : {M : Type 1} → stated.statement M
+pub take_line_spec : {M : Type 1} → stated.statement M
 unfolding code.routine
-take-line-spec 𝓤 𝓛 𝓜 𝓡 =
+take_line_spec 𝓤 𝓛 𝓜 𝓡 =
     let A = 𝓛.A in
     let own = tables 𝓤 𝓛.H 𝓜 𝓡 code.env in
-    walk-entered 𝓛 𝓜 𝓡 take.ended stayed (
+    walk_entered 𝓛 𝓜 𝓡 take.ended stayed (
       Goes-none_slice 𝓛 1 (0 ∷ []) tt (plain (λ _. u8)) yes,
       (Goes-none 𝓛 1 (λ _. usize) yes (λ κs x f. refl), tt),
     )

@@ -9,8 +9,8 @@ use native.Mathlib.Omega.{arith}
 use lib.ListN.{length, length-append, length-set, set}
 use lib.Seq.{sets, length-sets}
 use Rattle.text.specs.Decimal.{decimal}
-use Rattle.text.proofs.Digits.{decimal-small, decimal-more, decimal-length}
-use Rattle.text.proofs.Stores.{sets-append}
+use Rattle.text.proofs.Digits.{decimal_small, decimal_more, decimal_length}
+use Rattle.text.proofs.Stores.{sets_append}
 use borrow.Fn.Kinds.{In}
 use borrow.Fn.PlainCycle.{Measures, is, falls, and}
 use Rattle.text_numbers.proofs.put_decimal.Reads as put-decimal
@@ -25,107 +25,107 @@ Put l place n end text = (end ≡ place + length (decimal n)) × (text ≡ sets 
 
 put_small : (l : List ℕ) (place n : ℕ) → n < 10 → Put l place n (place + 1) (set l place (48 + n))
 put_small l place n h =
-    (ap (λ (d : List ℕ). place + length d) (sym (decimal-small n h)), ap (sets l place) (sym (decimal-small n h)))
+    (ap (λ (d : List ℕ). place + length d) (sym (decimal_small n h)), ap (sets l place) (sym (decimal_small n h)))
 
 length_more : (n : ℕ) → 10 ≤ n → length (decimal n) ≡ length (decimal (n / 10)) + 1
-length_more n h = ap length (decimal-more n h) ∙ length-append (decimal (n / 10)) ((48 + n % 10) ∷ [])
+length_more n h = ap length (decimal_more n h) ∙ length-append (decimal (n / 10)) ((48 + n % 10) ∷ [])
 
-put-more : (l : List ℕ) (place n end : ℕ) (text : List ℕ) → 10 ≤ n → Put l place (n / 10) end text
+put_more : (l : List ℕ) (place n end : ℕ) (text : List ℕ) → 10 ≤ n → Put l place (n / 10) end text
     → Put l place n (end + 1) (set text end (48 + n % 10))
-put-more l place n end text h p = (
+put_more l place n end text h p = (
   omega (arith, length_more n h),
   ap (λ (m : List ℕ). set m end (48 + n % 10)) p.1
       ∙ ap (λ (e : ℕ). set (sets l place (decimal (n / 10))) e (48 + n % 10)) p.0
-      ∙ sym (sets-append l place (decimal (n / 10)) ((48 + n % 10) ∷ []))
-      ∙ ap (sets l place) (sym (decimal-more n h)),
+      ∙ sym (sets_append l place (decimal (n / 10)) ((48 + n % 10) ∷ []))
+      ∙ ap (sets l place) (sym (decimal_more n h)),
 )
 
 -- the last digit of a u64 has room
 room : (l : List ℕ) (place n end : ℕ) (text : List ℕ) → 10 ≤ n → n < 18446744073709551616 → place + 20 ≤ length l
     → Put l place (n / 10) end text → (end < length text)
 room l place n end text h k r p =
-    omega (arith, length_more n h, decimal-length n k, ap length p.1, length-sets l place (decimal (n / 10)))
+    omega (arith, length_more n h, decimal_length n k, ap length p.1, length-sets l place (decimal (n / 10)))
 
 abbrev μ-put-decimal : Measures 1 put-decimal-kinds.ps ℕ
 μ-put-decimal κs a = a.1.1.0
 
 -- what `put_decimal` is given at the measure t, and what a call of it asks below t
-abbrev put-decimal-at : ℕ → In 1 put-decimal-kinds.ps
-put-decimal-at t =
+abbrev put_decimal_at : ℕ → In 1 put-decimal-kinds.ps
+put_decimal_at t =
     and 1 put-decimal-kinds.ps (is 1 put-decimal-kinds.ps μ-put-decimal t) put-decimal.Pre
 
-abbrev put-decimal-below : ℕ → In 1 put-decimal-kinds.ps
-put-decimal-below t =
+abbrev put_decimal_below : ℕ → In 1 put-decimal-kinds.ps
+put_decimal_below t =
     and 1 put-decimal-kinds.ps (falls 1 put-decimal-kinds.ps ◌<◌ μ-put-decimal t) put-decimal.Pre
 
 -- the inner call: what it asks, and what it promises
 abbrev inner : ℕ → put-decimal-lts.Claims
-inner t = (put-decimal-below t, put-decimal.Post)
+inner t = (put_decimal_below t, put-decimal.Post)
 
-put-decimal-add-out : (t : ℕ) → put-decimal-lts.Need-overflow-add-out (inner t) (put-decimal-at t) put-decimal.Post
-put-decimal-add-out t c = omega arith
+put_decimal_add_out : (t : ℕ) → put-decimal-lts.Need-overflow-add-out (inner t) (put_decimal_at t) put-decimal.Post
+put_decimal_add_out t c = omega arith
 
-put-decimal-cast-out : (t : ℕ) → put-decimal-lts.Need-overflow-cast-out (inner t) (put-decimal-at t) put-decimal.Post
-put-decimal-cast-out t c = omega arith
+put_decimal_cast_out : (t : ℕ) → put-decimal-lts.Need-overflow-cast-out (inner t) (put_decimal_at t) put-decimal.Post
+put_decimal_cast_out t c = omega arith
 
-put-decimal-slice-write-out : (t : ℕ) → put-decimal-lts.Need-slice-write-out (inner t) (put-decimal-at t) put-decimal.Post
-put-decimal-slice-write-out t c = omega arith
+put_decimal_slice_write_out : (t : ℕ) → put-decimal-lts.Need-slice-write-out (inner t) (put_decimal_at t) put-decimal.Post
+put_decimal_slice_write_out t c = omega arith
 
-put-decimal-add-result : (t : ℕ) → put-decimal-lts.Need-overflow-add-result (inner t) (put-decimal-at t) put-decimal.Post
-put-decimal-add-result t c = omega arith
+put_decimal_add_result : (t : ℕ) → put-decimal-lts.Need-overflow-add-result (inner t) (put_decimal_at t) put-decimal.Post
+put_decimal_add_result t c = omega arith
 
-put-decimal-put-decimal-requires : (t : ℕ) → put-decimal-lts.Need-put-decimal-requires (inner t)
-    (put-decimal-at t) put-decimal.Post
-put-decimal-put-decimal-requires t c κs = (omega arith, omega arith)
+put_decimal_put_decimal_requires : (t : ℕ) → put-decimal-lts.Need-put-decimal-requires (inner t)
+    (put_decimal_at t) put-decimal.Post
+put_decimal_put_decimal_requires t c κs = (omega arith, omega arith)
 
-put-decimal-add-out-2 : (t : ℕ) → put-decimal-lts.Need-overflow-add-out-2 (inner t) (put-decimal-at t) put-decimal.Post
-put-decimal-add-out-2 t c = omega arith
+put_decimal_add_out_2 : (t : ℕ) → put-decimal-lts.Need-overflow-add-out-2 (inner t) (put_decimal_at t) put-decimal.Post
+put_decimal_add_out_2 t c = omega arith
 
-put-decimal-cast-out-2 : (t : ℕ) → put-decimal-lts.Need-overflow-cast-out-2 (inner t) (put-decimal-at t) put-decimal.Post
-put-decimal-cast-out-2 t c = omega arith
+put_decimal_cast_out_2 : (t : ℕ) → put-decimal-lts.Need-overflow-cast-out-2 (inner t) (put_decimal_at t) put-decimal.Post
+put_decimal_cast_out_2 t c = omega arith
 
-put-decimal-slice-write-out-2 : (t : ℕ) → put-decimal-lts.Need-slice-write-out-2 (inner t) (put-decimal-at t) put-decimal.Post
-put-decimal-slice-write-out-2 t c =
+put_decimal_slice_write_out_2 : (t : ℕ) → put-decimal-lts.Need-slice-write-out-2 (inner t) (put_decimal_at t) put-decimal.Post
+put_decimal_slice_write_out_2 t c =
     let start = c.before.before.before.before.before.before in
     let a = start.args in
     let p = c.before.before.put-decimal in
     room a.out.now a.at a.n p.result p.new.0 (omega arith) (omega arith) start.requires.1 p.ensures
 
-put-decimal-add-result-2 : (t : ℕ) → put-decimal-lts.Need-overflow-add-result-2 (inner t) (put-decimal-at t) put-decimal.Post
-put-decimal-add-result-2 t c = omega (arith, put-decimal-slice-write-out-2 t c)
+put_decimal_add_result_2 : (t : ℕ) → put-decimal-lts.Need-overflow-add-result-2 (inner t) (put_decimal_at t) put-decimal.Post
+put_decimal_add_result_2 t c = omega (arith, put_decimal_slice_write_out_2 t c)
 
-put-decimal-same-length : (t : ℕ) → put-decimal-lts.Need-same-length (inner t) (put-decimal-at t) put-decimal.Post
-put-decimal-same-length t c = let a = c.before.before.args in length-set a.out.now a.at (48 + a.n)
+put_decimal_same_length : (t : ℕ) → put-decimal-lts.Need-same-length (inner t) (put_decimal_at t) put-decimal.Post
+put_decimal_same_length t c = let a = c.before.before.args in length-set a.out.now a.at (48 + a.n)
 
-put-decimal-returns : (t : ℕ) → put-decimal-lts.Need-returns (inner t) (put-decimal-at t) put-decimal.Post
-put-decimal-returns t c = let a = c.before.before.args in put_small a.out.now a.at a.n (omega arith)
+put_decimal_returns : (t : ℕ) → put-decimal-lts.Need-returns (inner t) (put_decimal_at t) put-decimal.Post
+put_decimal_returns t c = let a = c.before.before.args in put_small a.out.now a.at a.n (omega arith)
 
-put-decimal-same-length-2 : (t : ℕ) → put-decimal-lts.Need-same-length-2 (inner t) (put-decimal-at t) put-decimal.Post
-put-decimal-same-length-2 t c =
+put_decimal_same_length_2 : (t : ℕ) → put-decimal-lts.Need-same-length-2 (inner t) (put_decimal_at t) put-decimal.Post
+put_decimal_same_length_2 t c =
     let p = c.before.before.put-decimal in
     length-set p.new.0 p.result (48 + c.before.before.before.before.before.before.args.n % 10) ∙ p.auto.0
 
-put-decimal-returns-2 : (t : ℕ) → put-decimal-lts.Need-returns-2 (inner t) (put-decimal-at t) put-decimal.Post
-put-decimal-returns-2 t c =
+put_decimal_returns_2 : (t : ℕ) → put-decimal-lts.Need-returns-2 (inner t) (put_decimal_at t) put-decimal.Post
+put_decimal_returns_2 t c =
     let a = c.before.before.before.before.before.before.args in
     let p = c.before.before.put-decimal in
-    put-more a.out.now a.at a.n p.result p.new.0 (omega arith) p.ensures
+    put_more a.out.now a.at a.n p.result p.new.0 (omega arith) p.ensures
 
 pub +put-decimal-spec : {M : Type 1} → statement M
 +put-decimal-spec = close μ-put-decimal λ t. put-decimal-lts.spec
     (inner t)
-    (put-decimal-at t)
+    (put_decimal_at t)
     put-decimal.Post
-    (put-decimal-add-out t)
-    (put-decimal-cast-out t)
-    (put-decimal-slice-write-out t)
-    (put-decimal-add-result t)
-    (put-decimal-put-decimal-requires t)
-    (put-decimal-add-out-2 t)
-    (put-decimal-cast-out-2 t)
-    (put-decimal-slice-write-out-2 t)
-    (put-decimal-add-result-2 t)
-    (put-decimal-same-length t)
-    (put-decimal-returns t)
-    (put-decimal-same-length-2 t)
-    (put-decimal-returns-2 t)
+    (put_decimal_add_out t)
+    (put_decimal_cast_out t)
+    (put_decimal_slice_write_out t)
+    (put_decimal_add_result t)
+    (put_decimal_put_decimal_requires t)
+    (put_decimal_add_out_2 t)
+    (put_decimal_cast_out_2 t)
+    (put_decimal_slice_write_out_2 t)
+    (put_decimal_add_result_2 t)
+    (put_decimal_same_length t)
+    (put_decimal_returns t)
+    (put_decimal_same_length_2 t)
+    (put_decimal_returns_2 t)

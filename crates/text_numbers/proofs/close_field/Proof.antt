@@ -6,7 +6,7 @@ use mathlib.Core.Path.{◌≡◌, ◌∙◌}
 use native.Mathlib.Omega.{arith}
 use lib.ListN.{length}
 use borrow.Author.Tests.{not-true, not-false}
-use Rattle.text.specs.computed.Reader.{capacity}
+use Rattle.text.specs.Computed.Reader.{capacity}
 use Rattle.text.proofs.Reader.{next_field, no_field, no_room}
 use borrow.Author.Rules.{rules}
 use Rattle.text_numbers.proofs.close_field.Statement.{statement}
@@ -33,7 +33,7 @@ returns-3 c =
     c.spoiled2.ensures
     ∙ no_room n.count n.values long n.good n.begun n.current b (omega arith)
 
-pub close-field-spec : {M : Type 1} → statement M
-close-field-spec =
+pub close_field_spec : {M : Type 1} → statement M
+close_field_spec =
     tie.close
     (tie.spec (search rules) returns (search rules) (search rules) (search rules) returns-2 (search rules) returns-3)

@@ -4,8 +4,8 @@ use mathlib.Core.Path.{sym, ap, ◌∙◌}
 use Prim.Native.Nat.{ℕ}
 use native.Mathlib.Omega.{arith}
 use Rattle.text.specs.Fields.{largest, byte}
-use Rattle.text.specs.computed.Reader.{shown, few}
-use Rattle.text.proofs.Reader.{below-digits, above-digits}
+use Rattle.text.specs.Computed.Reader.{shown, few}
+use Rattle.text.proofs.Reader.{below_digits, above_digits}
 use borrow.Author.Rules.{rules}
 use Rattle.text_numbers.proofs.next_byte.Statement.{statement}
 use Rattle.text_numbers.proofs.next_byte.Tie as tie
@@ -18,20 +18,20 @@ returns c =
 returns-2 : tie.Need-returns-2
 returns-2 c =
     let a = c.before.before.before.args in
-    c.spoiled.ensures ∙ below-digits (shown a.n) a.b c.before.before.if1.false c.before.if2.true
+    c.spoiled.ensures ∙ below_digits (shown a.n) a.b c.before.before.if1.false c.before.if2.true
 
 returns-3 : tie.Need-returns-3
 returns-3 c =
     let a = c.before.before.before.before.args in
-    c.spoiled2.ensures ∙ above-digits (shown a.n) a.b c.before.if3.true
+    c.spoiled2.ensures ∙ above_digits (shown a.n) a.b c.before.if3.true
 
 returns-4 : tie.Need-returns-4
 returns-4 c =
     let a = c.before.before.before.before.args in
     c.add-digit.ensures ∙ ap (λ (k : ℕ). few (byte largest (shown a.n) k)) (omega arith)
 
-pub next-byte-spec : {M : Type 1} → statement M
-next-byte-spec =
+pub next_byte_spec : {M : Type 1} → statement M
+next_byte_spec =
     tie.close
     (tie.spec (search rules) returns (search rules) returns-2 (search rules) returns-3 (search rules) (search rules)
     returns-4)

@@ -8,7 +8,7 @@ use native.Mathlib.Omega.{arith}
 use lib.ListN.{length, get_or, set, take}
 use lib.Seq.{sets, length-sets, length-take-le, take-suc, take_all}
 use borrow.Author.Rules.{rules}
-use Rattle.text.proofs.Stores.{sets-append}
+use Rattle.text.proofs.Stores.{sets_append}
 use Rattle.text_numbers.proofs.put_text.Statement.{statement}
 use Rattle.text_numbers.proofs.put_text.Tie as tie
 
@@ -16,7 +16,7 @@ one_more : (l s : List ℕ) (at i : ℕ) → i < length s
     → set (sets l at (take i s)) (at + i) (get_or s i 0) ≡ sets l at (take (i + 1) s)
 one_more l s at i h =
     ap (λ (k : ℕ). set (sets l at (take i s)) (at + k) (get_or s i 0)) (sym (length-take-le i s (omega arith)))
-    ∙ sym (sets-append l at (take i s) (get_or s i 0 ∷ []))
+    ∙ sym (sets_append l at (take i s) (get_or s i 0 ∷ []))
     ∙ ap (sets l at) (sym (take-suc s i 0 h) ∙ ap (λ (k : ℕ). take k s) (sym (add-one i)))
 
 abbrev invariant-loop : tie.invariant-loop
@@ -53,8 +53,8 @@ returns c =
       l.invariant.1 ∙ ap (sets a.out.now a.at) (take_all l.i a.s.now (omega arith)),
     )
 
-pub put-text-spec : {M : Type 1} → statement M
-put-text-spec =
+pub put_text_spec : {M : Type 1} → statement M
+put_text_spec =
     tie.close
     (tie.spec invariant-loop decreases-loop (search rules) (search rules) (search rules) slice-write-out (search rules)
     (search rules) loop-again (search rules) same_length returns)

@@ -6,8 +6,8 @@ use native.Mathlib.Omega.{arith}
 use lib.Seq.{slice}
 use borrow.Author.Rules.{rules}
 use Rattle.text.specs.Fields.{largest, bytes, closed, fields}
-use Rattle.text.specs.computed.Reader.{shown, fitting}
-use Rattle.text.proofs.Reader.{read-on, read_all}
+use Rattle.text.specs.Computed.Reader.{shown, fitting}
+use Rattle.text.proofs.Reader.{read_on, read_all}
 use Rattle.text_numbers.proofs.read_fields.Statement.{statement}
 use Rattle.text_numbers.proofs.read_fields.Tie as tie
 
@@ -24,7 +24,7 @@ loop-again c =
     let a = start.args in
     let l = c.before.before.before.loop in
     let r = c.next-byte in
-    read-on (shown l.n) (shown r.result) a.s.now l.i a.to (omega arith) start.requires r.ensures
+    read_on (shown l.n) (shown r.result) a.s.now l.i a.to (omega arith) start.requires r.ensures
     ∙ l.invariant
 
 returns : tie.Need-returns invariant-loop decreases-loop
@@ -38,8 +38,8 @@ returns c =
       c.finish-line.ensures.1,
     )
 
-pub read-fields-spec : {M : Type 1} → statement M
-read-fields-spec =
+pub read_fields_spec : {M : Type 1} → statement M
+read_fields_spec =
     tie.close
     (tie.spec invariant-loop decreases-loop (λ c. refl) (λ c. omega arith) (search rules) (λ c. omega arith) (λ c. omega arith)
     loop-again (search rules) returns)

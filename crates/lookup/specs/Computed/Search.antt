@@ -5,8 +5,8 @@ use Rattle.std.specs.Prelude.{Bool, cond, not, ◌&&◌, List, ℕ, zero, suc, �
 use Rattle.std.specs.Int.Bits.{bit_or}
 use Rattle.marks.specs.Stages.{has}
 use Rattle.marks.specs.Circle.{stage}
-use Rattle.table.specs.Limits.{rowsMost}
-use Rattle.table.specs.computed.Check.{marksOf}
+use Rattle.table.specs.Limits.{rows_most}
+use Rattle.table.specs.Computed.Check.{marks_of}
 use Rattle.table.specs.Reference.{Fate, waiting, other, accessed, lacks, holds, loaded, stored}
 use Rattle.lookup.specs.declared.Place.{Place}
 use Rattle.lookup.specs.declared.Taken.{Taken}
@@ -26,11 +26,11 @@ seek f (suc k) q = cond (f q) q (seek f k (suc q))
 -- the i-th row of bank b bears marks and belongs to address a
 abbrev pub belongs : List ℕ → List ℕ → List ℕ → ℕ → ℕ → ℕ → Bool
 belongs addresses loads stores b a i =
-    not (eqb (marksOf loads stores (b * rowsMost + i)) 0) && eqb (get_or addresses (b * rowsMost + i) 0) a
+    not (eqb (marks_of loads stores (b * rows_most + i)) 0) && eqb (get_or addresses (b * rows_most + i) 0) a
 
 -- the i-th row of bank b is free
 abbrev pub free : List ℕ → List ℕ → ℕ → ℕ → Bool
-free loads stores b i = eqb (marksOf loads stores (b * rowsMost + i)) 0
+free loads stores b i = eqb (marks_of loads stores (b * rows_most + i)) 0
 
 -- the set w has the stage at position q
 abbrev pub marked : ℕ → ℕ → ℕ → ℕ → Bool
@@ -51,36 +51,36 @@ forward o n stores values r p w =
     record { word = cond (eqb d 0) w (get_or values (stage o n (p - d)) 0); distance = d }
 
 -- the first marked position younger than p; `live` where there is none
-abbrev pub metAt : ℕ → ℕ → ℕ → ℕ → ℕ → ℕ
-metAt o n live marks p = seek (marked o n marks) (live - suc p) (suc p)
+abbrev pub met_at : ℕ → ℕ → ℕ → ℕ → ℕ → ℕ
+met_at o n live marks p = seek (marked o n marks) (live - suc p) (suc p)
 
 -- how many references a store of the word v at position p leaves in its address's row: the first younger mark decides, and of
 -- a load the word that its stage took
-abbrev pub violationPoint : ℕ → ℕ → ℕ → ℕ → ℕ → List ℕ → ℕ → ℕ → ℕ
-violationPoint o n live load store taken p v =
-    let q = metAt o n live (bit_or load store) p in
+abbrev pub violation_point : ℕ → ℕ → ℕ → ℕ → ℕ → List ℕ → ℕ → ℕ → ℕ
+violation_point o n live load store taken p v =
+    let q = met_at o n live (bit_or load store) p in
     cond (ltb q live && (marked o n load q && not (eqb (get_or taken (stage o n q) 0) v))) q live
 
 -- the position of a row's oldest mark; `live` where it has none
-abbrev pub oldestMark : ℕ → ℕ → ℕ → ℕ → ℕ
-oldestMark o n live marks = seek (marked o n marks) live 0
+abbrev pub oldest_mark : ℕ → ℕ → ℕ → ℕ → ℕ
+oldest_mark o n live marks = seek (marked o n marks) live 0
 
 -- the oldest mark of the i-th row of bank b
-abbrev pub bankMark : ℕ → ℕ → ℕ → List ℕ → List ℕ → ℕ → ℕ → ℕ
-bankMark o n live loads stores b i = oldestMark o n live (marksOf loads stores (b * rowsMost + i))
+abbrev pub bank_mark : ℕ → ℕ → ℕ → List ℕ → List ℕ → ℕ → ℕ → ℕ
+bank_mark o n live loads stores b i = oldest_mark o n live (marks_of loads stores (b * rows_most + i))
 
 -- the marks of the first k rows of bank b, as one set
-unfoldable pub bankMarks : List ℕ → List ℕ → ℕ → ℕ → ℕ
-bankMarks loads stores b zero = 0
-bankMarks loads stores b (suc k) = bit_or (bankMarks loads stores b k) (marksOf loads stores (b * rowsMost + k))
+unfoldable pub bank_marks : List ℕ → List ℕ → ℕ → ℕ → ℕ
+bank_marks loads stores b zero = 0
+bank_marks loads stores b (suc k) = bit_or (bank_marks loads stores b k) (marks_of loads stores (b * rows_most + k))
 
 -- one more than the place in bank b of the row whose oldest mark is at position q; 0 where no row has it there
-abbrev pub openedAt : ℕ → ℕ → ℕ → ℕ → List ℕ → List ℕ → ℕ → ℕ → ℕ
-openedAt o n live rows loads stores b q = find (λ (i : ℕ). eqb (bankMark o n live loads stores b i) q) rows
+abbrev pub opened_at : ℕ → ℕ → ℕ → ℕ → List ℕ → List ℕ → ℕ → ℕ → ℕ
+opened_at o n live rows loads stores b q = find (λ (i : ℕ). eqb (bank_mark o n live loads stores b i) q) rows
 
 -- position q is the oldest mark of a row of bank b
 abbrev pub opened : ℕ → ℕ → ℕ → ℕ → List ℕ → List ℕ → ℕ → ℕ → Bool
-opened o n live rows loads stores b q = not (eqb (openedAt o n live rows loads stores b q) 0)
+opened o n live rows loads stores b q = not (eqb (opened_at o n live rows loads stores b q) 0)
 
 -- The search for a row to evict, for a reference at position p, goes from the youngest position down: the first that is the
 -- oldest mark of a row decides. The row is evicted if that mark is younger than p, and the references before it stay; else the
@@ -89,30 +89,30 @@ abbrev pub evicted : ℕ → ℕ → ℕ → ℕ → List ℕ → List ℕ → �
 evicted o n live rows loads stores b p =
     let k = find (opened o n live rows loads stores b) live in
     cond (ltb (suc p) k)
-    (record { row = b * rowsMost + (openedAt o n live rows loads stores b (k - 1) - 1); left = k - 1 })
+    (record { row = b * rows_most + (opened_at o n live rows loads stores b (k - 1) - 1); left = k - 1 })
     (record { row = 0; left = 0 })
 
 -- a row of bank b for an address that has none
-abbrev pub allocatedRow : ℕ → ℕ → ℕ → ℕ → List ℕ → List ℕ → ℕ → ℕ → Place
-allocatedRow o n live rows loads stores b p =
+abbrev pub allocated_row : ℕ → ℕ → ℕ → ℕ → List ℕ → List ℕ → ℕ → ℕ → Place
+allocated_row o n live rows loads stores b p =
     cond (eqb (find (free loads stores b) rows) 0) (evicted o n live rows loads stores b p)
-    (record { row = b * rowsMost + (find (free loads stores b) rows - 1); left = live })
+    (record { row = b * rows_most + (find (free loads stores b) rows - 1); left = live })
 
 -- one more than the place in bank b of the row of address a; 0 where it has none
 abbrev pub row_of : ℕ → List ℕ → List ℕ → List ℕ → ℕ → ℕ → ℕ
 row_of rows addresses loads stores b a = find (belongs addresses loads stores b a) rows
 
 -- the row in which an execution at position p to address a in bank b is marked, and how many references stay
-abbrev pub placeFor : ℕ → ℕ → ℕ → ℕ → List ℕ → List ℕ → List ℕ → ℕ → ℕ → ℕ → Place
-placeFor o n live rows addresses loads stores b a p =
-    cond (eqb (row_of rows addresses loads stores b a) 0) (allocatedRow o n live rows loads stores b p)
-    (record { row = b * rowsMost + (row_of rows addresses loads stores b a - 1); left = live })
+abbrev pub place_for : ℕ → ℕ → ℕ → ℕ → List ℕ → List ℕ → List ℕ → ℕ → ℕ → ℕ → Place
+place_for o n live rows addresses loads stores b a p =
+    cond (eqb (row_of rows addresses loads stores b a) 0) (allocated_row o n live rows loads stores b p)
+    (record { row = b * rows_most + (row_of rows addresses loads stores b a - 1); left = live })
 
 -- How many stay of a store of the word v that is given row r, where `left` of them have it: a row that was taken from another
 -- address has squashed already, and any other row has the marks of this address alone.
-abbrev pub leftAfter : ℕ → ℕ → ℕ → List ℕ → List ℕ → List ℕ → ℕ → ℕ → ℕ → ℕ → ℕ
-leftAfter o n live loads stores taken r left p v =
-    cond (ltb left live) left (violationPoint o n live (get_or loads r 0) (get_or stores r 0) taken p v)
+abbrev pub left_after : ℕ → ℕ → ℕ → List ℕ → List ℕ → List ℕ → ℕ → ℕ → ℕ → ℕ → ℕ
+left_after o n live loads stores taken r left p v =
+    cond (ltb left live) left (violation_point o n live (get_or loads r 0) (get_or stores r 0) taken p v)
 
 -- what the marks of the first k rows say of stage s
 unfoldable pub mark_of : List ℕ → List ℕ → List ℕ → List ℕ → ℕ → ℕ → Mark
@@ -122,14 +122,14 @@ mark_of addresses loads stores values s (suc k) =
     (cond (has (get_or loads k 0) s) (Load (get_or addresses k 0)) (mark_of addresses loads stores values s k))
 
 -- what a fate says of a commit: the address, and the word of a store
-abbrev pub markBy : Fate → Mark
-markBy waiting = Absent
-markBy other = Absent
-markBy (accessed a l lacks) = Load a
-markBy (accessed a l (holds v)) = Store a v
+abbrev pub mark_by : Fate → Mark
+mark_by waiting = Absent
+mark_by other = Absent
+mark_by (accessed a l lacks) = Load a
+mark_by (accessed a l (holds v)) = Store a v
 
 -- a mark as the fate of an executed reference; the word that a load took plays no part in its commit
-abbrev pub markedFate : Mark → Fate
-markedFate Absent = other
-markedFate (Load a) = loaded a 0
-markedFate (Store a v) = stored a v
+abbrev pub marked_fate : Mark → Fate
+marked_fate Absent = other
+marked_fate (Load a) = loaded a 0
+marked_fate (Store a v) = stored a v

@@ -3,11 +3,11 @@
 -- Assumes nothing.
 use Rattle.std.specs.Prelude.{◌≡◌, List, [], ◌∷◌, ℕ}
 use Rattle.table.specs.Reference.{Side, lacks, holds, Fate, waiting, other, accessed, Ref, ref}
-use Rattle.lookup.specs.Forwarding.{wordAfter}
+use Rattle.lookup.specs.Forwarding.{word_after}
 
 -- the memory seen as μ, past a reference with this fate
 abbrev pub past : Fate → (ℕ → ℕ) → ℕ → ℕ
-past f μ a = wordAfter f a (μ a)
+past f μ a = word_after f a (μ a)
 
 -- a load of address a took the word that is seen there
 abbrev pub TookAt : (ℕ → ℕ) → ℕ → Side → Type 0

@@ -3,41 +3,41 @@
 use Rattle.std.specs.Prelude.{Bool, true, false, cond, ◌||◌, List, ℕ, get_or, set}
 use Rattle.table.specs.declared.Table.{Table}
 use Rattle.table.specs.Bank.{bank}
-use Rattle.engine.specs.computed.Steps.{cut, executing, marking, keeping}
-use Rattle.lookup.specs.computed.Search.{forward, placeFor, leftAfter}
+use Rattle.engine.specs.Computed.Steps.{cut, executing, marking, keeping}
+use Rattle.lookup.specs.Computed.Search.{forward, place_for, left_after}
 use Rattle.engine.specs.declared.Action.{Action}
 use Rattle.engine.specs.declared.Action.TheVariants.{Compute, LoadAt, StoreAt, PartAt}
 use Rattle.engine.specs.Part.{word_of, whole}
 use Rattle.engine.specs.declared.Effect.{Effect}
 
 -- the address in an action, of a part's store the byte number; any, 0, where there is none
-abbrev pub addressIn : Action → ℕ
-addressIn (Compute v) = 0
-addressIn (LoadAt a) = a
-addressIn (StoreAt a v) = a
-addressIn (PartAt part b v) = b
+abbrev pub address_in : Action → ℕ
+address_in (Compute v) = 0
+address_in (LoadAt a) = a
+address_in (StoreAt a v) = a
+address_in (PartAt part b v) = b
 
 -- it is a store of a part
-abbrev pub isPart : Action → Bool
-isPart (Compute v) = false
-isPart (LoadAt a) = false
-isPart (StoreAt a v) = false
-isPart (PartAt part b v) = true
+abbrev pub is_part : Action → Bool
+is_part (Compute v) = false
+is_part (LoadAt a) = false
+is_part (StoreAt a v) = false
+is_part (PartAt part b v) = true
 
 -- the number of the word that it goes to
-abbrev pub wordAddress : Action → ℕ
-wordAddress act = cond (isPart act) (word_of (addressIn act)) (addressIn act)
+abbrev pub word_address : Action → ℕ
+word_address act = cond (is_part act) (word_of (address_in act)) (address_in act)
 
 -- what stands there below the table: the memory's word
-abbrev pub wordBelow : List ℕ → Action → ℕ
-wordBelow memory act = get_or memory (wordAddress act) 0
+abbrev pub word_below : List ℕ → Action → ℕ
+word_below memory act = get_or memory (word_address act) 0
 
 -- what an action comes to at position p of a table with these parts, where `below` stands below the table at its word
 abbrev pub effect_of : ℕ → ℕ → ℕ → ℕ → ℕ → List ℕ → List ℕ → List ℕ → List ℕ → List ℕ → ℕ → ℕ → Action → Effect
 effect_of banks rows stages oldest live addresses loads stores values taken p below (Compute v) =
     record { load = false; store = false; row = 0; word = 0; left = live; value = v; address = 0; distance = 0; taken = 0 }
 effect_of banks rows stages oldest live addresses loads stores values taken p below (LoadAt a) =
-    let q = placeFor oldest stages live rows addresses loads stores (bank banks a) a p in
+    let q = place_for oldest stages live rows addresses loads stores (bank banks a) a p in
     let found = forward oldest stages stores values q.row p below in
     record {
       load = true;
@@ -51,13 +51,13 @@ effect_of banks rows stages oldest live addresses loads stores values taken p be
       taken = found.word;
     }
 effect_of banks rows stages oldest live addresses loads stores values taken p below (StoreAt a v) =
-    let q = placeFor oldest stages live rows addresses loads stores (bank banks a) a p in
+    let q = place_for oldest stages live rows addresses loads stores (bank banks a) a p in
     record {
       load = false;
       store = true;
       row = q.row;
       word = a;
-      left = leftAfter oldest stages live loads stores taken q.row q.left p v;
+      left = left_after oldest stages live loads stores taken q.row q.left p v;
       value = v;
       address = a;
       distance = 0;
@@ -65,14 +65,14 @@ effect_of banks rows stages oldest live addresses loads stores values taken p be
     }
 effect_of banks rows stages oldest live addresses loads stores values taken p below (PartAt part b v) =
     let a = word_of b in
-    let q = placeFor oldest stages live rows addresses loads stores (bank banks a) a p in
+    let q = place_for oldest stages live rows addresses loads stores (bank banks a) a p in
     let w = (forward oldest stages stores values q.row p below).word in
     record {
       load = true;
       store = true;
       row = q.row;
       word = a;
-      left = leftAfter oldest stages live loads stores taken q.row q.left p (whole part b w v);
+      left = left_after oldest stages live loads stores taken q.row q.left p (whole part b w v);
       value = whole part b w v;
       address = b;
       distance = 0;
@@ -84,14 +84,14 @@ abbrev pub answered : Bool → Bool → ℕ → ℕ
 answered load store v = cond load (cond store 0 v) 0
 
 -- the same of a table over this memory
-abbrev pub effectAt : Table → ℕ → List ℕ → Action → Effect
-effectAt t p memory act =
+abbrev pub effect_at : Table → ℕ → List ℕ → Action → Effect
+effect_at t p memory act =
     effect_of t.banks t.rows t.stages t.oldest t.live t.addresses t.loads t.stores t.values t.taken p
-    (wordBelow memory act) act
+    (word_below memory act) act
 
 -- the table after an execution at stage s with this effect
-abbrev pub applyEffect : Table → Effect → ℕ → Table
-applyEffect t q s =
+abbrev pub apply_effect : Table → Effect → ℕ → Table
+apply_effect t q s =
     let u = cut t q.left in
     executing u s (cond (q.load || q.store) (set t.addresses q.row q.word) t.addresses)
     (marking u.loads q.load q.row s)

@@ -11,5 +11,5 @@ abbrev pub handed : Bool → Image → Machine → Image
 handed true passed m = image_of m
 handed false passed m = passed
 
-abbrev pub answeredBy : Image → Machine → Numbers → Answered
-answeredBy passed m n = record { image = handed (eqb n.refusal 0) passed m; numbers = n }
+abbrev pub answered_by : Image → Machine → Numbers → Answered
+answered_by passed m n = record { image = handed (eqb n.refusal 0) passed m; numbers = n }

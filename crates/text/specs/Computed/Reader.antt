@@ -28,5 +28,5 @@ fitting none = none
 fitting (some ns) = cond (leb (length ns) capacity) (some ns) none
 
 -- what the array says once the line is read
-abbrev pub parsedFields : Numbers → Option (List ℕ)
-parsedFields n = cond n.good (some (take n.count n.values)) none
+abbrev pub parsed_fields : Numbers → Option (List ℕ)
+parsed_fields n = cond n.good (some (take n.count n.values)) none

@@ -7,13 +7,13 @@ use Rattle.buffer_model.specs.declared.Squashed.TheVariants.{Nothing, From}
 use Rattle.engine.specs.Conditions.{refusal, when}
 
 -- an execution's conditions before its row is looked for, on a table that keeps its rules
-abbrev pub executeRefusal : ℕ → ℕ → Bool → Bool → ℕ
-executeRefusal words lent isNamed isExecuted =
-    refusal (when (not (eqb lent words)) 3 ∷ when (not isNamed) 7 ∷ when isExecuted 8 ∷ [])
+abbrev pub execute_refusal : ℕ → ℕ → Bool → Bool → ℕ
+execute_refusal words lent is_named is_executed =
+    refusal (when (not (eqb lent words)) 3 ∷ when (not is_named) 7 ∷ when is_executed 8 ∷ [])
 
 -- where references are squashed from when `left` of `live` stay
-abbrev pub cutFrom : ℕ → ℕ → ℕ → ℕ → List ℕ → Squashed
-cutFrom oldest stages live left numbers =
+abbrev pub cut_from : ℕ → ℕ → ℕ → ℕ → List ℕ → Squashed
+cut_from oldest stages live left numbers =
     cond (ltb left live)
     (From (record { stage = stage oldest stages left; number = get_or numbers (stage oldest stages left) 0 }))
     Nothing
