@@ -1,6 +1,8 @@
 // Plays the script on standard input. All that matters is in the crates below: this reads, lends and writes. A program has no
 // exit status, so it tells what came of it by a digit on descriptor 3, if that is open: 0 played to its end line, 1 a bad line, 3
 // the input was not read to its end, 4 the output was not written.
+#![tactic(auto)]
+
 ghost use Rattle.std.specs.Prelude.{◌≤◌, length};
 ghost use Rattle.player_model.specs.Playing.{longest};
 

@@ -1,5 +1,7 @@
 // The buffer's mix of calls as the function that C links (benchmarks/both.c): numbers and a lent slice cross the boundary.
 // It is a crate of its own, since a static library is proved once more where it is made, and the mix takes half a minute.
+#![tactic(auto)]
+
 #[unsafe(no_mangle)]
 pub extern "C" fn bench_buffer(
     banks: usize,

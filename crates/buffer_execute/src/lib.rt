@@ -2,6 +2,8 @@
 //
 // Inner crate: the calls are those of the crate `buffer`. No call requires anything: what it is given that breaks a rule it
 // refuses, and hands everything back as it was passed.
+#![tactic(auto)]
+
 ghost use Rattle.std.specs.Prelude.{◌≡◌, ◌≤◌, ◌<◌, length};
 ghost use Rattle.marks.specs.Stages.{has};
 ghost use Rattle.table.specs.Limits.{stages_most};

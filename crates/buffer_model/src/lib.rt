@@ -1,4 +1,6 @@
 // The buffer's answers and results; its meaning and its laws. No code: the calls are in the crate `buffer`.
+#![tactic(auto)]
+
 use table::{Table, Ticket};
 
 // From which ticket on references were squashed, or that none was.

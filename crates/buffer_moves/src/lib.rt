@@ -2,6 +2,8 @@
 //
 // Inner crate: the calls are those of the crate `buffer`. No call requires anything: what it is given that breaks a rule it
 // refuses, and hands everything back as it was passed.
+#![tactic(auto)]
+
 ghost use Rattle.std.specs.Prelude.{◌≡◌, ℕ, List};
 ghost use Rattle.buffer_model.specs.Answers.{done_says, ticket_says};
 ghost use Rattle.buffer_model.specs.Calls.{issue, squash, commit};

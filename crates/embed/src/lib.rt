@@ -2,6 +2,8 @@
 //
 // An enum cannot cross, so an answer crosses as a refusal's number, 0 where the call was accepted, and what it carries. No call
 // requires anything; each contract is the buffer's own, of an answer with these numbers (specs/Crossing.antt).
+#![tactic(auto)]
+
 ghost use Rattle.std.specs.Prelude.{◌≡◌, List, ℕ};
 ghost use Rattle.engine.specs.declared.Part.TheVariants.{Byte, Half};
 ghost use Rattle.buffer_model.specs.Answers.{done_says, ticket_says, execute_says};

@@ -3,6 +3,8 @@
 //
 // An enum cannot cross, so an entry crosses as a slot: its instruction's four numbers, its index and what became of it. With the
 // instruction in the slot a call lent another program is refused as 01 says, and no program is needed to read an image.
+#![tactic(auto)]
+
 use machine_model::REGISTERS;
 use table::{STAGES, Table};
 

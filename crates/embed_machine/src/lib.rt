@@ -3,6 +3,8 @@
 //
 // No call requires anything; each contract is the machine's own, on the machines that the images are (crate embed_image,
 // specs/Crossing.antt).
+#![tactic(auto)]
+
 ghost use Rattle.std.specs.Prelude.{List, [], ℕ};
 ghost use Rattle.machine_model.specs.Calls.{banked, issue, execute, squash, commit, finish};
 ghost use Rattle.embed_image.specs.Crossing.{Crosses, Starts};

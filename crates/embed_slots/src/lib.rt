@@ -1,4 +1,6 @@
 // Images of the window machine for C read and written, and answers in numbers: what the exported calls of embed_machine share.
+#![tactic(auto)]
+
 ghost use Rattle.std.specs.Prelude.{◌≡◌, map};
 ghost use Rattle.machine_model.specs.Over.{value_by};
 ghost use Rattle.machine_model.specs.Program.{code_of, d_of, s_of, imm_of};

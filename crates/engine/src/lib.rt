@@ -1,5 +1,6 @@
 // What every engine shares: what is executed and what it comes to, the conditions of the refusals, the contract record, and one
 // law for each step on the plain list. No code: the steps are in the crate `engine_steps`.
+#![tactic(auto)]
 
 // The part of a word that a store may be of: a byte, or a half word of two bytes.
 #[derive(Drop)]

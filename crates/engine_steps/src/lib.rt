@@ -3,6 +3,8 @@
 //
 // Inner crate: helpers on lent arrays. A call of the buffer or of the machine checks first, then changes the table that it
 // was passed with these.
+#![tactic(auto)]
+
 ghost use Rattle.std.specs.Prelude.{◌≡◌, false, cond, ◌≤◌, ◌<◌, length, get_or, set};
 ghost use Rattle.marks.specs.Stages.{width};
 ghost use Rattle.table.specs.Limits.{banks_most, rows_most, stages_most, slots, rows_in};

@@ -1,5 +1,6 @@
 // The model of a bad line: the types of its reason. No code: specs/ says which line of a script is bad first, why, and the message
 // that tells it; proofs/ has the laws behind the functions that find and write it.
+#![tactic(auto)]
 
 // Where a line stands: first, in the program with room for so many instructions, or among the steps.
 #[derive(Drop)]

@@ -1,5 +1,6 @@
 // Forwarding, violation, eviction and stall as functions of the list of live references, their laws, and what the searches of a
 // table answer. No code: the searches are in the crates `lookup_marks` and `lookup_rows`.
+#![tactic(auto)]
 
 // The row in which an execution is marked, and how many references stay; none stay where it stalls.
 #[derive(Drop)]

@@ -1,6 +1,8 @@
 // What the marks of a table say: the word of a memory, the nearest older store, the first younger mark, the marks of a stage.
 //
 // Inner crate: helpers on lent arrays. Positions are of the window of `stages` stages from stage `oldest` on.
+#![tactic(auto)]
+
 ghost use Rattle.std.specs.Prelude.{◌≡◌, ◌-◌, ◌≤◌, ◌<◌, length, get_or};
 ghost use Rattle.table.specs.Limits.{banks_most, stages_most, slots, rows_in};
 ghost use Rattle.lookup.specs.Computed.Search.{seek, marked, nearest, forward, violation_point, mark_of};

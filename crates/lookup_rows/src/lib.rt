@@ -1,6 +1,8 @@
 // The rows of a bank: the row of an address, a free row, the row to evict, and with them the place of an execution.
 //
 // Inner crate: helpers on lent arrays. Positions are of the window of `stages` stages from stage `oldest` on.
+#![tactic(auto)]
+
 ghost use Rattle.std.specs.Prelude.{◌≡◌, ◌-◌, ◌≤◌, ◌<◌, length};
 ghost use Rattle.table.specs.Limits.{banks_most, rows_most, stages_most, slots};
 ghost use Rattle.table.specs.Bank.{bank};

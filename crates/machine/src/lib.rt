@@ -6,6 +6,8 @@
 // crates/machine_model/specs/Contract.antt. The program is lent to each call. A call checks table, window, memory and program
 // once, by `validate` of machine_window, over lent arrays, and then changes the machine that it was passed: functions on lent
 // arrays and numbers find out what is to change.
+#![tactic(auto)]
+
 pub use machine_commit::commit;
 pub use machine_execute::execute;
 pub use machine_finish::finish;

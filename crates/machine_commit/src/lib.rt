@@ -1,4 +1,6 @@
 // The call `commit`, which requires nothing; its contract is `Meets` of crates/machine_model/specs/Contract.antt.
+#![tactic(auto)]
+
 ghost use Rattle.std.specs.Prelude.{[]};
 ghost use Rattle.machine_model.specs.Calls.{commit};
 ghost use Rattle.machine_model.specs.Contract.{commit_says, Meets};

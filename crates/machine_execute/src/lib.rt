@@ -1,4 +1,6 @@
 // The call `execute`, which requires nothing; its contract is `Meets` of crates/machine_model/specs/Contract.antt.
+#![tactic(auto)]
+
 ghost use Rattle.std.specs.Prelude.{[]};
 ghost use Rattle.machine_model.specs.Calls.{execute};
 ghost use Rattle.machine_model.specs.Contract.{execute_says, Meets};

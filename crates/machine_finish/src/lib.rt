@@ -1,4 +1,6 @@
 // The call `finish`, which requires nothing; its contract is `Meets` of crates/machine_model/specs/Contract.antt.
+#![tactic(auto)]
+
 ghost use Rattle.machine_model.specs.Calls.{finish};
 ghost use Rattle.machine_model.specs.Contract.{finish_says, Meets};
 

@@ -1,5 +1,7 @@
 // The instruction set and the window's entries: an instruction read from the program and held to it, its operands and what it
 // asks with them, and what an entry says of itself. Inner: `instruction_at` requires what its callers have shown.
+#![tactic(auto)]
+
 ghost use Rattle.std.specs.Prelude.{◌≡◌, ◌+◌, ◌*◌, ◌<◌, ◌≤◌, [], ◌∷◌, length, slice_index};
 ghost use Rattle.std.proofs.lemmas.List.Edits.{sets};
 ghost use Rattle.machine_model.specs.Program.{decoded, instruction_at, well_formed, program_fits, code_of, d_of, s_of, imm_of};

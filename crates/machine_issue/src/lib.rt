@@ -1,5 +1,7 @@
 // The calls that open a machine and move its window's young end: `open`, `issue` and `squash`. None requires anything. Each
 // contract is `Meets` (or `Opens`) of crates/machine_model/specs/Contract.antt.
+#![tactic(auto)]
+
 ghost use Rattle.std.specs.Prelude.{◌≡◌, ℕ, List, []};
 ghost use Rattle.engine.specs.Contract.{refused};
 ghost use Rattle.machine_model.specs.Calls.{banked, issue, squash};

@@ -1,6 +1,8 @@
 // The window machine's declared types, what its calls mean (specs/) and the laws that the proofs of its functions cite
 // (proofs/). No code: the functions stand in the crates from machine_isa to machine_finish, and `machine` is what a user
 // calls.
+#![tactic(auto)]
+
 use engine::Action;
 use table::{STAGES, Table};
 

@@ -3,6 +3,8 @@
 // oldest entry to registers, memory and list. None looks into a table: a machine over another engine takes the same steps.
 //
 // Inner crate: callers show what each `requires` names.
+#![tactic(auto)]
+
 ghost use Rattle.std.specs.Prelude.{◌≡◌, cond, ◌+◌, ◌*◌, ◌≤◌, ◌<◌, length, get_or, ltb};
 ghost use Rattle.std.proofs.lemmas.List.Edits.{sets};
 ghost use Rattle.machine_model.specs.Program.{per_instruction, registers_most};

@@ -1,6 +1,8 @@
 // The window held to its table and to the program (`validate`, which every call asks first, over lent arrays), and what an
 // execute asks of the window alone (`asked_at`), with the search for operands. Inner: the functions require what their callers
 // have shown; `validate` asks only the lengths of lent arrays.
+#![tactic(auto)]
+
 ghost use Rattle.std.specs.Prelude.{◌≡◌, ℕ, ◌≤◌, ◌<◌, length, get_or};
 ghost use Rattle.std.proofs.Math.Option.{some};
 ghost use Rattle.marks.specs.Circle.{stage};

@@ -1,6 +1,8 @@
 // Mark words as sets of stages, and positions around the circle of stages.
 //
 // Inner crate: callers show the bounds that each `requires` names.
+#![tactic(auto)]
+
 ghost use Rattle.std.specs.Prelude.{true, ◌≡◌, ◌+◌, ◌-◌, ◌≤◌, ◌<◌, ◌^◌};
 ghost use Rattle.std.specs.Int.Bits.{bit_or};
 ghost use Rattle.marks.specs.Stages.{width, has};

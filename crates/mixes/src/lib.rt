@@ -2,6 +2,8 @@
 // in mixes_buffer and mixes_machine. What is promised is that every function ends and stays inside its arrays, and of two draws
 // the bounds that this asks for; the numbers drawn and summed are held to those of the same in C (benchmarks/inplace.c) by
 // tests/answers.
+#![tactic(auto)]
+
 ghost use Rattle.std.specs.Prelude.{◌<◌};
 ghost use Rattle.table.specs.Limits.{stages_most};
 

@@ -2,6 +2,8 @@
 //
 // It returns a checksum of every answer. benchmarks/inplace.c has the same mix over the same calls in C, to which
 // tests/answers holds the checksum. What is promised is that the mix ends and stays inside the slices lent.
+#![tactic(auto)]
+
 use mixes::Tally;
 use table::{STAGES, Table, Ticket};
 

@@ -1,5 +1,7 @@
 // The model of the script player: the types of a script being read and played. No code: specs/ says what the player's calls
 // promise and what is proved of its output; proofs/ has the laws behind the functions and the theorems of the output.
+#![tactic(auto)]
+
 use machine_model::Machine;
 
 // The room in the buffer with which a step is begun: more than the lines of a commit, the most that a step prints, take.

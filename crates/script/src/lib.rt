@@ -3,6 +3,8 @@
 // `words_of` tells how much memory the script asks for, `begin` reads the sizes and the program, and `fill` plays on until the
 // lent buffer is full or all is printed, which `is_over` tells. None requires anything; player_model/specs/Playing.antt has
 // their contracts.
+#![tactic(auto)]
+
 ghost use Rattle.std.specs.Prelude.{◌≡◌, length, replicate};
 ghost use Rattle.player_model.specs.Playing.{idle, is_over, wrongly_lent, Begins};
 

@@ -1,4 +1,6 @@
 // Why a script is bad: finds its first bad line and what is wrong there. `flaw_of` is to call, and requires nothing.
+#![tactic(auto)]
+
 ghost use Rattle.std.specs.Prelude.{cond, ◌≡◌, ◌+◌, ◌≤◌, ◌<◌, length, get_or};
 ghost use Rattle.std.proofs.Math.Seq.{slice};
 ghost use Rattle.text.specs.Fields.{empty};

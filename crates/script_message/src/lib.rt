@@ -1,4 +1,6 @@
 // The message that says why a script is bad, written into a lent buffer. `put_message` is to call, and requires nothing.
+#![tactic(auto)]
+
 ghost use Rattle.std.specs.Prelude.{◌++◌, ◌+◌, ◌≤◌, length};
 ghost use Rattle.player_model.specs.Playing.{Writes};
 ghost use Rattle.text.specs.Ascii.{ascii};

@@ -1,4 +1,5 @@
 // The model of a script: what its lines say and how it ends. No code: specs/ says what a script asks for and prints.
+#![tactic(auto)]
 
 // The most bytes that a script has.
 pub const MOST: usize = 65536;

@@ -1,5 +1,7 @@
 // Phrases of the messages about bad lines: bytes, numbers, forms of lines, names and limits of fields, each written into a lent
 // buffer that has room for it.
+#![tactic(auto)]
+
 ghost use Rattle.std.specs.Prelude.{◌≡◌, cond, ℕ, ◌+◌, ◌≤◌, length};
 ghost use Rattle.text.specs.Decimal.{decimal};
 ghost use Rattle.player_model.specs.Playing.{Writes};

@@ -2,6 +2,8 @@
 //
 // The machine stays in one place: the loop makes its calls itself, and what reads or prints is a function on lent slices and
 // numbers.
+#![tactic(auto)]
+
 ghost use Rattle.std.specs.Prelude.{◌≡◌, List, ℕ, take};
 ghost use Rattle.player_model.specs.Playing.{Fills};
 

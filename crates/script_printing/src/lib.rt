@@ -1,4 +1,6 @@
 // Printing: the lines of commits, of memory words, of a bad line and of the end, written into a lent buffer.
+#![tactic(auto)]
+
 ghost use Rattle.std.specs.Prelude.{◌≡◌, ◌+◌, ◌≤◌, length};
 ghost use Rattle.script_model.specs.Language.{letter};
 ghost use Rattle.script_model.specs.Output.{number_field, pair_line, commit_line, committed_lines};

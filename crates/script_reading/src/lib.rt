@@ -1,4 +1,6 @@
 // Reading a script: what a line says, the sizes of the first line, and the program after it.
+#![tactic(auto)]
+
 ghost use Rattle.std.specs.Prelude.{cond, ◌≡◌, ◌+◌, ◌≤◌, ◌<◌, length};
 ghost use Rattle.std.proofs.Math.Seq.{slice};
 ghost use Rattle.text.specs.Lines.{line_at};

@@ -1,4 +1,6 @@
 // What the player's loop is made of: what a line asks for, how a script ends, and small steps on lent slices and numbers.
+#![tactic(auto)]
+
 ghost use Rattle.std.specs.Prelude.{◌≡◌, ◌+◌, ◌≤◌, ◌<◌, length, take};
 ghost use Rattle.marks.specs.Circle.{stage};
 ghost use Rattle.machine_model.specs.Contract.{plain, finish_says};

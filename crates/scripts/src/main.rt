@@ -1,5 +1,7 @@
 // Plays scripts and compares what they print. The arguments are pairs of files: a script, and what it must print (at most 4,000
 // bytes). A script that prints something else is shown with both outputs.
+#![tactic(auto)]
+
 ghost use Rattle.std.specs.Prelude.{◌≤◌, length};
 ghost use Rattle.io.specs.Counts.{IsPrefixLen};
 

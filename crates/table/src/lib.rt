@@ -1,5 +1,6 @@
 // The table of the address resolution buffer and its tickets: types and limits, what they mean (specs/), with the laws
 // (proofs/). No code: the check of the table's rules, banks and tickets are in table_rules.
+#![tactic(auto)]
 
 // The limits of the sizes: stages, rows a bank, banks, words. SLOTS is the length of the arrays by row.
 pub const STAGES: usize = 16;

@@ -2,6 +2,8 @@
 //
 // Inner crate: callers show the bounds that each `requires` names. All of it runs over lent arrays, so that a call copies no
 // table for it.
+#![tactic(auto)]
+
 ghost use Rattle.std.specs.Prelude.{◌≡◌, ◌+◌, ◌*◌, ◌≤◌, ◌<◌, length, drop};
 ghost use Rattle.marks.specs.Counting.{every};
 ghost use Rattle.table.specs.Limits.{stages_most, banks_most, rows_most, slots, rows_in, sizes_fit};

@@ -1,5 +1,6 @@
 // Text of lines: what a decimal, a field and a line are (specs/), with their laws (proofs/). No code: numbers are read and
 // printed in text_numbers, lines handed out in text_lines.
+#![tactic(auto)]
 
 // The largest number of a field, and the most fields that a line is read to.
 pub const LARGEST: u64 = 4294967295;

@@ -1,4 +1,6 @@
 // A reader that hands out one line of a text after another. No function that is public asks for anything.
+#![tactic(auto)]
+
 ghost use Rattle.std.specs.Prelude.{◌≡◌, ℕ, ◌+◌, ◌^◌, ◌<◌};
 ghost use Rattle.text.specs.Lines.{line_at, after_line};
 ghost use Rattle.text.specs.declared.Line.TheVariants.{Whole};

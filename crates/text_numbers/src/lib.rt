@@ -1,5 +1,7 @@
 // Decimal numbers printed, and numbers parted by commas read. `put_decimal`, `put_text` and `read_fields` ask for slices that are
 // long enough.
+#![tactic(auto)]
+
 ghost use Rattle.std.specs.Prelude.{◌&&◌, ◌≡◌, ◌+◌, ◌*◌, ◌≤◌, ◌<◌, leb, ltb, length};
 ghost use Rattle.std.proofs.lemmas.List.Edits.{sets};
 ghost use Rattle.std.proofs.Math.Seq.{slice};
