@@ -182,7 +182,7 @@ module _ (t : Table) (rules : Rules t) (lengths : Lengths t) (p a r : ℕ) (here
       go true e =
           let place = mark_position t rules q v h m in
           let same : q ≡ r = eqb-true q r e in
-          let mine = row.own_val place.0 place.1
+          let mine = row.own place.0 place.1
           (subst (λ (x : ℕ). mark t x (stage_of t place.0) ≡ true) same
           (subst (λ (x : ℕ). mark t q x ≡ true) (sym place.2) m)) in
           ap (λ (x : ℕ). get_or (set t.addresses r a) x 0) same ∙ address_here ∙ sym mine ∙ ap (address t) (sym same)

@@ -1,0 +1,22 @@
+-- Assumes nothing.
+use mathlib.Core.Path.{◌≡◌, refl, ap, sym, ◌∙◌}
+use Prim.Native.Nat.{◌-◌, ◌≤◌}
+use native.Mathlib.Omega.{arith}
+use lib.ListN.{drop}
+use Rattle.table.specs.Computed.Check.{marks_below}
+use Rattle.table.proofs.Banked.{marks_next, marks_from_lem}
+use Rattle.table_rules.proofs.marks_from.Goals as goal
+
+pub loop-i-init : goal.loop-i-init
+unfolding marks_below
+loop-i-init c = (omega arith, refl)
+
+pub loop-i-preserved : goal.loop-i-preserved
+loop-i-preserved c =
+    let at = c.loop-i in
+    let args = c.args in
+    let row = marks_from_lem args.loads.now args.stores.now args.first at.i in
+    (omega arith, marks_next _ _ _ at.invariant.1 (c.marks_in-all.ensures ∙ sym row))
+
+pub returns : goal.returns
+returns c = c.loop-i.invariant.1 ∙ ap (marks_below _ _) (omega arith)

@@ -1,0 +1,40 @@
+-- Assumes nothing.
+use mathlib.Core.Path.{◌≡◌, refl, ap, ap₂, sym, ◌∙◌}
+use mathlib.Core.Bool.{◌&&◌}
+use mathlib.Core.Logic.{⊎_elim}
+use Prim.Native.Nat.{◌+◌, ◌*◌, ◌-◌, ◌≤◌}
+use native.Mathlib.Omega.{arith}
+use lib.Bits.{bit_or}
+use Rattle.marks.specs.Counting.{every}
+use Rattle.table.specs.Limits.{rows_most}
+use Rattle.table.specs.Computed.Check.{marks_below, row_fits}
+use Rattle.table.proofs.Banked.{every_more, taken_more, free_more}
+use Rattle.table_rules.proofs.rows_fit.Goals as goal
+
+pub loop-b-init : goal.loop-b-init
+unfolding every marks_below
+loop-b-init c = (omega arith, refl, refl)
+
+pub loop-b-preserved : goal.loop-b-preserved
+loop-b-preserved c =
+    let at = c.loop-b in
+    let args = c.args in
+    let loads = args.loads.now in
+    let stores = args.stores.now in
+    let test = row_fits args.banks args.rows args.allowed args.addresses.now loads stores in
+    let first = at.b * rows_most in
+    let next : first + rows_most ≡ (at.b + 1) * rows_most = omega arith in
+    let used = c.marks_from-used.ensures in
+    let bank : c.if-used-ne0.fit ≡ every test (first + rows_most) =
+    ⊎_elim
+    (λ w.
+    w.2 ∙ ap₂ ◌&&◌ {v = every (λ i. test (first + i)) rows_most} at.invariant.1 w.1.ensures
+    ∙ every_more test first rows_most)
+    (λ w. w.1 ∙ at.invariant.1 ∙ free_more loads stores first _ _ _ _ rows_most (sym used ∙ w.0.left)) c.if-used-ne0.branch in (
+      omega arith,
+      bank ∙ ap (every test) next,
+      ap₂ bit_or at.invariant.2 used ∙ taken_more loads stores first rows_most ∙ ap (marks_below loads stores) next,
+    )
+
+pub returns : goal.returns
+returns c = c.loop-b.invariant.1 ∙ ap (every _) (omega arith)
