@@ -3,7 +3,7 @@
 #![tactic(auto)]
 
 // The part of a word that a store may be of: a byte, or a half word of two bytes.
-#[derive(Drop)]
+#[derive(Clone, Copy)]
 pub enum Part {
     Byte,
     Half,
@@ -11,7 +11,7 @@ pub enum Part {
 
 // What is executed: a value alone, a load of an address, a store at an address of a word, a store at a byte number of a word's
 // part.
-#[derive(Drop)]
+#[derive(Clone, Copy)]
 pub enum Action {
     Compute(u32),
     LoadAt(u32),

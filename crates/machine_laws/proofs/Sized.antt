@@ -25,7 +25,7 @@ pub sized_of : (m : Machine) {vs : List Val} → Is (row the_type) m vs → Size
 sized_of m held =
     record {
       lengths = lengths_of m.table held.1.1.0;
-      window = simp length-map at held.1.1.1.0.1.0.1;
+      window = held.1.1.1.0.1.0.1;
       registers = search rules;
       small = search rules;
     }

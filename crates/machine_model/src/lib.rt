@@ -23,7 +23,7 @@ pub const PER_COMMIT: usize = 5;
 
 // An instruction: codes 1 (A), 2 (P), 3 (L), 4 (S), 5 (B) and 6 (H), each with d, s and imm. Registers are bytes: so a window of
 // sixteen entries is copied in few moves.
-#[derive(Drop)]
+#[derive(Clone, Copy)]
 pub enum Instruction {
     Add(u8, u8, u32),
     Sum(u8, u8, u32),
@@ -35,7 +35,7 @@ pub enum Instruction {
 
 // What an instruction does: a register becomes a number, a register becomes a word of memory, a word becomes a register, a
 // word's part becomes a register's.
-#[derive(Drop)]
+#[derive(Clone, Copy)]
 pub enum Kind {
     Computing,
     Loading,
@@ -44,7 +44,7 @@ pub enum Kind {
 }
 
 // What became of an entry (its status): waiting, or executed with its value and address (of B and H the byte number).
-#[derive(Drop)]
+#[derive(Clone, Copy)]
 pub enum Fate {
     Waiting,
     Executed(u32, u32),
@@ -52,7 +52,7 @@ pub enum Fate {
 
 // A window entry: the instruction, its index in the program, what became of it, and how many positions older the store is that
 // the word of an executed load came from; 0 for memory, and of all others.
-#[derive(Drop)]
+#[derive(Clone, Copy)]
 pub struct Entry {
     pub instruction: Instruction,
     pub index: u32,
@@ -71,42 +71,42 @@ pub struct Machine {
 }
 
 // From which position on entries were squashed, or that none was.
-#[derive(Drop)]
+#[derive(Clone, Copy)]
 pub enum Squashed {
     Nothing,
     From(usize),
 }
 
 // The answer of `open` and `squash`: a refusal's number, or that it was done.
-#[derive(Drop)]
+#[derive(Clone, Copy)]
 pub enum DoneAnswer {
     Refused(u32),
     Done,
 }
 
 // The answer of `issue`: the new position.
-#[derive(Drop)]
+#[derive(Clone, Copy)]
 pub enum IssueAnswer {
     Refused(u32),
     Issued(usize),
 }
 
 // The answer of `execute`: the value and the distance (of a load, else 0), and what was squashed.
-#[derive(Drop)]
+#[derive(Clone, Copy)]
 pub enum ExecuteAnswer {
     Refused(u32),
     Executed(u32, u32, Squashed),
 }
 
 // The answer of `commit`: index, code, register (for S, B and H the address), value and distance (of L, else 0).
-#[derive(Drop)]
+#[derive(Clone, Copy)]
 pub enum CommitAnswer {
     Refused(u32),
     Committed(u32, u32, u32, u32, u32),
 }
 
 // The answer of `finish`: the number of commits.
-#[derive(Drop)]
+#[derive(Clone, Copy)]
 pub enum FinishAnswer {
     Refused(u32),
     Finished(usize),
@@ -143,7 +143,7 @@ pub struct FinishResult {
 }
 
 // An operand: the number, or that its writer has not executed.
-#[derive(Drop)]
+#[derive(Clone, Copy)]
 pub enum Operand {
     Unknown,
     Known(u32),

@@ -1,10 +1,8 @@
 -- Assumes nothing.
-use mathlib.Core.Path.{◌≡◌, refl, ap, ◌∙◌}
-use Prim.Native.Nat.{◌-◌, ◌≤◌}
+use mathlib.Core.Path.{refl, ap, ◌∙◌}
 use native.Mathlib.Omega.{arith}
 use Rattle.marks.specs.Counting.{every}
 use Rattle.marks.proofs.Counts.{every_next}
-use Rattle.table.specs.Computed.Check.{other_address}
 use Rattle.table_rules.proofs.address_alone.Goals as goal
 
 pub loop-k-init : goal.loop-k-init

@@ -1,17 +1,15 @@
 -- Assumes nothing.
-use mathlib.Core.Path.{◌≡◌, refl, ap, ◌∙◌}
-use Prim.Native.Nat.{◌+◌, ◌*◌, ◌-◌, ◌≤◌}
+use mathlib.Core.Path.{refl, ap, ◌∙◌}
 use native.Mathlib.Omega.{arith}
 use Rattle.marks.specs.Counting.{every}
 use Rattle.marks.proofs.Counts.{every_next}
-use Rattle.table.specs.Limits.{rows_most}
-use Rattle.table.specs.Computed.Check.{marks_below, row_fits}
+use Rattle.table.specs.Computed.Check.{marks_below}
 use Rattle.table.proofs.Banked.{marks_next}
 use Rattle.table_rules.proofs.bank_fits.Goals as goal
 
 pub loop-i-init : goal.loop-i-init
 unfolding every
-loop-i-init c = (omega arith, refl, c.requires.0.2 ∙ ap (marks_below _ _) (omega arith))
+loop-i-init c = (omega arith, refl, c.requires.b_lt_banks_most.2 ∙ ap (marks_below _ _) (omega arith))
 
 pub loop-i-preserved : goal.loop-i-preserved
 loop-i-preserved c =

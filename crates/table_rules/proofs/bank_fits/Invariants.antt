@@ -1,14 +1,11 @@
 -- `table_rules::bank_fits` meets its contract. The loop's invariant: `fit` is the test over the bank's first i rows, and `marked`
 -- the set of the stages that they and the rows before the bank mark, which the next row's test asks for. The measure is
 -- the number of rows left. Assumes nothing.
-use mathlib.Core.Path.{◌≡◌, refl, ap, ◌∙◌}
+use mathlib.Core.Path.{◌≡◌}
 use Prim.Native.Nat.{◌+◌, ◌*◌, ◌-◌, ◌≤◌}
-use native.Mathlib.Omega.{arith}
 use Rattle.marks.specs.Counting.{every}
-use Rattle.marks.proofs.Counts.{every_next}
 use Rattle.table.specs.Limits.{rows_most}
 use Rattle.table.specs.Computed.Check.{marks_below, row_fits}
-use Rattle.table.proofs.Banked.{marks_next}
 use Rattle.table_rules.proofs.bank_fits.Given as goal
 
 abbrev pub invariant-loop-i : goal.invariant-loop-i

@@ -1,8 +1,6 @@
 -- Assumes nothing.
-use mathlib.Core.Path.{◌≡◌, refl, ap, sym, ◌∙◌}
-use Prim.Native.Nat.{◌-◌, ◌≤◌}
+use mathlib.Core.Path.{refl, ap, sym, ◌∙◌}
 use native.Mathlib.Omega.{arith}
-use lib.ListN.{drop}
 use Rattle.table.specs.Computed.Check.{marks_below}
 use Rattle.table.proofs.Banked.{marks_next, marks_from_lem}
 use Rattle.table_rules.proofs.marks_from.Goals as goal

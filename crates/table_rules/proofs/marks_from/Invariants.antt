@@ -1,11 +1,9 @@
 -- `table_rules::marks_from` meets its contract. The loop's invariant: `all` is the set of the stages that the first i of the rows
 -- mark, the arrays seen from row `first` on. The measure is the number of rows left. Assumes nothing.
-use mathlib.Core.Path.{◌≡◌, refl, ap, sym, ◌∙◌}
+use mathlib.Core.Path.{◌≡◌}
 use Prim.Native.Nat.{◌-◌, ◌≤◌}
-use native.Mathlib.Omega.{arith}
 use lib.ListN.{drop}
 use Rattle.table.specs.Computed.Check.{marks_below}
-use Rattle.table.proofs.Banked.{marks_next, marks_from_lem}
 use Rattle.table_rules.proofs.marks_from.Given as goal
 
 abbrev pub invariant-loop-i : goal.invariant-loop-i

@@ -1,6 +1,5 @@
 -- `table_rules::named` meets its contract: a stage out of range fails the definition's first test, and past it the code makes the
 -- other two. Assumes nothing.
-use native.Mathlib.Omega.{arith}
 use borrow.Author.Tests.{lt-ltb, le-ltb}
 use Rattle.table_rules.proofs.named.Goals as goal
 

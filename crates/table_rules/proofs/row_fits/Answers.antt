@@ -1,6 +1,5 @@
 -- `table_rules::row_fits` meets its contract: a free row passes the definition's first test; of another the code computes the
 -- remaining tests in the definition's order. Assumes nothing.
-use native.Mathlib.Omega.{arith}
 use borrow.Author.Rules.{rules}
 use borrow.Author.Tests.{eq-eqb, ne_eqb}
 use Rattle.table.specs.Computed.Check.{row_fits}
@@ -13,10 +12,9 @@ returns-then-marks-eq0 c = search (rules, eq-eqb)
 pub returns : goal.returns
 unfolding row_fits
 returns c =
-    let marked = c.before in
     rw (
-      ne_eqb _ 0 marked.if-marks-eq0.false,
+      ne_eqb _ 0 c.if-marks-eq0.false,
       c.address_alone.ensures,
       c.bank_of.ensures,
-      marked.requires.0.2,
+      c.requires.r_lt_slots.2,
     )

@@ -1,8 +1,7 @@
 -- Assumes nothing.
 use mathlib.Core.Path.{◌≡◌, refl, ap, ap₂, sym, ◌∙◌}
 use mathlib.Core.Bool.{◌&&◌}
-use mathlib.Core.Logic.{⊎_elim}
-use Prim.Native.Nat.{◌+◌, ◌*◌, ◌-◌, ◌≤◌}
+use Prim.Native.Nat.{◌+◌, ◌*◌}
 use native.Mathlib.Omega.{arith}
 use lib.Bits.{bit_or}
 use Rattle.marks.specs.Counting.{every}
@@ -10,6 +9,7 @@ use Rattle.table.specs.Limits.{rows_most}
 use Rattle.table.specs.Computed.Check.{marks_below, row_fits}
 use Rattle.table.proofs.Banked.{every_more, taken_more, free_more}
 use Rattle.table_rules.proofs.rows_fit.Goals as goal
+use Rattle.table_rules.proofs.rows_fit.Goals.{then-used-ne0, else-used-ne0}
 
 pub loop-b-init : goal.loop-b-init
 unfolding every marks_below
@@ -26,11 +26,13 @@ loop-b-preserved c =
     let next : first + rows_most ≡ (at.b + 1) * rows_most = omega arith in
     let used = c.marks_from-used.ensures in
     let bank : c.if-used-ne0.fit ≡ every test (first + rows_most) =
-    ⊎_elim
-    (λ w.
-    w.2 ∙ ap₂ ◌&&◌ {v = every (λ i. test (first + i)) rows_most} at.invariant.1 w.1.ensures
-    ∙ every_more test first rows_most)
-    (λ w. w.1 ∙ at.invariant.1 ∙ free_more loads stores first _ _ _ _ rows_most (sym used ∙ w.0.left)) c.if-used-ne0.branch in (
+    elim c.if-used-ne0.branch [
+      | then-used-ne0 w ↦
+          w.fit-is ∙ ap₂ ◌&&◌ {v = every (λ i. test (first + i)) rows_most} at.invariant.1 w.bank_fits-fit.ensures
+          ∙ every_more test first rows_most
+      | else-used-ne0 w ↦
+          w.fit-is ∙ at.invariant.1 ∙ free_more loads stores first _ _ _ _ rows_most (sym used ∙ w.if-used-ne0.false)
+    ] in (
       omega arith,
       bank ∙ ap (every test) next,
       ap₂ bit_or at.invariant.2 used ∙ taken_more loads stores first rows_most ∙ ap (marks_below loads stores) next,

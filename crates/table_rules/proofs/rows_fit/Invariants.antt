@@ -1,16 +1,11 @@
 -- `table_rules::rows_fit` meets its contract. The loop's invariant: `fit` is the test over the rows of the b banks passed,
 -- and `before` the set of the stages that they mark, which the next bank's test asks for. The rows of a bank without
 -- marks are free and pass the test, so `fit` stands. The measure is the number of banks left. Assumes nothing.
-use mathlib.Core.Path.{◌≡◌, refl, ap, ap₂, sym, ◌∙◌}
-use mathlib.Core.Bool.{◌&&◌}
-use mathlib.Core.Logic.{⊎_elim}
-use Prim.Native.Nat.{◌+◌, ◌*◌, ◌-◌, ◌≤◌}
-use native.Mathlib.Omega.{arith}
-use lib.Bits.{bit_or}
+use mathlib.Core.Path.{◌≡◌}
+use Prim.Native.Nat.{◌*◌, ◌-◌, ◌≤◌}
 use Rattle.marks.specs.Counting.{every}
 use Rattle.table.specs.Limits.{rows_most}
 use Rattle.table.specs.Computed.Check.{marks_below, row_fits}
-use Rattle.table.proofs.Banked.{every_more, taken_more, free_more}
 use Rattle.table_rules.proofs.rows_fit.Given as goal
 
 abbrev pub invariant-loop-b : goal.invariant-loop-b
