@@ -89,7 +89,7 @@ module _ {O S : Type 0} {E : Engine O S} (R : Realization E) (program : List ℕ
       }
 
 -- two lives in a row are one
-pub life_join : {O S : Type 0} {E : Engine O S} {R : Realization E} {program : List ℕ} {m u x : R.Machine} {w v y : List ℕ} {cs₁ cs₂ : List Call} {answers₁ answers₂ : List Answer}
+pub life_join : {O S : Type 0} {E : Engine O S} {R : Realization E} {program : List ℕ} {m u : R.Machine} {w v : List ℕ} {x : R.Machine} {y : List ℕ} {cs₁ cs₂ : List Call} {answers₁ answers₂ : List Answer}
     {record₁ record₂ : List ℕ} {k j : ℕ}
     → Life R program m w cs₁ answers₁ u v record₁ k
     → Life R program u v cs₂ answers₂ x y record₂ j

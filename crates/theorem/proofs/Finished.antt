@@ -118,11 +118,19 @@ commit_answers {S = S} E program X memory =
 -- a turn of a finish goes on where its commit was one, else it stops
 goes_one : {S : Type 0} (a : Answer) (here rest : Drain S) → OfCommit a → commits_in a ≡ 1 → (continue_on a here rest).commits ≡ suc rest.commits
 goes_one (refused k) here rest o e = absurd (omega arith)
+goes_one (named p) here rest o e = absurd o
+goes_one (executed v d s) here rest o e = absurd o
+goes_one done here rest o e = absurd o
 goes_one (committed i c r v d) here rest o e = refl
+goes_one (finished n) here rest o e = absurd o
 
 stops_none : {S : Type 0} (a : Answer) (here rest : Drain S) → OfCommit a → commits_in a ≡ 0 → continue_on a here rest ≡ here
 stops_none (refused k) here rest o e = refl
+stops_none (named p) here rest o e = absurd o
+stops_none (executed v d s) here rest o e = absurd o
+stops_none done here rest o e = absurd o
 stops_none (committed i c r v d) here rest o e = absurd (omega arith)
+stops_none (finished n) here rest o e = absurd o
 
 -- ---- the run's steps
 
