@@ -30,7 +30,7 @@ use Rattle.flaw_model.specs.declared.Reason.{Reason}
 use Rattle.flaw_model.specs.declared.Reason.TheVariants as why
 use Rattle.flaw_model.specs.declared.Flaw.{Flaw}
 use Rattle.script_model.specs.Language.{letter_code, lettered, parsed_line}
-use Rattle.script_model.specs.Language.{step_of, Steps, stepping, steps}
+use Rattle.script_model.specs.Language.{step_of, stepping, steps}
 use Rattle.script_model.specs.Language.{numbers_of, joining, Body, body, opening_of, unread, headed, script_by, script}
 use Rattle.sequential.specs.Play.{Played, play}
 use Rattle.script_model.specs.Output.{commit_lines, bad_line, closing, script_opening, output, most, printed}

@@ -23,7 +23,6 @@ use Rattle.flaw_model.specs.declared.Outlook.TheVariants as outlook
 use Rattle.flaw_model.specs.declared.Flaw.{Flaw}
 use Rattle.flaw_model.specs.declared.Defect.TheVariants.{Missing}
 use Rattle.flaw_model.specs.declared.Took.{Took}
-use Rattle.flaw_model.specs.declared.Took.TheVariants.{Ends}
 use Rattle.flaw_model.specs.declared.Reason.{Reason}
 use Rattle.flaw_model.specs.declared.Reason.TheVariants as why
 use Rattle.flaw_model.specs.Flaw.{arity, commas, took, following, no_number, behind, malformed}

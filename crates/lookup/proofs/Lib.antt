@@ -2,7 +2,7 @@
 -- list of references says. Oldest: the oldest mark of a row. Tail: the search for a row to evict, and that its row is the one
 -- chosen over the rows. Rowed: the row found is one of the table's. Places: the row and what is left, whole. Telling: what the
 -- marks of a stage say. Sentences, Eviction: 01's and 02's sentences of the definitions. Squashes: where the list requires a
--- squash, and that an answer names it there alone. Cases: the walks of specs/computed/Examples. Faithfully: why a load that a
+-- squash, and that an answer names it there alone. Cases: the walks of specs/Computed/Examples. Faithfully: why a load that a
 -- store spares is right.
 pub mod Loops
 pub mod Finds

@@ -17,7 +17,7 @@ pub struct Taken {
 }
 
 // What the marks of a stage say: none, a load of an address, a store at an address of a word.
-#[derive(Drop)]
+#[derive(Clone, Copy)]
 pub enum Mark {
     Absent,
     Load(u32),

@@ -17,7 +17,6 @@ use Rattle.lookup.specs.Rows.{touched}
 use Rattle.machine_model.specs.Program.{per_instruction, well_formed_at, program_fits}
 use Rattle.machine_model.specs.Window.{register_seen}
 use Rattle.machine_model.specs.Over
-use Rattle.machine_model.specs.Calls.{finishes, respond}
 use Rattle.machine_examples.specs.Examples.{Example, told_by, seen_of, AllShown, told, played, shorter, examples}
 use Rattle.machine_examples.specs.Examples.{openings, refusals, unlikes, runs, parts, distances, same_words, numberings}
 use Rattle.machine_examples.specs.Examples.{longest, damaged}

@@ -33,7 +33,7 @@ record Idle (p : Player) (memory bytes : List ℕ) (q : Player) (after : List �
   kept : after ≡ memory
 
 -- a player that is over makes none
-over_idle : {text program : List ℕ} {size : ℕ} {p q : Player} {memory bytes after : List ℕ}
+over_idle : {text program : List ℕ} {size : ℕ} {p : Player} {memory : List ℕ} {q : Player} {bytes after : List ℕ}
     → PlayerSteps text program size p memory bytes q after → p.phase ≡ Over → Idle p memory bytes q after
 over_idle still over = record { none = refl; same = refl; kept = refl }
 over_idle {text} {program} (onward {q = q} {r = r} {v = v} {w = w} piece s room step) over =
@@ -60,7 +60,7 @@ fills_small {out = out} f small =
 
 -- ---- lent wrongly
 
-over_silent : {text program : List ℕ} {p r : Player} {memory w : List ℕ} {pieces : List (List ℕ)}
+over_silent : {text program : List ℕ} {p : Player} {memory : List ℕ} {r : Player} {w : List ℕ} {pieces : List (List ℕ)}
     → Fillings text program p memory pieces r w → p.phase ≡ Over → (joined pieces ≡ []) × (r ≡ p) × (w ≡ memory)
 unfolding joined
 over_silent ready over = (refl, refl, refl)

@@ -444,22 +444,22 @@ step_goes {text} {program} {p} s =
 
 -- ---- steps in a row
 
-pub steps_used : {text program : List ℕ} {size : ℕ} {p q : Player} {memory bytes after : List ℕ}
+pub steps_used : {text program : List ℕ} {size : ℕ} {p : Player} {memory : List ℕ} {q : Player} {bytes after : List ℕ}
     → PlayerSteps text program size p memory bytes q after → q.used ≡ p.used
 steps_used still = refl
 steps_used (onward piece s room step) = (step_goes step).used ∙ steps_used s
 
-pub steps_lent : {text program : List ℕ} {size : ℕ} {p q : Player} {memory bytes after : List ℕ}
+pub steps_lent : {text program : List ℕ} {size : ℕ} {p : Player} {memory : List ℕ} {q : Player} {bytes after : List ℕ}
     → PlayerSteps text program size p memory bytes q after → length after ≡ length memory
 steps_lent still = refl
 steps_lent (onward piece s room step) = (step_goes step).lent ∙ steps_lent s
 
-steps_fall : {text program : List ℕ} {size : ℕ} {p q : Player} {memory bytes after : List ℕ}
+steps_fall : {text program : List ℕ} {size : ℕ} {p : Player} {memory : List ℕ} {q : Player} {bytes after : List ℕ}
     → PlayerSteps text program size p memory bytes q after → weight text q after ≤ weight text p memory
 steps_fall still = omega arith
 steps_fall (onward piece s room step) = omega (arith, steps_fall s, (step_goes step).falls)
 
-pub steps_go : {text program : List ℕ} {size : ℕ} {p q : Player} {memory bytes after : List ℕ}
+pub steps_go : {text program : List ℕ} {size : ℕ} {p : Player} {memory : List ℕ} {q : Player} {bytes after : List ℕ}
     → PlayerSteps text program size p memory bytes q after → Playing text program p memory
     → (left text program p memory ≡ bytes ++ left text program q after) × Playing text program q after
 steps_go still playing = (refl, playing)

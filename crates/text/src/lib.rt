@@ -20,7 +20,7 @@ pub struct Numbers {
 
 // What begins at an index of a text: nothing, a last line without line feed, from this index, or a line from
 // this index up to its line feed.
-#[derive(Drop)]
+#[derive(Clone, Copy)]
 pub enum Line {
     End,
     Unended(usize),

@@ -8,7 +8,7 @@ use Rattle.engine.specs.Contract.{refused, named, executed, done, committed, fin
 use Rattle.machine_model.specs.Calls.{banked, buffered, Call, issue, execute, squash, commit, finish, Answer, opened}
 use Rattle.sequential.specs.Play.{play, start, answers_of, all_accepted}
 use Rattle.theorem.specs.Truth.{next}
-use Rattle.sequential.specs.Examples.{five, A, P, L, S, B, H, bytes, mixed, mixed_commits, laid, laid_commits}
+use Rattle.sequential.specs.Examples.{five, A, L, S, B, H, bytes, mixed, mixed_commits, laid, laid_commits}
 
 -- what calls come to: their answers, whether none was refused, the record, the number of commits and the calls needed next
 pub record PlayOutcome : Type 0 where

@@ -1,2 +1,0 @@
--- Walks: what is stated of a function, from a walk of its MIR.
-mod Walks
