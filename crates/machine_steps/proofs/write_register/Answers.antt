@@ -8,12 +8,10 @@ use Prim.Native.Nat.{ℕ, ◌≤◌, ◌<◌}
 use native.Mathlib.Omega.{arith}
 use lib.ListN.{length, set}
 use lib.Seq.{set_out}
-use borrow.Author.Rules.{rules}
 use Rattle.machine_model.specs.Calls.{writing}
 use Rattle.machine_laws.specs.Computed.Parts.{register_number}
 use Rattle.machine_model.specs.Program.{registers_most, destination}
-use Rattle.machine_steps.proofs.write_register.Statement.{statement}
-use Rattle.machine_steps.proofs.write_register.Tie as tie
+use Rattle.machine_steps.proofs.write_register.Goals as goal
 
 register_set : (registers : List ℕ) (d : Option ℕ) (v : ℕ) → register_number d < registers_most
     → set registers (register_number d) v ≡ writing registers d v
@@ -25,20 +23,15 @@ register_kept : (registers : List ℕ) (d : Option ℕ) (v : ℕ) → length reg
 register_kept registers none v h = refl
 register_kept registers (some d) v h = sym (set_out registers d v h)
 
-returns : tie.Need-returns
-returns c =
-    let start = c.before.before.before in
+pub returns-then-d-lt-REGISTERS : goal.returns-then-d-lt-REGISTERS
+returns-then-d-lt-REGISTERS c =
+    let start = c.before in
     let registers = start.args.registers.now in
-    let d = c.before.before.destination-of in
+    let d = c.destination_of-d in
     ap₂ (λ (k v : ℕ). set registers k v) d.ensures c.value_of.ensures
-    ∙ register_set registers (destination start.args.e.instruction) _ (rw d.ensures at c.before.if1.true)
+    ∙ register_set registers (destination start.args.e.instruction) _ (rw d.ensures at c.if-d-lt-REGISTERS.true)
 
-returns-2 : tie.Need-returns-2
-returns-2 c =
-    let args = c.before.before.args in
+pub returns-else-d-lt-REGISTERS : goal.returns-else-d-lt-REGISTERS
+returns-else-d-lt-REGISTERS c =
+    let args = c.args in
     register_kept args.registers.now (destination args.e.instruction) _ (omega arith)
-
-pub write_register_spec : {M : Type 1} → statement M
-write_register_spec =
-    tie.close
-    (tie.spec (search rules) (search rules) (search rules) (search rules) (search rules) returns returns-2)
