@@ -6,11 +6,12 @@
 ghost use Rattle.std.specs.Prelude.{◌≤◌, length};
 ghost use Rattle.player_model.specs.Playing.{longest};
 
-use libc::{STDERR_FILENO, STDIN_FILENO, STDOUT_FILENO};
 use machine_model::PROGRAM;
 use script_model::MOST;
+use std::io::{Read, Write};
 use table::WORDS;
 
+// std opens no descriptor by its number: what is written to this one goes through `io`.
 const TELL: i32 = 3;
 
 // Room for one byte more than a script has, so that longer input is seen, and for a piece of output.
@@ -35,24 +36,28 @@ enum Outcome {
 }
 
 // One read: how many bytes it gave, and whether the input ended, which a read of no bytes tells.
-fn read_some(buf: &mut [u8]) -> Input
+fn read_some<R: Read>(from: &mut R, buf: &mut [u8]) -> Input
     ensures { result.count ≤ length buf.new }
 {
-    let got = libc::read(STDIN_FILENO, buf);
-    let count = io::count(got, buf);
-    Input {
-        count,
-        whole: got == 0,
+    match from.read(buf) {
+        Ok(count) => Input {
+            count,
+            whole: count == 0,
+        },
+        Err(_) => Input {
+            count: 0,
+            whole: false,
+        },
     }
 }
 
 // Reads until the input ends, a read fails or the buffer is full.
-fn read_all(buf: &mut [u8]) -> Input
+fn read_all<R: Read>(from: &mut R, buf: &mut [u8]) -> Input
     ensures { result.count ≤ length buf.new }
 {
     let mut done: usize = 0;
     while done < buf.len() {
-        let input = read_some(&mut buf[done..]);
+        let input = read_some(from, &mut buf[done..]);
         let whole = input.whole;
         let more = input.count;
         if more == 0 {
@@ -86,7 +91,14 @@ fn outcome_of(out: &[u8]) -> Outcome {
 
 // Plays on, and writes each piece, until all is printed or a write fails. A player that is over at its beginning prints nothing:
 // the text may not be the whole input.
-fn play(s: &[u8], whole: bool, program: &mut [u32], memory: &mut [u32], out: &mut [u8]) -> Outcome
+fn play<W: Write>(
+    s: &[u8],
+    whole: bool,
+    program: &mut [u32],
+    memory: &mut [u32],
+    out: &mut [u8],
+    output: &mut W,
+) -> Outcome
     requires { longest ≤ length out.old }
 {
     let mut player = script::begin(s, whole, program, memory);
@@ -98,7 +110,7 @@ fn play(s: &[u8], whole: bool, program: &mut [u32], memory: &mut [u32], out: &mu
         }
         let piece = script::fill(player, s, program, memory, out);
         let end = piece.end;
-        if !io::write_all(STDOUT_FILENO, &out[0..end]) {
+        if output.write_all(&out[0..end]).is_err() {
             return Outcome::Lost;
         }
         outcome = outcome_of(&out[0..end]);
@@ -107,42 +119,36 @@ fn play(s: &[u8], whole: bool, program: &mut [u32], memory: &mut [u32], out: &mu
 }
 
 // Says why a script is bad.
-fn explain(s: &[u8], out: &mut [u8]) {
+fn explain<W: Write>(s: &[u8], out: &mut [u8], errors: &mut W) {
     let flaw = script_flaw::flaw_of(s);
     let end = script_message::put_message(out, flaw);
-    io::write_all(STDERR_FILENO, &out[0..end]);
+    let _ = errors.write_all(&out[0..end]);
 }
 
 // Says what came of it.
-fn report(outcome: Outcome, s: &[u8], out: &mut [u8]) {
+fn report<W: Write>(outcome: Outcome, s: &[u8], out: &mut [u8], errors: &mut W) {
     match outcome {
         Outcome::Nothing => {
-            io::write_all(
-                STDERR_FILENO,
-                b"arb: standard input could not be read to its end\n",
-            );
+            let _ = errors.write_all(b"arb: standard input could not be read to its end\n");
             io::write_all(TELL, b"3\n");
         }
         Outcome::All => {
             io::write_all(TELL, b"0\n");
         }
         Outcome::Bad => {
-            explain(s, out);
+            explain(s, out, errors);
             io::write_all(TELL, b"1\n");
         }
         Outcome::Lost => {
-            io::write_all(
-                STDERR_FILENO,
-                b"arb: standard output could not be written\n",
-            );
+            let _ = errors.write_all(b"arb: standard output could not be written\n");
             io::write_all(TELL, b"4\n");
         }
     }
 }
 
-fn main() {
+fn main(rt: HostRuntime) {
     let mut text = [0u8; INPUT];
-    let input = read_all(&mut text);
+    let input = read_all(&mut rt.stdin(), &mut text);
     let n = input.count;
     let whole = input.whole;
     let mut program = [0u32; PROGRAM];
@@ -155,6 +161,7 @@ fn main() {
         &mut program,
         &mut memory[0..words],
         &mut out,
+        &mut rt.stdout(),
     );
-    report(outcome, &text[0..n], &mut out);
+    report(outcome, &text[0..n], &mut out, &mut rt.stderr());
 }

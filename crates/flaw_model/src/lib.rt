@@ -3,7 +3,7 @@
 #![tactic(auto)]
 
 // Where a line stands: first, in the program with room for so many instructions, or among the steps.
-#[derive(Drop)]
+#[derive(Clone, Copy)]
 pub enum Part {
     First,
     Program(usize),
@@ -12,7 +12,7 @@ pub enum Part {
 
 // What is wrong with a field: nothing, it is empty, it has an extra leading zero, this byte is no digit, it is above
 // the largest number, or its number is outside the field's limits.
-#[derive(Drop)]
+#[derive(Clone, Copy)]
 pub enum Defect {
     Sound,
     Missing,
@@ -32,7 +32,7 @@ pub enum Took {
 
 // Why a script is bad. A letter comes with what follows from it: the byte behind it, the number of fields found (itself among
 // them), or one of its fields (the letter is field 1).
-#[derive(Drop)]
+#[derive(Clone, Copy)]
 pub enum Reason {
     Fine,
     TooLong,

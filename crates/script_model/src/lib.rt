@@ -8,7 +8,7 @@ pub const MOST: usize = 65536;
 pub const LETTERS: [u8; 7] = [0, b'A', b'P', b'L', b'S', b'B', b'H'];
 
 // What a line says; `Operation` has an instruction's code, d, s and imm.
-#[derive(Drop)]
+#[derive(Clone, Copy)]
 pub enum Item {
     Malformed,
     Sizes(u32, u32, u32, u32),

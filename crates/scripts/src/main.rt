@@ -5,20 +5,59 @@
 ghost use Rattle.std.specs.Prelude.{◌≤◌, length};
 ghost use Rattle.io.specs.Counts.{IsPrefixLen};
 
-use libc::STDOUT_FILENO;
 use machine_model::PROGRAM;
+use std::env::FillError;
+use std::fs;
+use std::io::{Print, Read};
+use std::rt::{Env, Files};
 use table::WORDS;
 
+// How many arguments there are, the program's name among them.
+fn count_arguments(env: &impl Env) -> usize {
+    let mut path = io::buffer();
+    for i in 0..usize::MAX {
+        if let Err(FillError::NotPresent) = env.arg(i, &mut path) {
+            return i;
+        }
+    }
+    usize::MAX
+}
+
+// Puts argument `i` at the start of `path`; nothing, where it is missing or longer than that.
+fn argument(env: &impl Env, i: usize, path: &mut [u8]) -> usize
+    ensures { IsPrefixLen result path.new }
+{
+    env.arg(i, path).unwrap_or(0)
+}
+
+// Reads until the buffer is full, the input ends or a read fails, and returns how many bytes it put at the start.
+fn read_full<R: Read>(from: &mut R, into: &mut [u8]) -> usize
+    ensures { IsPrefixLen result into.new }
+{
+    let mut done = 0;
+    while done < into.len() {
+        let n = from.read(&mut into[done..]).unwrap_or(0);
+        if n == 0 {
+            break;
+        }
+        done += n;
+    }
+    done
+}
+
 // Reads the file that argument `i` names; nothing, where it cannot be read.
-fn read_named(i: usize, into: &mut [u8]) -> usize
+fn read_named(rt: &(impl Env + Files), i: usize, into: &mut [u8]) -> usize
     ensures { IsPrefixLen result into.new }
 {
     let mut path = io::buffer();
-    let length = os::arg(i, &mut path);
-    let fd = os::open_read(&path[..length]);
-    let n = io::read_full(fd, into);
-    libc::close(fd);
-    n
+    let length = argument(rt, i, &mut path);
+    let Ok(name) = str::from_utf8(&path[..length]) else {
+        return 0;
+    };
+    match fs::open(rt, name) {
+        Ok(mut file) => read_full(&mut file, into),
+        Err(_) => 0,
+    }
 }
 
 // Plays a script whose output fits in `out`, and returns where it ends.
@@ -30,60 +69,60 @@ fn play(s: &[u8], program: &mut [u32], memory: &mut [u32], out: &mut [u8]) -> us
     piece.end
 }
 
-fn say(s: &[u8]) {
-    io::write_all(STDOUT_FILENO, s);
+fn say(to: &impl Print, s: &[u8]) {
+    let _ = to.write_all(s);
 }
 
 // Writes the name of the file that argument `i` names.
-fn say_name(i: usize) {
+fn say_name(rt: &(impl Env + Print), i: usize) {
     let mut path = io::buffer();
-    let length = os::arg(i, &mut path);
-    say(&path[..length]);
+    let length = argument(rt, i, &mut path);
+    say(rt, &path[..length]);
 }
 
 // Whether a script printed what it must; if not, shows it.
-fn compare(i: usize, s: &[u8], out: &[u8], wanted: &[u8]) -> bool {
-    say_name(i);
+fn compare(rt: &(impl Env + Print), i: usize, s: &[u8], out: &[u8], wanted: &[u8]) -> bool {
+    say_name(rt, i);
     if check::same(out, wanted) {
-        say(b" as expected\n");
+        say(rt, b" as expected\n");
         return true;
     }
-    say(b" FAILED\n---- script\n");
-    say(s);
-    say(b"---- printed\n");
-    say(out);
-    say(b"---- expected\n");
-    say(wanted);
+    say(rt, b" FAILED\n---- script\n");
+    say(rt, s);
+    say(rt, b"---- printed\n");
+    say(rt, out);
+    say(rt, b"---- expected\n");
+    say(rt, wanted);
     false
 }
 
 // Plays the script that argument `i` names, and compares with what argument `j` names: 1 if it printed that.
-fn play_pair(i: usize, j: usize) -> u64
+fn play_pair(rt: &(impl Env + Files + Print), i: usize, j: usize) -> u64
     ensures { result ≤ 1 }
 {
     let mut text = io::large_buffer();
-    let n = read_named(i, &mut text);
+    let n = read_named(rt, i, &mut text);
     let mut wanted = io::buffer();
-    let m = read_named(j, &mut wanted);
+    let m = read_named(rt, j, &mut wanted);
     let mut program = [0u32; PROGRAM];
     let mut memory = [0u32; WORDS];
     let mut out = io::buffer();
     let words = script::words_of(&text[..n]);
     let end = play(&text[..n], &mut program, &mut memory[0..words], &mut out);
-    if compare(i, &text[..n], &out[0..end], &wanted[..m]) {
+    if compare(rt, i, &text[..n], &out[0..end], &wanted[..m]) {
         return 1;
     }
     0
 }
 
-fn main() {
-    let pairs = os::arg_count() / 2;
+fn main(rt: HostRuntime) {
+    let pairs = count_arguments(&rt) / 2;
     let mut passed: u64 = 0;
     let mut k: usize = 0;
     while k < pairs {
-        passed += play_pair(2 * k + 1, 2 * k + 2);
+        passed += play_pair(&rt, 2 * k + 1, 2 * k + 2);
         k += 1;
     }
-    io::print_decimal(STDOUT_FILENO, passed);
-    say(b" passed\n");
+    let _ = print!(rt; "{passed}");
+    say(&rt, b" passed\n");
 }

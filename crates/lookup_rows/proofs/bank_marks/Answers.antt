@@ -1,6 +1,5 @@
 -- Assumes nothing.
-use mathlib.Core.Path.{◌≡◌, sym, ap, ◌∙◌}
-use Prim.Native.Nat.{◌-◌, ◌≤◌}
+use mathlib.Core.Path.{sym, ap, ◌∙◌}
 use native.Mathlib.Omega.{arith}
 use Rattle.lookup.specs.Computed.Search.{bank_marks}
 use Rattle.lookup.proofs.Tail.{bank_none, bank_next}

@@ -1,10 +1,8 @@
 -- `lookup_rows::bank_marks` meets its contract. The loop's invariant: `set` has the marks of the first `i` rows of the bank.
 -- Assumes nothing.
-use mathlib.Core.Path.{◌≡◌, sym, ap, ◌∙◌}
+use mathlib.Core.Path.{◌≡◌}
 use Prim.Native.Nat.{◌-◌, ◌≤◌}
-use native.Mathlib.Omega.{arith}
 use Rattle.lookup.specs.Computed.Search.{bank_marks}
-use Rattle.lookup.proofs.Tail.{bank_none, bank_next}
 use Rattle.lookup_rows.proofs.bank_marks.Given as goal
 
 abbrev pub invariant-loop-i : goal.invariant-loop-i

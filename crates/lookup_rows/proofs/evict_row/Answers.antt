@@ -1,7 +1,7 @@
 -- Assumes nothing.
 use native.Mathlib.Omega.{arith}
 use Rattle.marks.specs.Stages.{width}
-use Rattle.lookup.proofs.Tail.{Walking, Looking, walk_all, walk_none, look}
+use Rattle.lookup.proofs.Tail.{Looking, walk_all, walk_none, look}
 use Rattle.lookup_rows.proofs.evict_row.Goals as goal
 use Rattle.lookup_rows.proofs.evict_row.Goals.{After-highest-q}
 

@@ -2,9 +2,7 @@
 -- walk has come, and the search over all positions finds what the search below that one finds (Walking). A turn looks at the
 -- highest of them, and `unseen` falls by its bit.
 -- Assumes nothing.
-use native.Mathlib.Omega.{arith}
-use Rattle.marks.specs.Stages.{width}
-use Rattle.lookup.proofs.Tail.{Walking, Looking, walk_all, walk_none, look}
+use Rattle.lookup.proofs.Tail.{Walking}
 use Rattle.lookup_rows.proofs.evict_row.Given as goal
 
 abbrev pub invariant-loop-unseen : goal.invariant-loop-unseen

@@ -1,8 +1,7 @@
 -- Assumes nothing.
 use native.Mathlib.Omega.{arith}
 use borrow.Author.Tests.{eq-eqb, ne_eqb}
-use Rattle.lookup.specs.Computed.Search.{free}
-use Rattle.lookup.proofs.Loops.{Finding, finding_all, finding_hit, finding_miss, finding_none}
+use Rattle.lookup.proofs.Loops.{finding_all, finding_hit, finding_miss, finding_none}
 use Rattle.lookup_rows.proofs.free_row.Goals as goal
 
 pub loop-i-init : goal.loop-i-init

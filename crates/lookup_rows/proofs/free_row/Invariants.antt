@@ -1,10 +1,8 @@
 -- `lookup_rows::free_row` meets its contract. The loop's invariant: the search below `rows` finds what the search below `i`
 -- finds. A turn looks at place i - 1 of the bank; its row is an index of the arrays.
 -- Assumes nothing.
-use native.Mathlib.Omega.{arith}
-use borrow.Author.Tests.{eq-eqb, ne_eqb}
 use Rattle.lookup.specs.Computed.Search.{free}
-use Rattle.lookup.proofs.Loops.{Finding, finding_all, finding_hit, finding_miss, finding_none}
+use Rattle.lookup.proofs.Loops.{Finding}
 use Rattle.lookup_rows.proofs.free_row.Given as goal
 
 abbrev pub invariant-loop-i : goal.invariant-loop-i

@@ -1,7 +1,6 @@
 -- Assumes nothing.
 use native.Mathlib.Omega.{arith}
-use Rattle.lookup.specs.Computed.Search.{belongs}
-use Rattle.lookup.proofs.Loops.{Finding, finding_all, finding_hit, finding_miss, finding_none}
+use Rattle.lookup.proofs.Loops.{finding_all, finding_hit, finding_miss, finding_none}
 use Rattle.lookup_rows.proofs.row_of.Goals as goal
 
 pub loop-i-init : goal.loop-i-init

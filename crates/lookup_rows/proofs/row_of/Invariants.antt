@@ -1,9 +1,8 @@
 -- `lookup_rows::row_of` meets its contract. The loop's invariant: the search below `rows` finds what the search below `i`
 -- finds. The test of a turn is the definition's own at place i - 1.
 -- Assumes nothing.
-use native.Mathlib.Omega.{arith}
 use Rattle.lookup.specs.Computed.Search.{belongs}
-use Rattle.lookup.proofs.Loops.{Finding, finding_all, finding_hit, finding_miss, finding_none}
+use Rattle.lookup.proofs.Loops.{Finding}
 use Rattle.lookup_rows.proofs.row_of.Given as goal
 
 abbrev pub invariant-loop-i : goal.invariant-loop-i

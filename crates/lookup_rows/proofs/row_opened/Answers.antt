@@ -2,7 +2,7 @@
 use native.Mathlib.Omega.{arith}
 use Rattle.marks.proofs.Turns.{stage_lt}
 use Rattle.lookup.proofs.Loops.{finding_all, finding_none}
-use Rattle.lookup.proofs.Tail.{Opening, opening_hit, opening_miss}
+use Rattle.lookup.proofs.Tail.{opening_hit, opening_miss}
 use Rattle.lookup_rows.proofs.row_opened.Goals as goal
 
 pub loop-i-init : goal.loop-i-init

@@ -2,10 +2,7 @@
 -- finds (Opening). A turn looks at place i - 1 of the bank: its marks have stage `s` and none of the older stages exactly where
 -- its oldest mark is at position `q`.
 -- Assumes nothing.
-use native.Mathlib.Omega.{arith}
-use Rattle.marks.proofs.Turns.{stage_lt}
-use Rattle.lookup.proofs.Loops.{finding_all, finding_none}
-use Rattle.lookup.proofs.Tail.{Opening, opening_hit, opening_miss}
+use Rattle.lookup.proofs.Tail.{Opening}
 use Rattle.lookup_rows.proofs.row_opened.Given as goal
 
 abbrev pub invariant-loop-i : goal.invariant-loop-i

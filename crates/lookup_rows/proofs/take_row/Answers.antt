@@ -1,7 +1,6 @@
 -- `lookup_rows::take_row` meets its contract: each call gives the definition's value, and each return is the side of the test
 -- that the code took.
 -- Assumes nothing.
-use native.Mathlib.Omega.{arith}
 use borrow.Author.Tests.{ne_eqb}
 use Rattle.lookup_rows.proofs.take_row.Goals as goal
 

@@ -11,7 +11,7 @@ pub returns-then-s-i-eq10 : goal.returns-then-s-i-eq10
 returns-then-s-i-eq10 c =
     let a = c.args in
     let l = c.loop-i in
-    line_found a.s.now a.at l.i (omega arith) (omega arith) l.invariant c.if-s-i-eq10.true
+    line_found a.s.now a.at l.i (omega arith) (omega arith) l.invariant (omega arith)
 
 pub loop-i-preserved : goal.loop-i-preserved
 loop-i-preserved c =
