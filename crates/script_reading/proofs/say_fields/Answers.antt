@@ -13,8 +13,7 @@ use Rattle.script_model.specs.declared.Item.{Item}
 use Rattle.script_model.specs.declared.Item.TheVariants.{Malformed}
 use Rattle.script_model.specs.Language.{with_one, with_three, with_four}
 use Rattle.script_model.proofs.Items.{heard, no_numbers, one_number, three_numbers, four_numbers, wrong_numbers}
-use Rattle.script_reading.proofs.say_fields.Statement.{statement}
-use Rattle.script_reading.proofs.say_fields.Tie as tie
+use Rattle.script_reading.proofs.say_fields.Goals as goal
 
 -- the item of the test that holds
 abbrev chosen : ℕ → List ℕ → Bool → Bool → Bool → Item
@@ -35,20 +34,13 @@ said b true count vs long h = go (eqb count 1) (eqb count 3) (eqb count 4) refl 
     go false false false e f g =
         wrong_numbers b true count vs refl long h (eqb-false count 1 e) (eqb-false count 3 f) (eqb-false count 4 g)
 
-returns : tie.Need-returns
+pub returns : goal.returns
 returns c =
-    let start = c.before.before.before.before.before.before.before.before in
-    let n = start.args.t2 in
+    let n = c.args.n in
     rw (
       c.choose.ensures,
-      c.before.before.before.before.say-one.ensures,
-      c.before.before.before.say-three.ensures,
-      c.before.say-four.ensures,
+      c.say_one-one.ensures,
+      c.say_three-three.ensures,
+      c.say_four-four.ensures,
     )
-    (said start.args.b n.good n.count n.values (search rules) start.requires)
-
-pub say_fields_spec : {M : Type 1} → statement M
-say_fields_spec =
-    tie.close
-    (tie.spec (search rules) (search rules) (search rules) (search rules) (search rules) (search rules) (search rules)
-    (search rules) returns)
+    (said c.args.b n.good n.count n.values (search rules) c.requires)
