@@ -21,15 +21,17 @@ returns-then-not-keeps_rules c m = broken_meets _ (squash _) m c.keeps_rules.ens
 
 pub named-requires : goal.named-requires
 named-requires c =
-    let rules = (checked_rules c.args.t c.keeps_rules.ensures (ap not c.if-not-keeps_rules.false)) in
+    let rules = checked_rules c.args.t c.keeps_rules.ensures (ap not c.if-not-keeps_rules.false) in
     (rules.start, (fits _ rules).stages, (lengths_of c.args.t c.well_formed.0).numbers)
 
 pub returns-then-not-named : goal.returns-then-not-named
-returns-then-not-named c = squash_unnamed _ (checked_rules c.args.t c.keeps_rules.ensures (ap not c.if-not-keeps_rules.false)) _ (sym c.named.ensures ∙ c.if-not-named.true)
+returns-then-not-named c =
+    let rules = checked_rules c.args.t c.keeps_rules.ensures (ap not c.if-not-keeps_rules.false) in
+    squash_unnamed _ rules _ (sym c.named.ensures ∙ c.if-not-named.true)
 
 pub position_of-p-requires : goal.position_of-p-requires
 position_of-p-requires c =
-    let rules = (checked_rules c.args.t c.keeps_rules.ensures (ap not c.if-not-keeps_rules.false)) in
+    let rules = checked_rules c.args.t c.keeps_rules.ensures (ap not c.if-not-keeps_rules.false) in
     let live = named_live c.args.t c.args.ticket (sym c.named.ensures ∙ c.if-not-named.false) in
     (rules.start, live.0, omega (arith, (fits _ rules).stages))
 
@@ -41,7 +43,7 @@ cut_asks t rules τ p n e = circle_asks t rules p (rw e (le_of_lt (named_live t 
 
 pub cut-requires : goal.cut-requires
 cut-requires c =
-    let rules = (checked_rules c.args.t c.keeps_rules.ensures (ap not c.if-not-keeps_rules.false)) in
+    let rules = checked_rules c.args.t c.keeps_rules.ensures (ap not c.if-not-keeps_rules.false) in
     record {
       banks_le_banks_most = ((fits _ rules).banks, (lengths_of c.args.t c.well_formed.0).loads);
       oldest_lt_stages = cut_asks c.args.t rules c.args.ticket _ (sym c.named.ensures ∙ c.if-not-named.false) c.position_of-p.ensures;
@@ -49,7 +51,7 @@ cut-requires c =
 
 pub cut-requires-2 : goal.cut-requires-2
 cut-requires-2 c =
-    let rules = (checked_rules c.args.t c.keeps_rules.ensures (ap not c.if-not-keeps_rules.false)) in
+    let rules = checked_rules c.args.t c.keeps_rules.ensures (ap not c.if-not-keeps_rules.false) in
     record {
       banks_le_banks_most = ((fits _ rules).banks, (lengths_of c.args.t c.well_formed.0).stores);
       oldest_lt_stages = cut_asks c.args.t rules c.args.ticket _ (sym c.named.ensures ∙ c.if-not-named.false) c.position_of-p.ensures;
@@ -57,5 +59,6 @@ cut-requires-2 c =
 
 pub returns : goal.returns
 returns c m =
+    let rules = checked_rules c.args.t c.keeps_rules.ensures (ap not c.if-not-keeps_rules.false) in
     rw (c.cut.ensures, c.cut-2.ensures, c.position_of-p.ensures)
-    (squash_meets _ (checked_rules c.args.t c.keeps_rules.ensures (ap not c.if-not-keeps_rules.false)) _ (sym c.named.ensures ∙ c.if-not-named.false) m)
+    (squash_meets _ rules _ (sym c.named.ensures ∙ c.if-not-named.false) m)
