@@ -41,8 +41,9 @@ execution_refusal-why-requires c =
 
 pub returns-then-why-ne0 : goal.returns-then-why-ne0
 returns-then-why-ne0 c =
+    let rules = checked_rules c.args.t c.keeps_rules.ensures (ap not c.if-not-keeps_rules.false) in
     let why = c.execution_refusal-why in
-    turned_down c.args.t (checked_rules c.args.t c.keeps_rules.ensures (ap not c.if-not-keeps_rules.false)) c.args.ticket c.args.memory.now c.args.action why.result why.ensures c.if-why-ne0.true
+    turned_down c.args.t rules c.args.ticket c.args.memory.now c.args.action why.result why.ensures c.if-why-ne0.true
 
 pub position_of-requires : goal.position_of-requires
 position_of-requires c =
@@ -59,7 +60,9 @@ effect_of-effect-requires c =
 
 pub returns-then-left-eq0 : goal.returns-then-left-eq0
 returns-then-left-eq0 c =
-    stalls c.args.t (checked_rules c.args.t c.keeps_rules.ensures (ap not c.if-not-keeps_rules.false)) c.args.ticket c.args.memory.now c.args.action (sym c.execution_refusal-why.ensures ∙ c.if-why-ne0.false) c.effect_of-effect.result (rw (c.position_of.ensures, c.word_below.ensures) at c.effect_of-effect.ensures) c.if-left-eq0.true
+    let rules = checked_rules c.args.t c.keeps_rules.ensures (ap not c.if-not-keeps_rules.false) in
+    stalls c.args.t rules c.args.ticket c.args.memory.now c.args.action (sym c.execution_refusal-why.ensures ∙ c.if-why-ne0.false)
+    c.effect_of-effect.result (rw (c.position_of.ensures, c.word_below.ensures) at c.effect_of-effect.ensures) c.if-left-eq0.true
 
 pub squashed_from-squash-requires : goal.squashed_from-squash-requires
 squashed_from-squash-requires c =
@@ -69,37 +72,84 @@ squashed_from-squash-requires c =
 pub cut-requires : goal.cut-requires
 cut-requires c =
     let rules = checked_rules c.args.t c.keeps_rules.ensures (ap not c.if-not-keeps_rules.false) in
-    let within = bounds c.args.t (checked_rules c.args.t c.keeps_rules.ensures (ap not c.if-not-keeps_rules.false)) c.args.ticket c.args.memory.now c.args.action (sym c.execution_refusal-why.ensures ∙ c.if-why-ne0.false) (rw (c.position_of.ensures, c.word_below.ensures) at c.effect_of-effect.ensures) c.if-left-eq0.false in
-    record { banks_le_banks_most = ((fits _ rules).banks, (lengths_of c.args.t c.well_formed.0).loads); oldest_lt_stages = circle_asks _ rules _ within.0 }
+    let within =
+    bounds c.args.t rules c.args.ticket c.args.memory.now c.args.action
+    (sym c.execution_refusal-why.ensures ∙ c.if-why-ne0.false)
+    (rw (c.position_of.ensures, c.word_below.ensures) at c.effect_of-effect.ensures) c.if-left-eq0.false in
+    record {
+      banks_le_banks_most = ((fits _ rules).banks, (lengths_of c.args.t c.well_formed.0).loads);
+      oldest_lt_stages = circle_asks _ rules _ within.0;
+    }
 
 pub cut-requires-2 : goal.cut-requires-2
 cut-requires-2 c =
     let rules = checked_rules c.args.t c.keeps_rules.ensures (ap not c.if-not-keeps_rules.false) in
-    let within = bounds c.args.t (checked_rules c.args.t c.keeps_rules.ensures (ap not c.if-not-keeps_rules.false)) c.args.ticket c.args.memory.now c.args.action (sym c.execution_refusal-why.ensures ∙ c.if-why-ne0.false) (rw (c.position_of.ensures, c.word_below.ensures) at c.effect_of-effect.ensures) c.if-left-eq0.false in
-    record { banks_le_banks_most = ((fits _ rules).banks, (lengths_of c.args.t c.well_formed.0).stores); oldest_lt_stages = circle_asks _ rules _ within.0 }
+    let within =
+    bounds c.args.t rules c.args.ticket c.args.memory.now c.args.action
+    (sym c.execution_refusal-why.ensures ∙ c.if-why-ne0.false)
+    (rw (c.position_of.ensures, c.word_below.ensures) at c.effect_of-effect.ensures) c.if-left-eq0.false in
+    record {
+      banks_le_banks_most = ((fits _ rules).banks, (lengths_of c.args.t c.well_formed.0).stores);
+      oldest_lt_stages = circle_asks _ rules _ within.0;
+    }
 
 pub including-requires : goal.including-requires
-including-requires c = let within = bounds c.args.t (checked_rules c.args.t c.keeps_rules.ensures (ap not c.if-not-keeps_rules.false)) c.args.ticket c.args.memory.now c.args.action (sym c.execution_refusal-why.ensures ∙ c.if-why-ne0.false) (rw (c.position_of.ensures, c.word_below.ensures) at c.effect_of-effect.ensures) c.if-left-eq0.false in omega arith
+including-requires c =
+    let rules = checked_rules c.args.t c.keeps_rules.ensures (ap not c.if-not-keeps_rules.false) in
+    let within =
+    bounds c.args.t rules c.args.ticket c.args.memory.now c.args.action
+    (sym c.execution_refusal-why.ensures ∙ c.if-why-ne0.false)
+    (rw (c.position_of.ensures, c.word_below.ensures) at c.effect_of-effect.ensures) c.if-left-eq0.false in omega arith
 
 pub set_word-requires : goal.set_word-requires
-set_word-requires c = (bounds c.args.t (checked_rules c.args.t c.keeps_rules.ensures (ap not c.if-not-keeps_rules.false)) c.args.ticket c.args.memory.now c.args.action (sym c.execution_refusal-why.ensures ∙ c.if-why-ne0.false) (rw (c.position_of.ensures, c.word_below.ensures) at c.effect_of-effect.ensures) c.if-left-eq0.false).1
+set_word-requires c =
+    let rules = checked_rules c.args.t c.keeps_rules.ensures (ap not c.if-not-keeps_rules.false) in
+    let within =
+    bounds c.args.t rules c.args.ticket c.args.memory.now c.args.action
+    (sym c.execution_refusal-why.ensures ∙ c.if-why-ne0.false)
+    (rw (c.position_of.ensures, c.word_below.ensures) at c.effect_of-effect.ensures) c.if-left-eq0.false in
+    within.1
 
 pub add_mark-requires : goal.add_mark-requires
-add_mark-requires c = let within = bounds c.args.t (checked_rules c.args.t c.keeps_rules.ensures (ap not c.if-not-keeps_rules.false)) c.args.ticket c.args.memory.now c.args.action (sym c.execution_refusal-why.ensures ∙ c.if-why-ne0.false) (rw (c.position_of.ensures, c.word_below.ensures) at c.effect_of-effect.ensures) c.if-left-eq0.false in (within.1, omega arith)
+add_mark-requires c =
+    let rules = checked_rules c.args.t c.keeps_rules.ensures (ap not c.if-not-keeps_rules.false) in
+    let within =
+    bounds c.args.t rules c.args.ticket c.args.memory.now c.args.action
+    (sym c.execution_refusal-why.ensures ∙ c.if-why-ne0.false)
+    (rw (c.position_of.ensures, c.word_below.ensures) at c.effect_of-effect.ensures) c.if-left-eq0.false in (within.1, omega arith)
 
 pub add_mark-requires-2 : goal.add_mark-requires-2
-add_mark-requires-2 c = let within = bounds c.args.t (checked_rules c.args.t c.keeps_rules.ensures (ap not c.if-not-keeps_rules.false)) c.args.ticket c.args.memory.now c.args.action (sym c.execution_refusal-why.ensures ∙ c.if-why-ne0.false) (rw (c.position_of.ensures, c.word_below.ensures) at c.effect_of-effect.ensures) c.if-left-eq0.false in (within.1, omega arith)
+add_mark-requires-2 c =
+    let rules = checked_rules c.args.t c.keeps_rules.ensures (ap not c.if-not-keeps_rules.false) in
+    let within =
+    bounds c.args.t rules c.args.ticket c.args.memory.now c.args.action
+    (sym c.execution_refusal-why.ensures ∙ c.if-why-ne0.false)
+    (rw (c.position_of.ensures, c.word_below.ensures) at c.effect_of-effect.ensures) c.if-left-eq0.false in (within.1, omega arith)
 
 pub set_value-requires : goal.set_value-requires
-set_value-requires c = (bounds c.args.t (checked_rules c.args.t c.keeps_rules.ensures (ap not c.if-not-keeps_rules.false)) c.args.ticket c.args.memory.now c.args.action (sym c.execution_refusal-why.ensures ∙ c.if-why-ne0.false) (rw (c.position_of.ensures, c.word_below.ensures) at c.effect_of-effect.ensures) c.if-left-eq0.false).2
+set_value-requires c =
+    let rules = checked_rules c.args.t c.keeps_rules.ensures (ap not c.if-not-keeps_rules.false) in
+    let within =
+    bounds c.args.t rules c.args.ticket c.args.memory.now c.args.action
+    (sym c.execution_refusal-why.ensures ∙ c.if-why-ne0.false)
+    (rw (c.position_of.ensures, c.word_below.ensures) at c.effect_of-effect.ensures) c.if-left-eq0.false in
+    within.2
 
 pub set_value-requires-2 : goal.set_value-requires-2
-set_value-requires-2 c = (bounds c.args.t (checked_rules c.args.t c.keeps_rules.ensures (ap not c.if-not-keeps_rules.false)) c.args.ticket c.args.memory.now c.args.action (sym c.execution_refusal-why.ensures ∙ c.if-why-ne0.false) (rw (c.position_of.ensures, c.word_below.ensures) at c.effect_of-effect.ensures) c.if-left-eq0.false).2
+set_value-requires-2 c =
+    let rules = checked_rules c.args.t c.keeps_rules.ensures (ap not c.if-not-keeps_rules.false) in
+    let within =
+    bounds c.args.t rules c.args.ticket c.args.memory.now c.args.action
+    (sym c.execution_refusal-why.ensures ∙ c.if-why-ne0.false)
+    (rw (c.position_of.ensures, c.word_below.ensures) at c.effect_of-effect.ensures) c.if-left-eq0.false in
+    within.2
 
 pub returns : goal.returns
 returns c =
+    let rules = checked_rules c.args.t c.keeps_rules.ensures (ap not c.if-not-keeps_rules.false) in
     let q = c.effect_of-effect.result in
-    executes_meets c.args.t (checked_rules c.args.t c.keeps_rules.ensures (ap not c.if-not-keeps_rules.false)) c.args.ticket c.args.memory.now c.args.action (sym c.execution_refusal-why.ensures ∙ c.if-why-ne0.false) q (rw (c.position_of.ensures, c.word_below.ensures) at c.effect_of-effect.ensures)
+    executes_meets c.args.t rules c.args.ticket c.args.memory.now c.args.action (sym c.execution_refusal-why.ensures ∙ c.if-why-ne0.false) q
+    (rw (c.position_of.ensures, c.word_below.ensures) at c.effect_of-effect.ensures)
     (lengths_of c.args.t c.well_formed.0) c.if-left-eq0.false _ c.answered.ensures _ c.squashed_from-squash.ensures _
     (effect_made c.args.t q c.args.ticket.stage c.including.result c.set_word.new.a
     c.cut.new.words c.add_mark.new.a c.cut-2.new.words c.add_mark-2.new.a c.set_value.new.a
