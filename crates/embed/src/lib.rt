@@ -58,11 +58,11 @@ fn done_number(answer: DoneAnswer) -> u32
     }
 }
 
-fn named_number(answer: TicketAnswer) -> u32
-    ensures { result ≡ (numbers_of (ticket_says answer)).refusal }
+fn named_number(answer: &TicketAnswer) -> u32
+    ensures { result ≡ (numbers_of (ticket_says answer.now)).refusal }
 {
     match answer {
-        TicketAnswer::Refused(k) => k,
+        TicketAnswer::Refused(k) => *k,
         TicketAnswer::Named(_) => 0,
     }
 }
@@ -139,11 +139,11 @@ pub extern "C" fn arb_v_issue(t: Table) -> Named
     let done = buffer::issue(t);
     let said = done.answer;
     let table = done.table;
-    let ticket = named_ticket(said);
+    let refusal = named_number(&said);
     Named {
         table,
-        ticket,
-        refusal: named_number(said),
+        ticket: named_ticket(said),
+        refusal,
     }
 }
 
@@ -240,10 +240,10 @@ pub extern "C" fn arb_v_commit(t: Table, memory: &mut [u32]) -> Named
     let done = buffer::commit(t, memory);
     let said = done.answer;
     let table = done.table;
-    let ticket = named_ticket(said);
+    let refusal = named_number(&said);
     Named {
         table,
-        ticket,
-        refusal: named_number(said),
+        ticket: named_ticket(said),
+        refusal,
     }
 }

@@ -1,13 +1,9 @@
 -- `buffer_execute::execution_refusal` meets its contract: each return is the definition's first condition that holds. Past the
 -- second test the ticket's stage is one of the table's. Assumes nothing.
-use mathlib.Core.Path.{◌≡◌, sym, ◌∙◌}
-use mathlib.Core.Bool.{true, cond, and-eq-true_iff}
+use mathlib.Core.Path.{sym, ◌∙◌}
+use mathlib.Core.Bool.{and-eq-true_iff}
 use native.Mathlib.Omega.{arith}
-use borrow.Author.Rules.{rules}
-use borrow.Author.Tests.{ltb-true, eq-eqb, ne_eqb, not-true, not-false}
-use Rattle.marks.specs.Stages.{has}
-use Rattle.table.specs.Computed.Naming.{named_by}
-use Rattle.buffer_model.specs.Computed.Parts.{execute_refusal}
+use borrow.Author.Tests.{ltb-true, eq-eqb, ne_eqb}
 use Rattle.buffer_execute.proofs.execution_refusal.Goals as goal
 
 pub returns-then-words_lent-words : goal.returns-then-words_lent-words

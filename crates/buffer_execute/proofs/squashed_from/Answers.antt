@@ -1,11 +1,8 @@
 -- `buffer_execute::squashed_from` meets its contract: each return is the side of the definition's test that the code took.
 -- Assumes nothing.
-use Prim.Native.Nat.{◌<◌}
 use native.Mathlib.Omega.{arith}
-use borrow.Author.Rules.{rules}
 use borrow.Author.Tests.{lt-ltb, le-ltb}
 use Rattle.marks.proofs.Turns.{stage_lt}
-use Rattle.table.specs.Limits.{stages_most}
 use Rattle.buffer_execute.proofs.squashed_from.Goals as goal
 
 -- the stage is an index of the numbers

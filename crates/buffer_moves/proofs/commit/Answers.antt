@@ -1,25 +1,13 @@
 -- `buffer_moves::commit` meets its contract. Broken rules are refused with 2 (broken_meets); each other return is a law of
 -- proofs/Committing.antt on the table passed, given what the tests before it said: the rules hold, memory has W words,
 -- a reference is live, the oldest has executed, it does not fault. Assumes nothing.
-use Rattle.std.proofs.Common.{◌≡◌, ℕ, ◌<◌, true, false, length, sym, ap, ◌∙◌, arith, rules}
-use borrow.Author.Tests.{not-true, not-false}
-use Rattle.marks.specs.Stages.{has}
-use Rattle.table.specs.declared.Table.{Table}
-use Rattle.table.specs.Rules.{Rules}
-use Rattle.engine.proofs.Lengths.{Lengths, lengths_of, fits, circle_asks, oldest_small, next_asks}
+use Rattle.std.proofs.Common.{ℕ, sym, ap, ◌∙◌, arith}
+use Rattle.engine.proofs.Lengths.{lengths_of, fits, circle_asks, oldest_small, next_asks}
 use Rattle.lookup.specs.Computed.Search.{marked_fate}
 use Rattle.engine.specs.Conditions.{faults}
 use Rattle.buffer_model.proofs.MeetingContract.{checked_rules, broken_meets}
-use Rattle.buffer_model.proofs.Committing.{
-  oldest_fate,
-  length_refused,
-  empty_refused,
-  waiting_refused,
-  fault_refused,
-  commit_meets,
-}
-use Rattle.std.proofs.Common.{not, ◌≤◌}
-use Rattle.table.specs.declared.Ticket.{Ticket}
+use Rattle.buffer_model.proofs.Committing.{length_refused, empty_refused, waiting_refused, fault_refused, commit_meets}
+use Rattle.std.proofs.Common.{not}
 use Rattle.buffer_moves.proofs.commit.Goals as goal
 
 pub returns-then-not-keeps_rules : goal.returns-then-not-keeps_rules

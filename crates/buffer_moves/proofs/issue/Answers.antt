@@ -1,16 +1,12 @@
 -- `buffer_moves::issue` meets its contract: broken rules are refused with 2 (broken_meets), and a full window with 5
 -- (issue_full). Past both the table that it changes in place is the step `grown`, by what its callees ensure.
 -- Assumes nothing.
-use Rattle.std.proofs.Common.{◌<◌, le_refl, arith, rules}
-use Rattle.table.specs.Limits.{stages_most}
-use Rattle.table.specs.Rules.{Rules}
-use Rattle.engine.proofs.Lengths.{Lengths, lengths_of, fits, circle_asks, stage_small}
+use Rattle.std.proofs.Common.{le_refl, arith}
+use Rattle.engine.proofs.Lengths.{lengths_of, fits, circle_asks, stage_small}
 use Rattle.buffer_model.specs.Calls.{issue}
 use Rattle.buffer_model.proofs.MeetingContract.{checked_rules, broken_meets}
 use Rattle.buffer_model.proofs.Moving.{issue_full, issue_meets}
-use Rattle.std.proofs.Common.{ap, not, ◌≤◌, ℕ}
-use Rattle.table.specs.declared.Table.{Table}
-use Rattle.table.specs.declared.Ticket.{Ticket}
+use Rattle.std.proofs.Common.{ap, not}
 use Rattle.buffer_moves.proofs.issue.Goals as goal
 
 pub returns-then-not-keeps_rules : goal.returns-then-not-keeps_rules

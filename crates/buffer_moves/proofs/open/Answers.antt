@@ -1,8 +1,6 @@
 -- `buffer_moves::open` meets its contract: the two refusals and the opening are the first check that holds, and that none does.
 -- Assumes nothing.
-use Rattle.std.proofs.Common.{◌≡◌, true, sym, ◌∙◌, arith, rules, eq-eqb, ne_eqb}
-use borrow.Author.Tests.{not-true, not-false}
-use Rattle.table.specs.Limits.{sizes_fit}
+use Rattle.std.proofs.Common.{sym, ◌∙◌, arith, eq-eqb, ne_eqb}
 use Rattle.buffer_model.proofs.Opening.{opens_refused, opens_done}
 use Rattle.buffer_moves.proofs.open.Goals as goal
 

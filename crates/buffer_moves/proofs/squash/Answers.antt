@@ -2,11 +2,10 @@
 -- with 7 (squash_unnamed). Past both the table that it changes in place is the step `cut` at the ticket's position, by
 -- what its callees ensure. Assumes nothing.
 use Rattle.std.proofs.Common.{◌≡◌, ◌<◌, ◌≤◌, true, sym, ◌∙◌, le_of_lt, arith, rules}
-use borrow.Author.Tests.{not-true, not-false}
 use Rattle.marks.specs.Circle.{position}
 use Rattle.marks.specs.Stages.{width}
 use Rattle.table.specs.Rules.{Rules}
-use Rattle.engine.proofs.Lengths.{Lengths, lengths_of, fits, circle_asks}
+use Rattle.engine.proofs.Lengths.{lengths_of, fits, circle_asks}
 use Rattle.buffer_model.specs.Calls.{squash}
 use Rattle.table.specs.Computed.Naming.{named_by}
 use Rattle.buffer_model.proofs.MeetingContract.{checked_rules, broken_meets}

@@ -3,7 +3,7 @@
 -- Assumes nothing.
 use mathlib.Core.List.{List}
 use mathlib.Core.Option.{Option, none, some}
-use mathlib.Core.Path.{◌≡◌, refl, sym, ap₂, ◌∙◌}
+use mathlib.Core.Path.{◌≡◌, refl, sym}
 use Prim.Native.Nat.{ℕ, ◌≤◌, ◌<◌}
 use native.Mathlib.Omega.{arith}
 use lib.ListN.{length, set}
@@ -24,12 +24,7 @@ register_kept registers none v h = refl
 register_kept registers (some d) v h = sym (set_out registers d v h)
 
 pub returns-then-d-lt-REGISTERS : goal.returns-then-d-lt-REGISTERS
-returns-then-d-lt-REGISTERS c =
-    let start = c.before in
-    let registers = start.args.registers.now in
-    let d = c.destination_of-d in
-    ap₂ (λ (k v : ℕ). set registers k v) d.ensures c.value_of.ensures
-    ∙ register_set registers (destination start.args.e.instruction) _ (rw d.ensures at c.if-d-lt-REGISTERS.true)
+returns-then-d-lt-REGISTERS c = grind (arith, register_set)
 
 pub returns-else-d-lt-REGISTERS : goal.returns-else-d-lt-REGISTERS
 returns-else-d-lt-REGISTERS c =
