@@ -10,7 +10,7 @@ use table::{STAGES, Table};
 
 // A window entry. `executed` is 0 of one that waits; any other number reads as executed.
 #[repr(C)]
-#[derive(Drop)]
+#[derive(Clone, Copy)]
 pub struct Slot {
     pub code: u8,
     pub d: u8,
