@@ -15,7 +15,7 @@ use table::{Table, Ticket};
 
 // The result of an opening and of a squash.
 #[repr(C)]
-#[derive(Drop)]
+#[derive(Clone, Copy)]
 pub struct Done {
     pub table: Table,
     pub refusal: u32,
@@ -23,7 +23,7 @@ pub struct Done {
 
 // The result of an issue and of a commit: the ticket is zeros where it was refused.
 #[repr(C)]
-#[derive(Drop)]
+#[derive(Clone, Copy)]
 pub struct Named {
     pub table: Table,
     pub ticket: Ticket,
@@ -32,7 +32,7 @@ pub struct Named {
 
 // An answer in numbers, 0 for what it lacks. `squashed` is 1 where an execution squashed, and the ticket then what from.
 #[repr(C)]
-#[derive(Drop)]
+#[derive(Clone, Copy)]
 pub struct Numbers {
     pub ticket: Ticket,
     pub refusal: u32,
@@ -43,7 +43,7 @@ pub struct Numbers {
 
 // The result of an execution. Its numbers stand behind the table without a gap, so that C has them as fields of one struct.
 #[repr(C)]
-#[derive(Drop)]
+#[derive(Clone, Copy)]
 pub struct Executed {
     pub table: Table,
     pub numbers: Numbers,
@@ -58,11 +58,11 @@ fn done_number(answer: DoneAnswer) -> u32
     }
 }
 
-fn named_number(answer: &TicketAnswer) -> u32
-    ensures { result ≡ (numbers_of (ticket_says answer.now)).refusal }
+fn named_number(answer: TicketAnswer) -> u32
+    ensures { result ≡ (numbers_of (ticket_says answer)).refusal }
 {
     match answer {
-        TicketAnswer::Refused(k) => *k,
+        TicketAnswer::Refused(k) => k,
         TicketAnswer::Named(_) => 0,
     }
 }
@@ -139,11 +139,11 @@ pub extern "C" fn arb_v_issue(t: Table) -> Named
     let done = buffer::issue(t);
     let said = done.answer;
     let table = done.table;
-    let refusal = named_number(&said);
+    let ticket = named_ticket(said);
     Named {
         table,
-        ticket: named_ticket(said),
-        refusal,
+        ticket,
+        refusal: named_number(said),
     }
 }
 
@@ -240,10 +240,10 @@ pub extern "C" fn arb_v_commit(t: Table, memory: &mut [u32]) -> Named
     let done = buffer::commit(t, memory);
     let said = done.answer;
     let table = done.table;
-    let refusal = named_number(&said);
+    let ticket = named_ticket(said);
     Named {
         table,
-        ticket: named_ticket(said),
-        refusal,
+        ticket,
+        refusal: named_number(said),
     }
 }

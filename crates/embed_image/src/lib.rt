@@ -25,7 +25,7 @@ pub struct Slot {
 
 // A machine, its slots by stage. No byte is padding, so that an image handed back unchanged is so byte for byte.
 #[repr(C)]
-#[derive(Drop)]
+#[derive(Clone, Copy)]
 pub struct Image {
     pub table: Table,
     pub window: [Slot; STAGES],
@@ -36,7 +36,7 @@ pub struct Image {
 
 // An answer: a refusal's number, 0 where the call was accepted, and what it carries under its name, 0 for what it lacks.
 #[repr(C)]
-#[derive(Drop)]
+#[derive(Clone, Copy)]
 pub struct Numbers {
     pub position: usize,
     pub commits: usize,
@@ -50,7 +50,7 @@ pub struct Numbers {
 }
 
 #[repr(C)]
-#[derive(Drop)]
+#[derive(Clone, Copy)]
 pub struct Answered {
     pub image: Image,
     pub numbers: Numbers,

@@ -50,7 +50,7 @@ fn entry_by(x: Slot) -> Entry
 }
 
 // The four numbers of an instruction.
-#[derive(Drop)]
+#[derive(Clone, Copy)]
 struct Four {
     code: u8,
     d: u8,
@@ -72,7 +72,7 @@ fn four_of(i: Instruction) -> Four
 }
 
 // What became of an entry, in numbers.
-#[derive(Drop)]
+#[derive(Clone, Copy)]
 struct Three {
     executed: u8,
     value: u32,

@@ -22,7 +22,7 @@ pub enum Action {
 // What an execution comes to: which marks it sets, their row and its word's address, how many references stay, its value and
 // its own address, of a part's store the byte number, the word that its load took and how far it came. None stay where it
 // stalls. Value and address, which an entry has side by side, stand apart: read as one they would wait for two writes.
-#[derive(Drop)]
+#[derive(Clone, Copy)]
 pub struct Effect {
     pub load: bool,
     pub store: bool,

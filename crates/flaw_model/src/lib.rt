@@ -23,7 +23,7 @@ pub enum Defect {
 }
 
 // What a byte does to the field that it follows: it ends it, makes it this number, or is wrong there.
-#[derive(Drop)]
+#[derive(Clone, Copy)]
 pub enum Took {
     Ends,
     Grows(u32),
@@ -51,14 +51,14 @@ pub enum Reason {
 }
 
 // The first bad line of a script and what is wrong with it; `Fine`: no line is bad.
-#[derive(Drop)]
+#[derive(Clone, Copy)]
 pub struct Flaw {
     pub line: u64,
     pub reason: Reason,
 }
 
 // What a line leads to: the end, for this reason, or the next line, which begins there and stands in this part.
-#[derive(Drop)]
+#[derive(Clone, Copy)]
 pub enum Outlook {
     Ends(Reason),
     Goes(Part, usize),

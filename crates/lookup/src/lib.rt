@@ -3,14 +3,14 @@
 #![tactic(auto)]
 
 // The row in which an execution is marked, and how many references stay; none stay where it stalls.
-#[derive(Drop)]
+#[derive(Clone, Copy)]
 pub struct Place {
     pub row: usize,
     pub left: usize,
 }
 
 // What a load takes: the word, and how many positions older the store is that it came from; 0: it came from memory.
-#[derive(Drop)]
+#[derive(Clone, Copy)]
 pub struct Taken {
     pub word: u32,
     pub distance: u32,

@@ -15,7 +15,7 @@ use engine::{Action, Part};
 use machine_model::{Entry, Fate, Instruction, Kind};
 
 // The four numbers of an instruction.
-#[derive(Drop)]
+#[derive(Clone, Copy)]
 struct Numbers {
     code: u32,
     d: u32,

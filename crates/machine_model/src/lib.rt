@@ -61,7 +61,7 @@ pub struct Entry {
 }
 
 // Entries stand at their stages. `count` is the number of instructions opened, `next` the index of the next to issue.
-#[derive(Drop)]
+#[derive(Clone, Copy)]
 pub struct Machine {
     pub table: Table,
     pub window: [Entry; STAGES],
@@ -112,31 +112,31 @@ pub enum FinishAnswer {
     Finished(usize),
 }
 
-#[derive(Drop)]
+#[derive(Clone, Copy)]
 pub struct DoneResult {
     pub answer: DoneAnswer,
     pub machine: Machine,
 }
 
-#[derive(Drop)]
+#[derive(Clone, Copy)]
 pub struct IssueResult {
     pub answer: IssueAnswer,
     pub machine: Machine,
 }
 
-#[derive(Drop)]
+#[derive(Clone, Copy)]
 pub struct ExecuteResult {
     pub answer: ExecuteAnswer,
     pub machine: Machine,
 }
 
-#[derive(Drop)]
+#[derive(Clone, Copy)]
 pub struct CommitResult {
     pub answer: CommitAnswer,
     pub machine: Machine,
 }
 
-#[derive(Drop)]
+#[derive(Clone, Copy)]
 pub struct FinishResult {
     pub answer: FinishAnswer,
     pub machine: Machine,
@@ -150,7 +150,7 @@ pub enum Operand {
 }
 
 // What an execute at a position is refused with (7, 8 or 9), or 0 and then its stage, its entry and what that asks.
-#[derive(Drop)]
+#[derive(Clone, Copy)]
 pub struct Asked {
     pub why: u32,
     pub stage: usize,

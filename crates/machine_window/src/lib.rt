@@ -18,7 +18,7 @@ use machine_model::{Asked, Entry, Fate, Instruction, Operand, PER_INSTRUCTION, R
 use table::{ROWS, SLOTS, STAGES};
 
 // The stages with a load mark and with a store mark in rows of one address.
-#[derive(Drop)]
+#[derive(Clone, Copy)]
 struct Marks {
     loads: u32,
     stores: u32,
@@ -100,7 +100,7 @@ fn stage_agrees<'a>(
 
 // What one pass over the live entries says: whether window and table agree on them (executed or not, at which address and
 // with which mark), and whether they are the program's.
-#[derive(Drop)]
+#[derive(Clone, Copy)]
 struct Pass {
     agrees: bool,
     fits: bool,

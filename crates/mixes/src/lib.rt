@@ -35,7 +35,7 @@ pub fn with(sum: u64, x: u64) -> u64 {
 }
 
 // The numbers of an answer: how many, at most five, and they.
-#[derive(Drop)]
+#[derive(Clone, Copy)]
 pub struct Tally(pub usize, pub u64, pub u64, pub u64, pub u64, pub u64);
 
 // The checksum with the numbers of an answer.
@@ -143,7 +143,7 @@ fn spoil_marks(t: Table, x: usize) -> Table {
         return n;
     }
     let r = x % banks % BANKS * ROWS + x / 8 % rows % ROWS;
-    let bit: u32 = 1 << stage_drawn(n.oldest, stages, x / 64);
+    let bit: u32 = 1 << stage_drawn(t.oldest, stages, x / 64);
     let loads = n.loads[r];
     let stores = n.stores[r];
     if x < 8192 {
@@ -169,23 +169,23 @@ pub fn spoil(t: Table, what: usize, x: usize) -> Table {
     let bit: u32 = 1 << (x / SLOTS % STAGES);
     let mut n = t;
     if what == 0 {
-        n.banks = std::num::wrapping_add_usize(n.banks, x);
+        n.banks = std::num::wrapping_add_usize(t.banks, x);
         return n;
     }
     if what == 1 {
-        n.rows = std::num::wrapping_add_usize(n.rows, x);
+        n.rows = std::num::wrapping_add_usize(t.rows, x);
         return n;
     }
     if what == 2 {
-        n.stages = std::num::wrapping_add_usize(n.stages, x % 16);
+        n.stages = std::num::wrapping_add_usize(t.stages, x % 16);
         return n;
     }
     if what == 3 {
-        n.words = std::num::wrapping_add_usize(n.words, x);
+        n.words = std::num::wrapping_add_usize(t.words, x);
         return n;
     }
     if what == 4 {
-        n.oldest = std::num::wrapping_add_usize(n.oldest, x % 16);
+        n.oldest = std::num::wrapping_add_usize(t.oldest, x % 16);
         return n;
     }
     if what == 5 {
@@ -193,7 +193,7 @@ pub fn spoil(t: Table, what: usize, x: usize) -> Table {
         return n;
     }
     if what == 6 {
-        n.executed = n.executed ^ bit;
+        n.executed = t.executed ^ bit;
         return n;
     }
     if what == 10 {

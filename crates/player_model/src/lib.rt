@@ -23,7 +23,7 @@ pub enum Phase {
 
 // A script being played: `cursor` is where its next line begins, `line` that line's number, and `used` how many places of the
 // lent program are its own.
-#[derive(Drop)]
+#[derive(Clone, Copy)]
 pub struct Player {
     pub phase: Phase,
     pub cursor: usize,
@@ -34,21 +34,21 @@ pub struct Player {
 }
 
 // A player after some output, and where that ends in the buffer.
-#[derive(Drop)]
+#[derive(Clone, Copy)]
 pub struct Piece {
     pub player: Player,
     pub end: usize,
 }
 
 // The four numbers that a line gives, and where the next line begins: sizes on the first line, an instruction on a later one.
-#[derive(Drop)]
+#[derive(Clone, Copy)]
 pub enum Found {
     Nothing,
     Four(u32, u32, u32, u32, usize),
 }
 
 // Where the steps begin, the number of that line, and the places of the program in use.
-#[derive(Drop)]
+#[derive(Clone, Copy)]
 pub struct Loaded {
     pub cursor: usize,
     pub line: u64,
@@ -56,7 +56,7 @@ pub struct Loaded {
 }
 
 // What a line asks for: that the player turns to this phase, or a call of the machine.
-#[derive(Drop)]
+#[derive(Clone, Copy)]
 pub enum Ask {
     Turn(Phase),
     Issue,
@@ -66,7 +66,7 @@ pub enum Ask {
 }
 
 // What a line asks for, and the place and the number of the line after it.
-#[derive(Drop)]
+#[derive(Clone, Copy)]
 pub struct Order {
     pub ask: Ask,
     pub cursor: usize,

@@ -21,7 +21,7 @@ pub enum Item {
 }
 
 // How a script ends (01's fate).
-#[derive(Drop)]
+#[derive(Clone, Copy)]
 pub enum Ending {
     Open,
     Done,

@@ -17,7 +17,7 @@ pub const WORDS: usize = 4096;
 // `executed` has the stages whose reference has executed, `values` the word of a store and `taken` the word that a load took,
 // by its stage, which bears its marks in one row. C shares this layout, and the ticket's (crate embed).
 #[repr(C)]
-#[derive(Drop)]
+#[derive(Clone, Copy)]
 pub struct Table {
     pub banks: usize,
     pub rows: usize,
@@ -37,7 +37,7 @@ pub struct Table {
 
 // A reference's name (sequence tag): its stage and the number under which it was issued.
 #[repr(C)]
-#[derive(Drop)]
+#[derive(Clone, Copy)]
 pub struct Ticket {
     pub stage: usize,
     pub number: u32,
