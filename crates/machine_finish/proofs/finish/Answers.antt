@@ -44,13 +44,11 @@ use Rattle.machine_laws.proofs.FinishStep.{
 use Rattle.machine_finish.proofs.finish.Goals as goal
 use Rattle.machine_finish.proofs.finish.Goals.{
   At-loop-n,
-  In-loop-n,
   Else-list-n,
   Joined-m-eq0,
   After-effect_of-effect,
   After-stage_at,
   Joined-is_pending,
-  Else-commit_refusal-ne0,
   After-oldest_mark,
   then-m-eq0,
   else-m-eq0,
