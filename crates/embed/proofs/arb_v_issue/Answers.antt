@@ -5,5 +5,5 @@ pub returns : goal.returns
 returns c = λ m. record {
   said = _;
   meets = c.issue-done.ensures m;
-  numbers_are = (c.named_number-refusal.ensures, c.named_ticket.ensures);
+  numbers_are = (c.named_number.ensures, c.named_ticket-ticket.ensures);
 }
