@@ -1,3 +1,3 @@
-// The laws that tie the machine's code to its meaning. No code and no types: specs/computed says how the code computes, proofs/ that
+// The laws that tie the machine's code to its meaning. No code and no types: specs/Computed says how the code computes, proofs/ that
 // this is what crates/machine_model says.
 #![tactic(auto)]
