@@ -1,0 +1,11 @@
+-- `embed_machine::arb_m_squash` meets its contract: the machine's own, carried over to images by `crosses`. Assumes nothing.
+use Rattle.embed_image.proofs.Crossing.{crosses}
+use borrow.Author.Rules.{rules}
+use Rattle.embed_machine.proofs.arb_m_squash.Goals as goal
+
+pub returns : goal.returns
+returns c w =
+    crosses _ _ _
+    c.machine_by.ensures
+    (c.squash-done.ensures w) c.done_numbers-numbers.ensures
+    c.crossed.ensures
