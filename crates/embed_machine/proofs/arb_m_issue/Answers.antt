@@ -1,6 +1,5 @@
 -- `embed_machine::arb_m_issue` meets its contract: the machine's own, carried over to images by `crosses`. Assumes nothing.
 use Rattle.embed_image.proofs.Crossing.{crosses}
-use borrow.Author.Rules.{rules}
 use Rattle.embed_machine.proofs.arb_m_issue.Goals as goal
 
 pub returns : goal.returns

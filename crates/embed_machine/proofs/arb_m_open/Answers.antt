@@ -1,6 +1,5 @@
 -- `embed_machine::arb_m_open` meets its contract: the machine's own, and the image is the machine's. Assumes nothing.
 use Rattle.embed_image.proofs.Crossing.{starts}
-use borrow.Author.Rules.{rules}
 use Rattle.embed_machine.proofs.arb_m_open.Goals as goal
 
 pub returns : goal.returns

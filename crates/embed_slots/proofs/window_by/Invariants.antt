@@ -1,15 +1,11 @@
 -- `embed_slots::window_by` meets its contract. The loop's invariant: the places passed are `entry_by` of the window's.
 -- Assumes nothing.
-use mathlib.Core.Path.{◌≡◌, refl, sym, ap, ◌∙◌}
+use mathlib.Core.Path.{◌≡◌}
 use mathlib.Core.List.{map}
-use Prim.Native.Nat.{◌-◌, ◌≤◌, ◌<◌}
-use native.Mathlib.Omega.{arith}
-use lib.ListN.{length, take, length-set}
-use lib.Seq.{take_all}
-use borrow.Author.Rules.{rules}
+use Prim.Native.Nat.{◌-◌, ◌≤◌}
+use lib.ListN.{length, take}
 use Rattle.table.specs.Limits.{stages_most}
 use Rattle.embed_image.specs.Slots.{entry_by}
-use Rattle.embed_image.proofs.Round.{turn}
 use Rattle.embed_slots.proofs.window_by.Given as goal
 
 abbrev pub invariant-loop-i : goal.invariant-loop-i
