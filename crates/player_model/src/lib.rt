@@ -12,7 +12,7 @@ pub const COUNT: u64 = 18446744073709551615;
 
 // What the player does next: nothing, the bad line of this number, the next step, a finish with so many commits left, or the
 // memory words from this address on and then the end line.
-#[derive(Drop)]
+#[derive(Clone, Copy)]
 pub enum Phase {
     Over,
     Bad(u64),

@@ -96,7 +96,7 @@ fn play_on(p: Player, s: &[u8], program: &[u32], memory: &mut [u32], out: &mut [
                     phase = Phase::Words(next);
                     continue;
                 }
-                at = script_printing::put_end(out, at, script_steps::ending_of(machine), commits);
+                at = script_printing::put_end(out, at, script_steps::ending_of(&machine), commits);
                 phase = Phase::Over;
             }
         }

@@ -11,7 +11,6 @@ ghost use Rattle.player_model.specs.Playing.{one_more, ask_in, order_at, word_li
 use machine_model::{Entry, FinishAnswer, Machine};
 use player_model::{Ask, COUNT, Order, Phase};
 use script_model::{Ending, Item};
-use table::STAGES;
 use text::Line;
 
 // One more; the largest number stays.
@@ -45,14 +44,13 @@ fn first_stage(oldest: usize, stages: usize) -> usize
 }
 
 // How a script ends that left this machine.
-pub fn ending_of(m: Machine) -> Ending
-    ensures { result ≡ ending (plain m) }
+pub fn ending_of(m: &Machine) -> Ending
+    ensures { result ≡ ending (plain m.now) }
 {
-    let t = m.table;
-    let live = t.live;
-    let oldest = t.oldest;
-    let stages = t.stages;
-    let words = t.words;
+    let live = m.table.live;
+    let oldest = m.table.oldest;
+    let stages = m.table.stages;
+    let words = m.table.words;
     if live == 0 {
         if m.count <= m.next {
             return Ending::Done;
@@ -60,10 +58,10 @@ pub fn ending_of(m: Machine) -> Ending
         return Ending::Open;
     }
     let first = first_stage(oldest, stages);
-    if first >= STAGES {
+    let window: &[Entry] = &m.window;
+    if first >= window.len() {
         return Ending::Open;
     }
-    let window = m.window;
     if has_faulted(window[first], words) {
         return Ending::Fault;
     }
