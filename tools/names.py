@@ -18,7 +18,7 @@ APART = {("crates/table/proofs/Lawful.antt", "row_fits"): "row_fits_lem"}
 WORD = re.compile(r"[^\s()\[\]{}.,;\"⌜⌝`:]+")
 DECLARED = re.compile(
     r"^\s*(?:(?:unfoldable|abbrev|pub)\s+)*(?:(?:data|record|ruleset)\s+)?"
-    r"((?:[^\s()\[\]{}.,;:]+)(?:\s*,\s*[^\s()\[\]{}.,;:]+)*)\s*(?:\([^)]*\)\s*|\{[^}]*\}\s*)*:\s(.*)$"
+    r"((?:[^\s()\[\]{}.,;:]+)(?:\s*,\s*[^\s()\[\]{}.,;:]+)*)\s*(?:\([^)]*\)\s*|\{[^}]*\}\s*)*:(?:\s(.*))?$"
 )
 TEXT = re.compile(r'"(?:[^"\\]|\\.)*"')
 
@@ -53,7 +53,7 @@ def table():
             m = DECLARED.match(code)
             if m:
                 names = [n.strip() for n in m.group(1).split(",")]
-                if re.search(r"\btie\.(Need|invariant|decreases)", m.group(2)):
+                if re.search(r"\btie\.(Need|invariant|decreases)", m.group(2) or ""):
                     goals.update(names)
                 else:
                     dashed.update(n for n in names if "-" in n)

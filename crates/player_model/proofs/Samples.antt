@@ -36,17 +36,17 @@ run_numbers = refl
 pub sample_commits : (script_played sampled).commits ≡ 3
 sample_commits = omega (arith, record_counted sample_true, run_numbers)
 
-run-printed :
+run_printed :
     let numbers = script_record sampled in
     commit_lines numbers
     ++ (word_lines 0 (script_run sampled).memory ++ end_line (ending (script_played sampled).state) (length numbers / per_commit))
     ≡ expected
 unfolding computing lines_from code_from body steps bytes digits commit_lines word_lines sizes_fit woven distances_of
-run-printed = refl
+run_printed = refl
 
 pub sample_by_run : printed sample ≡ expected
 unfolding lines_from code_from body steps bytes sizes_fit
-sample_by_run = prints_all sample_true refl ∙ run-printed
+sample_by_run = prints_all sample_true refl ∙ run_printed
 
 -- The same program by one finish, on eight banks and a window of one stage: as many commits, and so the same memory.
 abbrev other : List ℕ

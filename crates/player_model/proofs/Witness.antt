@@ -196,10 +196,10 @@ begun : Begins text true (replicate program_most 0) (7 ∷ []) (at Stepping 18 3
 unfolding ascii lines_from code_from body steps bytes sizes_fit feed_in line_start computing
 begun = record { refuses = λ wrong. absurd (false≢true wrong); begins = λ _. (refl, refl, refl) }
 
-two-fillings :
+two_fillings :
     Fillings text own (at Stepping 18 3 0 m₀) (0 ∷ []) ([] ∷ ascii "0,A,1,9\n" ∷ []) (at (Finishing 0) 24 5 1 m₁) (0 ∷ [])
 unfolding ascii
-two-fillings = filled (filled ready none_filled) first_filled
+two_fillings = filled (filled ready none_filled) first_filled
 
 -- after two calls the first eight bytes are written
 pub written_there : take 8 (printed text) ≡ ascii "0,A,1,9\n"
@@ -207,7 +207,7 @@ unfolding ascii lines_from code_from body steps bytes sizes_fit joined
 written_there =
     written_first
     (pieces_are text true (replicate program_most 0) (7 ∷ []) (at Stepping 18 3 0 m₀) own (0 ∷ []) begun refl
-    ([] ∷ ascii "0,A,1,9\n" ∷ []) (at (Finishing 0) 24 5 1 m₁) (0 ∷ []) two-fillings)
+    ([] ∷ ascii "0,A,1,9\n" ∷ []) (at (Finishing 0) 24 5 1 m₁) (0 ∷ []) two_fillings)
 
 -- and after the third all that the sequential run tells
 pub pieces_there : commit_lines (script_record s) ++ closing (script_played s) s.body.steps.flaw ≡ ascii "0,A,1,9\nend,done,1\n"
@@ -215,7 +215,7 @@ unfolding ascii lines_from code_from body steps bytes sizes_fit joined
 pieces_there =
     sym
     (pieces_tell text true (replicate program_most 0) (7 ∷ []) (at Stepping 18 3 0 m₀) own (0 ∷ []) begun refl
-    ([] ∷ ascii "0,A,1,9\n" ∷ ascii "end,done,1\n" ∷ []) (at Over 24 5 1 m₁) (0 ∷ []) (filled two-fillings rest_filled) refl
+    ([] ∷ ascii "0,A,1,9\n" ∷ ascii "end,done,1\n" ∷ []) (at Over 24 5 1 m₁) (0 ∷ []) (filled two_fillings rest_filled) refl
     (omega arith) refl)
 
 -- the two calls with room came nearer to the end

@@ -86,7 +86,7 @@ text prints out = printed (ascii text) ≡ ascii out
 -- The byte at 5 is put into the word that the half at 4 left, and the load takes the whole word. The younger byte executes first,
 -- and the older one squashes it, since it has read the word. An H at an odd byte number executes and does not commit; while it
 -- waits nothing faults. Byte 3 lies in the one word, byte 4 behind it.
-parts-printed :
+parts_printed :
     ("N,1,1,4,2\nA,1,0,258\nH,1,0,4\nB,1,0,5\nL,2,0,1\nx,9\n"
     prints "0,A,1,258\n1,H,4,258\n2,B,5,514\nf,3,0\n3,L,2,514\nm,1,514\nend,done,4\n")
     × ("N,1,2,4,8\nA,1,0,1\nB,1,0,0\nB,1,0,1\ni\ni\ni\ne,0\ne,2\ne,1\nc\nc\nc\nx,1\n"
@@ -96,18 +96,18 @@ parts-printed :
     × ("N,1,1,2,1\nB,0,0,3\nB,0,0,4\nx,2\n" prints "0,B,3,0\nend,fault,1\n")
 unfolding ascii printed lines_from code_from body steps bytes digits commit_lines word_lines sizes_fit
     play Over.respond every program_fits seen distance kept_younger touched count last home bank register_seen Over.finishes
-parts-printed = (refl, refl, refl, refl, refl)
+parts_printed = (refl, refl, refl, refl, refl)
 
 -- Only an L has a distance line, just before its own, of a commit and of a finish alike: one store nearer than another to the
 -- word, and memory's word; a store of a part.
-distances-printed :
+distances_printed :
     ("N,1,2,8,8\nA,1,0,5\nS,1,0,3\nA,2,0,6\nS,2,0,3\nL,3,0,3\nL,4,0,4\ni\ni\ni\ni\ni\ni\ne,0\ne,1\ne,2\ne,3\ne,4\ne,5\nx,9\n"
     prints "0,A,1,5\n1,S,3,5\n2,A,2,6\n3,S,3,6\nf,4,1\n4,L,3,6\nf,5,0\n5,L,4,0\nm,3,6\nend,done,6\n")
     × ("N,1,2,4,8\nA,1,0,5\nB,1,0,12\nL,2,0,3\ni\ni\ni\ne,0\ne,1\ne,2\nc\nc\nc\n"
     prints "0,A,1,5\n1,B,12,5\nf,2,1\n2,L,2,5\nm,3,5\nend,done,3\n")
 unfolding ascii printed lines_from code_from body steps bytes digits commit_lines word_lines sizes_fit
     play Over.respond every program_fits seen distance kept_younger touched count last home bank register_seen Over.finishes
-distances-printed = (refl, refl)
+distances_printed = (refl, refl)
 
 distance_printed : committed_lines 255 3 7 771 15 ≡ ascii "f,255,15\n255,L,7,771\n"
 unfolding ascii digits
@@ -120,12 +120,12 @@ words_printed = refl
 
 -- What the steps before a bad line committed is printed, and then the bad line alone: no word of memory, and nothing of the
 -- steps after it. The last line is unended.
-bad-printed :
+bad_printed :
     ("N,1,2,4,8\nA,1,0,5\nS,1,0,3\nA,2,0,1\nx,2\nz\nx,1\n" prints "0,A,1,5\n1,S,3,5\nbad,6\n")
     × ("N,1,2,4,8\nA,1,0,5\nS,1,0,3\nx,2\ni" prints "0,A,1,5\n1,S,3,5\nbad,5\n")
 unfolding ascii printed lines_from code_from body steps bytes digits commit_lines word_lines sizes_fit
     play Over.respond every program_fits seen distance kept_younger touched count last home bank register_seen Over.finishes
-bad-printed = (refl, refl)
+bad_printed = (refl, refl)
 
 -- Input of 65,536 bytes is read: its first line, an empty one, is bad. Of input that is one byte longer nothing is.
 largest_read : (rest : List ℕ) → length rest ≡ 65535 → printed (10 ∷ rest) ≡ ascii "bad,1\n"

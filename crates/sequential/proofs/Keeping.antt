@@ -198,9 +198,9 @@ module _ (program memory : List ℕ) (c : Core) (e : Entry) (es : List Entry) (k
         record' = sym kept.record' i;
       }
 
-  good-oldest :
+  good_oldest :
       Good program c.next (λ (k : ℕ). some (get_or c.registers k 0)) (λ (a : ℕ). get_or c.memory a 0) (e ∷ es)
-  good-oldest =
+  good_oldest =
       subst
       (λ (l : List Entry).
       Good program c.next (λ (k : ℕ). some (get_or c.registers k 0)) (λ (a : ℕ). get_or c.memory a 0) l)
@@ -209,13 +209,13 @@ module _ (program memory : List ℕ) (c : Core) (e : Entry) (es : List Entry) (k
 
   module _ (w : pending e.fate ≡ false) where
     comes : coming (run_of c e) e.instruction ≡ some e.fate
-    comes = right_known e.instruction _ _ e.fate w good-oldest.0
+    comes = right_known e.instruction _ _ e.fate w good_oldest.0
 
     -- the run ends before an executed oldest entry only where its commit is turned down
     ends_so : ends program (run_after program memory c.commits) ≡ barred (length c.memory) e
     ends_so =
         ap (ends program) run_is
-        ∙ rw (lt-leb (length program / per_instruction) e.index good-oldest.2, ← good-oldest.1)
+        ∙ rw (lt-leb (length program / per_instruction) e.index good_oldest.2, ← good_oldest.1)
         (does_so (run_of c e) e.instruction e.fate comes).1
 
     run_goes : barred (length c.memory) e ≡ false
@@ -225,7 +225,7 @@ module _ (program memory : List ℕ) (c : Core) (e : Entry) (es : List Entry) (k
         ap (step program) run_is
         ∙ ap (λ (t : Bool). cond t (run_of c e) (does (run_of c e) (instruction_at program e.index)))
         (ap (ends program) (sym run_is) ∙ ends_so ∙ f)
-        ∙ ap (does (run_of c e)) (sym good-oldest.1)
+        ∙ ap (does (run_of c e)) (sym good_oldest.1)
         ∙ (does_so (run_of c e) e.instruction e.fate comes).0
 
 -- what is seen past an executed oldest entry is what its commit leaves
@@ -333,7 +333,7 @@ module _ (program memory : List ℕ) where
   unfolding without
   kept_commit c e es fits kept at w f =
       let goes = run_goes program memory c e es kept at w f in
-      let g = good-oldest program memory c e es kept at in
+      let g = good_oldest program memory c e es kept at in
       let lies : d_of e.instruction < length c.registers =
       rw (kept.registers, after_length program memory c.commits, g.1) (d_fits program e.index fits g.2) in
       record {
