@@ -1,11 +1,12 @@
 -- A finish as a loop, of a machine over any engine. Unfolding laws say when `finishes` stops (finishes_limit, finishes_stops,
--- finishes_short, turn_stops) and what one more commit adds (turn_goes). The loop's invariant is Remains: the way from the start
--- is what remains from the state now, put after the commits made, whose numbers stand in the list. It holds at the start
--- (remains_all), a turn keeps it (remains_goes), and where the rest stops at once it gives the contract (remains_meets).
--- In a turn the oldest is issued where the window is empty (begun_empty) and executed where it waits (ready_waiting).
+-- finishes_short, finishes_over, turn_stops) and what one more commit adds (turn_goes). The loop's invariant is Remains: the
+-- way from the start is what remains from the state now, put after the commits made, whose numbers stand in the list. It holds
+-- at the start (remains_all), a turn keeps it (remains_goes), and where the rest stops at once it gives the contract
+-- (remains_meets). In a turn the oldest is issued where the window is empty (begun_empty) and executed where it waits
+-- (ready_waiting).
 -- Assumes nothing.
 use mathlib.Core.Path.{◌≡◌, refl, sym, ap, ap₂, ◌∙◌}
-use mathlib.Core.Bool.{Bool, true, false, cond, ◌||◌}
+use mathlib.Core.Bool.{Bool, true, false, cond, ◌||◌, or-true}
 use mathlib.Core.List.{List, [], ◌∷◌, ◌++◌, append_assoc, append-nil}
 use Prim.Native.Nat.{ℕ, zero, suc, ◌+◌, ◌-◌, ◌*◌, ◌≤◌, ◌<◌}
 use native.Mathlib.Nat.{zero-add, sub-zero}
@@ -45,6 +46,10 @@ module _ {O S : Type 0} (E : Engine O S) (program : List ℕ) (j places : ℕ) (
   pub finishes_short : places < per_commit → finishes E program j places X w ≡ drain_stopped X w
   finishes_short h =
       finishes_stops E program j places X w (ap (λ (b : Bool). b || program_done X) (lt-ltb places per_commit h))
+
+  pub finishes_over : program_done X ≡ true → finishes E program j places X w ≡ drain_stopped X w
+  finishes_over h =
+      finishes_stops E program j places X w (ap (λ (b : Bool). ltb places per_commit || b) h ∙ or-true (ltb places per_commit))
 
 -- ---- one turn
 
