@@ -2,6 +2,8 @@
 // It is a crate of its own, since a static library is proved once more where it is made, and the mix takes half a minute.
 #![tactic(auto)]
 
+use mixes::{Sizes, Spoiling};
+
 #[unsafe(no_mangle)]
 pub extern "C" fn bench_buffer(
     banks: usize,
@@ -17,7 +19,12 @@ pub extern "C" fn bench_buffer(
     falling: usize,
     memory: &mut [u32],
 ) -> u64 {
-    mixes_buffer::mixes_buffer(
-        banks, rows, stages, words, calls, seed, when, part, by, whole, falling, memory,
-    )
+    let sizes = Sizes {
+        banks,
+        rows,
+        stages,
+        words,
+    };
+    let spoiling = Spoiling { when, part, by };
+    mixes_buffer::mixes_buffer(sizes, calls, seed, spoiling, whole, falling, memory)
 }

@@ -2,6 +2,8 @@
 // It is a crate of its own, since a static library is proved once more where it is made, and the mix takes half a minute.
 #![tactic(auto)]
 
+use mixes::{Sizes, Spoiling};
+
 #[unsafe(no_mangle)]
 pub extern "C" fn bench_machine(
     banks: usize,
@@ -18,7 +20,12 @@ pub extern "C" fn bench_machine(
     memory: &mut [u32],
     list: &mut [u32],
 ) -> u64 {
-    mixes_machine::mixes_machine(
-        banks, rows, stages, words, calls, seed, when, part, by, limit, program, memory, list,
-    )
+    let sizes = Sizes {
+        banks,
+        rows,
+        stages,
+        words,
+    };
+    let spoiling = Spoiling { when, part, by };
+    mixes_machine::mixes_machine(sizes, calls, seed, spoiling, limit, program, memory, list)
 }

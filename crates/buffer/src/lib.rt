@@ -6,9 +6,6 @@
 #![tactic(auto)]
 
 pub use buffer_execute::{execute, execute_load, execute_other, execute_part, execute_store};
-pub use buffer_model::{
-    DoneAnswer, DoneResult, ExecuteAnswer, ExecuteResult, Squashed, TicketAnswer, TicketResult,
-};
 pub use buffer_moves::{commit, issue, open, squash};
-pub use engine::{Action, Part};
+pub use engine::{Action, Answered, Executed, Part, Refusal};
 pub use table::{Table, Ticket};

@@ -4,159 +4,98 @@
 // refuses, and hands everything back as it was passed.
 #![tactic(auto)]
 
-ghost use Rattle.std.specs.Prelude.{◌≡◌, ◌≤◌, ◌<◌, length};
+ghost use Rattle.std.specs.Prelude.{◌≡◌};
 ghost use Rattle.marks.specs.Stages.{has};
-ghost use Rattle.table.specs.Limits.{stages_most};
+ghost use Rattle.table.specs.Computed.Naming.{names};
+ghost use Rattle.engine.specs.Answers.{turned_down};
 ghost use Rattle.buffer_model.specs.Answers.{execute_says};
 ghost use Rattle.buffer_model.specs.Calls.{execute, execute_load, execute_store, execute_part, execute_other};
 ghost use Rattle.buffer_model.specs.Contract.{Meets};
-ghost use Rattle.table.specs.Computed.Naming.{named_by};
-ghost use Rattle.buffer_model.specs.Computed.Parts.{execute_refusal, cut_from};
+ghost use Rattle.buffer_model.specs.Computed.Parts.{execute_refusal, cut_in};
 
-use buffer_model::{ExecuteAnswer, ExecuteResult, Squashed};
-use engine::{Action, Part};
-use table::{STAGES, Table, Ticket};
+use engine::{Action, Answered, Executed, Part, Refusal};
+use table::{Table, Ticket};
+use table_rules::Fitted;
 
-// Why an execution with this ticket on a memory of this length is turned down before its row is looked for; 0: it is not.
-fn execution_refusal<'a>(
-    stages: usize,
-    words: usize,
-    oldest: usize,
-    live: usize,
-    executed: u32,
-    numbers: &'a [u32; STAGES],
-    s: usize,
-    number: u32,
-    words_lent: usize,
-) -> u32
-    requires { (oldest < stages) × (stages ≤ stages_most) × (length numbers.now ≡ stages_most) }
-    ensures { result
-        ≡ execute_refusal words words_lent (named_by oldest stages live numbers.now s number) (has executed s) }
+// Why an execution with this ticket on a memory of this length is turned down before its row is looked for.
+fn ready(t: Fitted, ticket: Ticket, lent: usize) -> Result<(), Refusal>
+    ensures { turned_down result
+        ≡ execute_refusal t.entry.table.now.words lent (names t.entry.table.now ticket)
+        (has t.entry.table.now.executed ticket.stage) }
 {
-    if words_lent != words {
-        return 3;
+    if lent != t.table.words {
+        return Err(Refusal::Memory);
     }
-    if !table_rules::named(oldest, stages, live, numbers, s, number) {
-        return 7;
+    if !t.names(ticket) {
+        return Err(Refusal::Unnamed);
     }
-    if marks::contains(executed, s) {
-        return 8;
+    if marks::contains(t.table.executed, ticket.stage) {
+        return Err(Refusal::Executed);
     }
-    0
+    Ok(())
 }
 
-// What the answer says is squashed where `left` of `live` references stay.
-fn squashed_from<'a>(
-    oldest: usize,
-    stages: usize,
-    live: usize,
-    left: usize,
-    numbers: &'a [u32; STAGES],
-) -> Squashed
-    requires { (oldest < stages) × (live ≤ stages) × (stages ≤ stages_most) × (length numbers.now ≡ stages_most) }
-    ensures { result ≡ cut_from oldest stages live left numbers.now }
+// From which reference on references are squashed where the first `left` stay.
+fn squashed_from(t: Fitted, left: usize) -> Option<Ticket>
+    ensures { result ≡ cut_in t.entry.table.now left }
 {
-    if left < live {
-        let s = marks::stage_at(oldest, stages, left);
-        return Squashed::From(Ticket {
-            stage: s,
-            number: numbers[s],
-        });
+    if left >= t.table.live {
+        return None;
     }
-    Squashed::Nothing
+    let stage = t.circle().stage_at(left);
+    Some(Ticket {
+        stage,
+        number: t.table.numbers[stage],
+    })
 }
 
 // The reference that the ticket names executes `action`.
-pub fn execute(mut t: Table, ticket: Ticket, action: Action, memory: &[u32]) -> ExecuteResult
-    ensures { Meets t (execute ticket action) memory.now (execute_says result.answer) result.table
+pub fn execute(
+    mut t: Table,
+    ticket: Ticket,
+    action: Action,
+    memory: &[u32],
+) -> Answered<Table, Executed<Ticket>>
+    ensures { Meets t (execute ticket action) memory.now (execute_says result.answer) result.state
         memory.now }
 {
-    if !table_rules::keeps_rules(
-        t.banks,
-        t.rows,
-        t.stages,
-        t.words,
-        t.oldest,
-        t.live,
-        t.executed,
-        &t.addresses,
-        &t.loads,
-        &t.stores,
-    ) {
-        return ExecuteResult {
-            answer: ExecuteAnswer::Refused(2),
-            table: t,
-        };
+    let answer = execute_in(&mut t, ticket, action, memory);
+    Answered { answer, state: t }
+}
+
+fn execute_in(
+    t: &mut Table,
+    ticket: Ticket,
+    action: Action,
+    memory: &[u32],
+) -> Result<Executed<Ticket>, Refusal>
+    ensures { Meets t.old (execute ticket action) memory.now (execute_says result) t.new memory.now }
+{
+    let held = engine_steps::checked(t)?;
+    ready(held, ticket, memory.len())?;
+    let p = held.circle().position_of(ticket.stage);
+    let below = engine_steps::word_below(memory, action);
+    let effect = engine_steps::effect_of(held, p, action, below);
+    let squashed = squashed_from(held, effect.left);
+    if effect.left == 0 {
+        return Err(Refusal::Stalled);
     }
-    let banks = t.banks;
-    let stages = t.stages;
-    let oldest = t.oldest;
-    let live = t.live;
-    let executed = t.executed;
-    let s = ticket.stage;
-    let why = execution_refusal(
-        stages,
-        t.words,
-        oldest,
-        live,
-        executed,
-        &t.numbers,
-        s,
-        ticket.number,
-        memory.len(),
-    );
-    if why != 0 {
-        return ExecuteResult {
-            answer: ExecuteAnswer::Refused(why),
-            table: t,
-        };
-    }
-    let effect = engine_steps::effect_of(
-        banks,
-        t.rows,
-        stages,
-        oldest,
-        live,
-        &t.addresses,
-        &t.loads,
-        &t.stores,
-        &t.values,
-        &t.taken,
-        marks::position_of(oldest, stages, s),
-        action,
-        engine_steps::word_below(memory, action),
-    );
-    let r = effect.row;
-    let left = effect.left;
-    if left == 0 {
-        return ExecuteResult {
-            answer: ExecuteAnswer::Refused(10),
-            table: t,
-        };
-    }
-    let squash = squashed_from(oldest, stages, live, left, &t.numbers);
-    engine_steps::cut(&mut t.loads, banks, oldest, stages, live, left);
-    engine_steps::cut(&mut t.stores, banks, oldest, stages, live, left);
-    t.live = left;
-    t.executed = marks::including(executed, s);
-    engine_steps::set_word(&mut t.addresses, effect.load | effect.store, r, effect.word);
-    engine_steps::add_mark(&mut t.loads, effect.load, r, s);
-    engine_steps::add_mark(&mut t.stores, effect.store, r, s);
-    engine_steps::set_value(&mut t.values, effect.store, s, effect.value);
-    engine_steps::set_value(&mut t.taken, effect.load, s, effect.taken);
-    ExecuteResult {
-        answer: ExecuteAnswer::Executed(
-            engine_steps::answered(effect.load, effect.store, effect.value),
-            effect.distance,
-            squash,
-        ),
-        table: t,
-    }
+    engine_steps::apply(t, effect, ticket.stage);
+    Ok(Executed {
+        value: engine_steps::answered(effect.load, effect.store, effect.value),
+        distance: effect.distance,
+        squashed,
+    })
 }
 
 // It executes as a load of `address`.
-pub fn execute_load(t: Table, ticket: Ticket, address: u32, memory: &[u32]) -> ExecuteResult
-    ensures { Meets t (execute_load ticket address) memory.now (execute_says result.answer) result.table
+pub fn execute_load(
+    t: Table,
+    ticket: Ticket,
+    address: u32,
+    memory: &[u32],
+) -> Answered<Table, Executed<Ticket>>
+    ensures { Meets t (execute_load ticket address) memory.now (execute_says result.answer) result.state
         memory.now }
 {
     execute(t, ticket, Action::LoadAt(address), memory)
@@ -169,8 +108,8 @@ pub fn execute_store(
     address: u32,
     value: u32,
     memory: &[u32],
-) -> ExecuteResult
-    ensures { Meets t (execute_store ticket address value) memory.now (execute_says result.answer) result.table
+) -> Answered<Table, Executed<Ticket>>
+    ensures { Meets t (execute_store ticket address value) memory.now (execute_says result.answer) result.state
         memory.now }
 {
     execute(t, ticket, Action::StoreAt(address, value), memory)
@@ -184,16 +123,16 @@ pub fn execute_part(
     byte: u32,
     value: u32,
     memory: &[u32],
-) -> ExecuteResult
-    ensures { Meets t (execute_part ticket part byte value) memory.now (execute_says result.answer) result.table
+) -> Answered<Table, Executed<Ticket>>
+    ensures { Meets t (execute_part ticket part byte value) memory.now (execute_says result.answer) result.state
         memory.now }
 {
     execute(t, ticket, Action::PartAt(part, byte, value), memory)
 }
 
 // It executes without memory.
-pub fn execute_other(t: Table, ticket: Ticket, memory: &[u32]) -> ExecuteResult
-    ensures { Meets t (execute_other ticket) memory.now (execute_says result.answer) result.table
+pub fn execute_other(t: Table, ticket: Ticket, memory: &[u32]) -> Answered<Table, Executed<Ticket>>
+    ensures { Meets t (execute_other ticket) memory.now (execute_says result.answer) result.state
         memory.now }
 {
     execute(t, ticket, Action::Compute(0), memory)

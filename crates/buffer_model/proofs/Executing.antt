@@ -3,6 +3,7 @@
 -- named reference has executed where its stage has (executed_here). Where none of them holds (Ready), what is left decides:
 -- with nothing left the execution stalls; else the table with the effect applied is what the engine's law says of it.
 -- Assumes nothing.
+use Rattle.std.specs.Prelude.{Option}
 use mathlib.Core.Path.{◌≡◌, refl, sym, ap, ap₂, subst, ◌∙◌}
 use mathlib.Core.Bool.{Bool, true, false, cond, not, ◌&&◌, and-eq-true_iff}
 use mathlib.Core.List.{List}
@@ -19,7 +20,7 @@ use Rattle.table.specs.Reference.{Fate, idle, fate_of, at}
 use Rattle.table.specs.View.{stage_of, view}
 use Rattle.table.specs.Rules.{Rules}
 use Rattle.table.proofs.Fates.{length_refs}
-use Rattle.engine.proofs.Lengths.{Lengths}
+use Rattle.table.specs.Fits.{Lengths}
 use Rattle.lookup.specs.Outcome.{survivors}
 use Rattle.engine.specs.declared.Action.{Action}
 use Rattle.engine.specs.declared.Effect.{Effect}
@@ -27,9 +28,8 @@ use Rattle.engine.specs.Conditions.{refusal}
 use Rattle.engine.specs.Contract.{refused, executed}
 use Rattle.engine.specs.Computed.Effect.{effect_at, answered, apply_effect}
 use Rattle.engine.proofs.Fated.{executed_at}
-use Rattle.engine.proofs.Executed.{effect_left, effect_value, effect_distance, effect_view, effect_rules}
-use Rattle.buffer_model.specs.declared.Squashed.{Squashed}
-use Rattle.buffer_model.specs.Answers.{squash_says}
+use Rattle.engine.proofs.Effects.{effect_left, effect_value, effect_distance, effect_view, effect_rules}
+use Rattle.engine.specs.Answers.{as_option}
 use Rattle.buffer_model.specs.Refusals.{place, names, execute_checks}
 use Rattle.buffer_model.specs.Calls.{execute, squash_from, comes_to}
 use Rattle.buffer_model.specs.Contract.{Meets}
@@ -125,8 +125,8 @@ module _ (t : Table) (rules : Rules t) (τ : Ticket) (m : List ℕ) where
     fate = comes_to (view t) m τ act
 
     -- the code's early refusal
-    pub turned_down : (k : ℕ) → k ≡ early_by t τ m → (k ≡ 0 → ⊥) → Meets t (execute τ act) m (refused k) t m
-    turned_down k e some =
+    pub early_refused : (k : ℕ) → k ≡ early_by t τ m → (k ≡ 0 → ⊥) → Meets t (execute τ act) m (refused k) t m
+    early_refused k e some =
         refused_meets t (execute τ act) m rules k
         (checks_early fate
         ∙ ap (λ (b : Bool). cond b (stalling fate) (early_by t τ m))
@@ -153,9 +153,9 @@ module _ (t : Table) (rules : Rules t) (τ : Ticket) (m : List ℕ) where
           (λ z. omega arith)
 
       pub executes_meets : Lengths t → (q.left ≡ 0 → ⊥) → (v : ℕ) → v ≡ answered q.load q.store q.value
-          → (gone : Squashed) → gone ≡ cut_from t.oldest t.stages t.live q.left t.numbers
+          → (gone : Option Ticket) → gone ≡ cut_from t.oldest t.stages t.live q.left t.numbers
           → (u : Table) → u ≡ apply_effect t q τ.stage
-          → Meets t (execute τ act) m (executed v q.distance (squash_says gone)) u m
+          → Meets t (execute τ act) m (executed v q.distance (as_option gone)) u m
       executes_meets lengths some v hv gone hg u hu =
           let now = ready early in
           let stays : (effect_at t p m act).left ≡ 0 → ⊥ = λ z. some (ap (λ (x : Effect). x.left) found ∙ z) in
@@ -163,11 +163,11 @@ module _ (t : Table) (rules : Rules t) (τ : Ticket) (m : List ℕ) where
           hu ∙ ap₂ (apply_effect t) found (sym now.here) in
           accepted_meets t (execute τ act) m rules
           (left_decides ∙ ap (λ (b : Bool). cond b 10 0) (ne_eqb q.left 0 some))
-          (executed v q.distance (squash_says gone))
+          (executed v q.distance (as_option gone))
           u
           m
           (ap (executed v q.distance)
-          (ap squash_says hg ∙ squash_from_lem t rules q.left ∙ ap (squash_from (view t)) left_is)
+          (ap as_option hg ∙ squash_from_lem t rules q.left ∙ ap (squash_from (view t)) left_is)
           ∙ ap₂ (λ (x d : ℕ). executed x d (squash_from (view t) (survivors (view t) p fate)))
           (hv
           ∙ ap (λ (x : Effect). answered x.load x.store x.value) found

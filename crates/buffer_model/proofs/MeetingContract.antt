@@ -26,14 +26,9 @@ accepts (execute τ act) P m = tt
 accepts (squash τ) P m = tt
 accepts commit P m = tt
 
--- what the code's check of the rules says: they hold, or the call is refused with 2
-pub checked_rules : (t : Table) {keeps : Bool} → keeps ≡ lawful t → not keeps ≡ false → Rules t
-checked_rules t {keeps} e h = lawful_rules t (sym e ∙ not-false keeps h)
-
 module _ (t : Table) (c : Call) (m : List ℕ) where
-  pub broken_meets : {keeps : Bool} → keeps ≡ lawful t → not keeps ≡ true → Meets t c m (refused 2) t m
-  broken_meets {keeps} e h =
-      Meeting.broken_meets Rules view t (respond c (view t) m) m [] (lawful_broken t (sym e ∙ not-true keeps h))
+  pub broken_meets : lawful t ≡ false → Meets t c m (refused 2) t m
+  broken_meets e = Meeting.broken_meets Rules view t (respond c (view t) m) m [] (lawful_broken t e)
 
   pub refused_meets : Rules t → (k : ℕ) → refusal_of c (view t) m ≡ k → (k ≡ 0 → ⊥) → Meets t c m (refused k) t m
   unfolding respond

@@ -16,7 +16,7 @@ use Rattle.table.specs.View.{stage_of, view}
 use Rattle.table.specs.Rules.{Rules}
 use Rattle.table.proofs.Fates.{length_refs}
 use Rattle.engine.specs.Computed.Steps.{cut, grown}
-use Rattle.engine.proofs.Lengths.{Lengths}
+use Rattle.table.specs.Fits.{Lengths}
 use Rattle.engine.proofs.Narrowing.{cut_rules, cut_view}
 use Rattle.engine.proofs.Growing.{grown_rules, grown_view}
 use Rattle.engine.specs.Conditions.{refusal}

@@ -1,6 +1,7 @@
 -- The tests that the code makes on a table that keeps its rules are those of its plain state: a ticket is named, and the
 -- ticket that references are squashed from.
 -- Assumes nothing.
+use Rattle.std.specs.Prelude.{Some, None}
 use mathlib.Core.Path.{◌≡◌, refl, sym, ap}
 use mathlib.Core.Bool.{Bool, true, false, cond, ◌&&◌}
 use mathlib.Core.Option.{none, some}
@@ -15,8 +16,7 @@ use Rattle.table.specs.Reference.{number_of, at}
 use Rattle.table.specs.View.{stage_of, view}
 use Rattle.table.specs.Rules.{Rules}
 use Rattle.table.proofs.Fates.{length_refs, at_refs}
-use Rattle.buffer_model.specs.declared.Squashed.TheVariants.{Nothing, From}
-use Rattle.buffer_model.specs.Answers.{squash_says}
+use Rattle.engine.specs.Answers.{as_option}
 use Rattle.buffer_model.specs.Refusals.{place, names}
 use Rattle.buffer_model.specs.Calls.{ticket_at, squash_from}
 use Rattle.table.specs.Computed.Naming.{named_by}
@@ -47,11 +47,11 @@ module _ (t : Table) (rules : Rules t) where
       (number_at τ (ltb-true _ _ h) (rw (length_refs t) at (ltb-true (place (view t) τ) (length (view t).refs) l)))))
 
   pub squash_from_lem : (left : ℕ)
-      → squash_says (cut_from t.oldest t.stages t.live left t.numbers) ≡ squash_from (view t) left
+      → as_option (cut_from t.oldest t.stages t.live left t.numbers) ≡ squash_from (view t) left
   squash_from_lem left = rw (length_refs t) (go (ltb left t.live) refl)
     where
       go : (b : Bool) → ltb left t.live ≡ b
-          → squash_says (cond b (From (record { stage = stage_of t left; number = get_or t.numbers (stage_of t left) 0 })) Nothing)
+          → as_option (cond b (Some (record { stage = stage_of t left; number = get_or t.numbers (stage_of t left) 0 })) None)
           ≡ cond b (some (ticket_at (view t) left)) none
       go true e = rw (at_refs t left (ltb-true _ _ e))
       go false e = refl

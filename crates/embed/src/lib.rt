@@ -8,9 +8,10 @@ ghost use Rattle.std.specs.Prelude.{◌≡◌, List, ℕ};
 ghost use Rattle.engine.specs.declared.Part.TheVariants.{Byte, Half};
 ghost use Rattle.buffer_model.specs.Answers.{done_says, ticket_says, execute_says};
 ghost use Rattle.buffer_model.specs.Calls.{issue, squash, commit, execute_load, execute_store, execute_part, execute_other};
-ghost use Rattle.embed.specs.Crossing.{numbers_of, Does, Names, Runs, Starts};
+ghost use Rattle.engine.specs.Answers.{turned_down};
+ghost use Rattle.embed.specs.Crossing.{numbers_of, WithAll, WithTicket, WithNumber, Does, Names, Runs, Starts};
 
-use buffer::{DoneAnswer, ExecuteAnswer, Part, Squashed, TicketAnswer};
+use buffer::{Answered, Part, Refusal};
 use table::{Table, Ticket};
 
 // The result of an opening and of a squash.
@@ -49,67 +50,76 @@ pub struct Executed {
     pub numbers: Numbers,
 }
 
-fn done_number(answer: DoneAnswer) -> u32
-    ensures { result ≡ (numbers_of (done_says answer)).refusal }
+// What stands for a ticket that an answer lacks.
+const NO_TICKET: Ticket = Ticket {
+    stage: 0,
+    number: 0,
+};
+
+// The number of a refusal, 0 where the call was accepted.
+fn number_of<A: Copy>(answer: Result<A, Refusal>) -> u32
+    ensures { result ≡ turned_down answer }
 {
     match answer {
-        DoneAnswer::Refused(k) => k,
-        DoneAnswer::Done => 0,
+        Ok(_) => 0,
+        Err(refusal) => refusal.number(),
     }
 }
 
-fn named_number(answer: TicketAnswer) -> u32
-    ensures { result ≡ (numbers_of (ticket_says answer)).refusal }
-{
-    match answer {
-        TicketAnswer::Refused(k) => k,
-        TicketAnswer::Named(_) => 0,
+impl From<Answered<Table, ()>> for Done {
+    ghost from_gives = { λ a r. (r.table ≡ a.state) × WithNumber r (done_says a.answer) };
+
+    fn from(a: Answered<Table, ()>) -> Done {
+        Done {
+            table: a.state,
+            refusal: number_of(a.answer),
+        }
     }
 }
 
-fn named_ticket(answer: TicketAnswer) -> Ticket
-    ensures { result ≡ (numbers_of (ticket_says answer)).ticket }
-{
-    match answer {
-        TicketAnswer::Refused(_) => Ticket {
-            stage: 0,
-            number: 0,
-        },
-        TicketAnswer::Named(at) => at,
+impl From<Answered<Table, Ticket>> for Named {
+    ghost from_gives = { λ a r. (r.table ≡ a.state) × WithTicket r (ticket_says a.answer) };
+
+    fn from(a: Answered<Table, Ticket>) -> Named {
+        Named {
+            table: a.state,
+            ticket: a.answer.unwrap_or(NO_TICKET),
+            refusal: number_of(a.answer),
+        }
     }
 }
 
-fn execute_numbers(answer: ExecuteAnswer) -> Numbers
-    ensures { result ≡ numbers_of (execute_says answer) }
-{
-    let none = Ticket {
-        stage: 0,
-        number: 0,
-    };
-    match answer {
-        ExecuteAnswer::Refused(k) => Numbers {
-            ticket: none,
-            refusal: k,
-            value: 0,
-            distance: 0,
-            squashed: 0,
-        },
-        ExecuteAnswer::Executed(v, d, squashed) => match squashed {
-            Squashed::Nothing => Numbers {
-                ticket: none,
-                refusal: 0,
-                value: v,
-                distance: d,
+impl From<Answered<Table, buffer::Executed<Ticket>>> for Executed {
+    ghost from_gives = { λ a r. (r.table ≡ a.state) × WithAll r (execute_says a.answer) };
+
+    fn from(a: Answered<Table, buffer::Executed<Ticket>>) -> Executed {
+        Executed {
+            table: a.state,
+            numbers: a.answer.into(),
+        }
+    }
+}
+
+impl From<Result<buffer::Executed<Ticket>, Refusal>> for Numbers {
+    ghost from_gives = { λ answer r. r ≡ numbers_of (execute_says answer) };
+
+    fn from(answer: Result<buffer::Executed<Ticket>, Refusal>) -> Numbers {
+        match answer {
+            Err(refusal) => Numbers {
+                ticket: NO_TICKET,
+                refusal: refusal.number(),
+                value: 0,
+                distance: 0,
                 squashed: 0,
             },
-            Squashed::From(at) => Numbers {
-                ticket: at,
+            Ok(done) => Numbers {
+                ticket: done.squashed.unwrap_or(NO_TICKET),
                 refusal: 0,
-                value: v,
-                distance: d,
-                squashed: 1,
-            },
-        },
+                value: done.value,
+                distance: done.distance,
+                squashed: u32::from(done.squashed.is_some()),
+            }
+        }
     }
 }
 
@@ -123,39 +133,21 @@ pub extern "C" fn arb_v_open(
 ) -> Done
     ensures { Starts banks rows stages words memory.now result }
 {
-    let done = buffer::open(banks, rows, stages, words, memory);
-    let said = done.answer;
-    let table = done.table;
-    Done {
-        table,
-        refusal: done_number(said),
-    }
+    buffer::open(banks, rows, stages, words, memory).into()
 }
 
 #[unsafe(no_mangle)]
 pub extern "C" fn arb_v_issue(t: Table) -> Named
     ensures { (m : List ℕ) → Names t issue m result m }
 {
-    let done = buffer::issue(t);
-    let said = done.answer;
-    let table = done.table;
-    let ticket = named_ticket(said);
-    Named {
-        table,
-        ticket,
-        refusal: named_number(said),
-    }
+    buffer::issue(t).into()
 }
 
 #[unsafe(no_mangle)]
 pub extern "C" fn arb_v_load(t: Table, ticket: Ticket, address: u32, memory: &[u32]) -> Executed
     ensures { Runs t (execute_load ticket address) memory.now result }
 {
-    let done = buffer::execute_load(t, ticket, address, memory);
-    let said = done.answer;
-    let table = done.table;
-    let numbers = execute_numbers(said);
-    Executed { table, numbers }
+    buffer::execute_load(t, ticket, address, memory).into()
 }
 
 #[unsafe(no_mangle)]
@@ -168,11 +160,7 @@ pub extern "C" fn arb_v_store(
 ) -> Executed
     ensures { Runs t (execute_store ticket address value) memory.now result }
 {
-    let done = buffer::execute_store(t, ticket, address, value, memory);
-    let said = done.answer;
-    let table = done.table;
-    let numbers = execute_numbers(said);
-    Executed { table, numbers }
+    buffer::execute_store(t, ticket, address, value, memory).into()
 }
 
 #[unsafe(no_mangle)]
@@ -185,11 +173,7 @@ pub extern "C" fn arb_v_byte(
 ) -> Executed
     ensures { Runs t (execute_part ticket Byte byte value) memory.now result }
 {
-    let done = buffer::execute_part(t, ticket, Part::Byte, byte, value, memory);
-    let said = done.answer;
-    let table = done.table;
-    let numbers = execute_numbers(said);
-    Executed { table, numbers }
+    buffer::execute_part(t, ticket, Part::Byte, byte, value, memory).into()
 }
 
 #[unsafe(no_mangle)]
@@ -202,48 +186,26 @@ pub extern "C" fn arb_v_half(
 ) -> Executed
     ensures { Runs t (execute_part ticket Half byte value) memory.now result }
 {
-    let done = buffer::execute_part(t, ticket, Part::Half, byte, value, memory);
-    let said = done.answer;
-    let table = done.table;
-    let numbers = execute_numbers(said);
-    Executed { table, numbers }
+    buffer::execute_part(t, ticket, Part::Half, byte, value, memory).into()
 }
 
 #[unsafe(no_mangle)]
 pub extern "C" fn arb_v_other(t: Table, ticket: Ticket, memory: &[u32]) -> Executed
     ensures { Runs t (execute_other ticket) memory.now result }
 {
-    let done = buffer::execute_other(t, ticket, memory);
-    let said = done.answer;
-    let table = done.table;
-    let numbers = execute_numbers(said);
-    Executed { table, numbers }
+    buffer::execute_other(t, ticket, memory).into()
 }
 
 #[unsafe(no_mangle)]
 pub extern "C" fn arb_v_squash(t: Table, ticket: Ticket) -> Done
     ensures { (m : List ℕ) → Does t (squash ticket) m result }
 {
-    let done = buffer::squash(t, ticket);
-    let said = done.answer;
-    let table = done.table;
-    Done {
-        table,
-        refusal: done_number(said),
-    }
+    buffer::squash(t, ticket).into()
 }
 
 #[unsafe(no_mangle)]
 pub extern "C" fn arb_v_commit(t: Table, memory: &mut [u32]) -> Named
     ensures { Names t commit memory.old result memory.new }
 {
-    let done = buffer::commit(t, memory);
-    let said = done.answer;
-    let table = done.table;
-    let ticket = named_ticket(said);
-    Named {
-        table,
-        ticket,
-        refusal: named_number(said),
-    }
+    buffer::commit(t, memory).into()
 }

@@ -1,11 +1,7 @@
--- The image of a machine is that machine: decoding undoes encoding, of every machine. And a loop over a window is `map`.
--- Assumes nothing.
-use mathlib.Core.Path.{◌≡◌, refl, sym, ap, ap₂, subst, ◌∙◌}
-use mathlib.Core.List.{List, [], ◌∷◌, ◌++◌, map, map-append}
-use Prim.Native.Nat.{ℕ, suc, ◌+◌, ◌<◌}
-use native.Mathlib.Omega.{arith}
-use lib.ListN.{length, get_or, set, take}
-use lib.Seq.{take-suc, take-suc-set}
+-- The image of a machine is that machine: decoding undoes encoding, of every machine. Assumes nothing.
+use mathlib.Core.Path.{◌≡◌, refl, ap, ap₂}
+use mathlib.Core.List.{List, [], ◌∷◌, map}
+use Prim.Native.Nat.{ℕ}
 use Rattle.machine_model.specs.declared.Instruction.{Instruction}
 use Rattle.machine_model.specs.declared.Instruction.TheVariants.{Add, Sum, Load, Store, Byte, Half}
 use Rattle.machine_model.specs.declared.Fate.{Fate}
@@ -45,12 +41,3 @@ round m =
     (λ (es : List Entry).
     record { table = m.table; window = es; registers = m.registers; count = m.count; next = m.next })
     (entries_round m.window)
-
--- a loop that sets place i to f of w's at i has `map f w` as far as it went
-pub turn : {A B : Type 0} (f : A → B) (w : List A) (a : List B) (i : ℕ) (d : A) (y : B) → y ≡ f (get_or w i d) → i < length w
-    → i < length a → take i a ≡ map f (take i w) → take (i + 1) (set a i y) ≡ map f (take (i + 1) w)
-turn {A} {B} f w a i d y is below room e =
-    subst (λ (n : ℕ). take n (set a i y) ≡ map f (take n w)) (let next : suc i ≡ i + 1 = omega arith in next)
-    (take-suc-set a i y room ∙ ap₂ (λ (l : List B) (x : B). l ++ (x ∷ [])) e is
-    ∙ sym (map-append f (take i w) (get_or w i d ∷ []))
-    ∙ ap (map f) (sym (take-suc w i d below)))

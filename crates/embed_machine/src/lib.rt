@@ -23,11 +23,10 @@ pub extern "C" fn arb_m_open(
     ensures { Starts (banked banks rows stages words) program.now memory.now result }
 {
     let done = machine::open(banks, rows, stages, words, program, memory);
-    let said = done.answer;
-    let m = done.machine;
-    let numbers = embed_slots::done_numbers(said);
-    let image = embed_slots::image_of(m);
-    Answered { image, numbers }
+    Answered {
+        image: embed_slots::image_of(done.state),
+        numbers: embed_slots::done_numbers(done.answer),
+    }
 }
 
 #[unsafe(no_mangle)]
@@ -35,10 +34,8 @@ pub extern "C" fn arb_m_issue(passed: Image, program: &[u32]) -> Answered
     ensures { (w : List ℕ) → Crosses program.now passed issue w result w [] }
 {
     let done = machine::issue(embed_slots::machine_by(passed), program);
-    let said = done.answer;
-    let m = done.machine;
-    let numbers = embed_slots::issue_numbers(said);
-    embed_slots::crossed(passed, m, numbers)
+    let numbers = embed_slots::issue_numbers(done.answer);
+    embed_slots::crossed(passed, done.state, numbers)
 }
 
 #[unsafe(no_mangle)]
@@ -52,10 +49,8 @@ pub extern "C" fn arb_m_execute(
         memory.now [] }
 {
     let done = machine::execute(embed_slots::machine_by(passed), program, position, memory);
-    let said = done.answer;
-    let m = done.machine;
-    let numbers = embed_slots::execute_numbers(said);
-    embed_slots::crossed(passed, m, numbers)
+    let numbers = embed_slots::execute_numbers(done.answer);
+    embed_slots::crossed(passed, done.state, numbers)
 }
 
 #[unsafe(no_mangle)]
@@ -63,10 +58,8 @@ pub extern "C" fn arb_m_squash(passed: Image, program: &[u32], position: usize) 
     ensures { (w : List ℕ) → Crosses program.now passed (squash position) w result w [] }
 {
     let done = machine::squash(embed_slots::machine_by(passed), program, position);
-    let said = done.answer;
-    let m = done.machine;
-    let numbers = embed_slots::done_numbers(said);
-    embed_slots::crossed(passed, m, numbers)
+    let numbers = embed_slots::done_numbers(done.answer);
+    embed_slots::crossed(passed, done.state, numbers)
 }
 
 #[unsafe(no_mangle)]
@@ -74,10 +67,8 @@ pub extern "C" fn arb_m_commit(passed: Image, program: &[u32], memory: &mut [u32
     ensures { Crosses program.now passed commit memory.old result memory.new [] }
 {
     let done = machine::commit(embed_slots::machine_by(passed), program, memory);
-    let said = done.answer;
-    let m = done.machine;
-    let numbers = embed_slots::commit_numbers(said);
-    embed_slots::crossed(passed, m, numbers)
+    let numbers = embed_slots::commit_numbers(done.answer);
+    embed_slots::crossed(passed, done.state, numbers)
 }
 
 #[unsafe(no_mangle)]
@@ -98,8 +89,6 @@ pub extern "C" fn arb_m_finish(
         memory,
         list,
     );
-    let said = done.answer;
-    let m = done.machine;
-    let numbers = embed_slots::finish_numbers(said);
-    embed_slots::crossed(passed, m, numbers)
+    let numbers = embed_slots::finish_numbers(done.answer);
+    embed_slots::crossed(passed, done.state, numbers)
 }

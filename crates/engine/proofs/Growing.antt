@@ -26,7 +26,8 @@ use Rattle.table.proofs.Lists.{tabulate_same}
 use Rattle.table.proofs.Owning.{mark_position}
 use Rattle.engine.specs.Computed.Steps.{grown}
 use Rattle.engine.proofs.Fewer.{fewer_rules}
-use Rattle.engine.proofs.Lengths.{Lengths, stage_small}
+use Rattle.table.specs.Fits.{Lengths}
+use Rattle.engine.proofs.Lengths.{stage_small}
 
 module _ (t : Table) (rules : Rules t) (lengths : Lengths t) (room : t.live < t.stages) where
   -- a stage is executed where it was and the mask of the live stages has it

@@ -31,7 +31,8 @@ use Rattle.table.proofs.Lists.{tabulate_set}
 use Rattle.table.proofs.Owning.{RowFor, row_small, row_of_mark, mark_position}
 use Rattle.engine.specs.Computed.Steps.{executing, noted, with_stage, marking, keeping, access_marked}
 use Rattle.engine.proofs.Fewer.{fewer_rules}
-use Rattle.engine.proofs.Lengths.{Lengths, stage_small}
+use Rattle.table.specs.Fits.{Lengths}
+use Rattle.engine.proofs.Lengths.{stage_small}
 
 -- a set with stage s more
 more_here : (w s : ℕ) → has (bit_or w (2 ^ s)) s ≡ true

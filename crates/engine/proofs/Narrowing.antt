@@ -26,7 +26,7 @@ use Rattle.table.proofs.Lists.{tabulate_same, tabulate_window}
 use Rattle.table.proofs.Owning.{RowFor}
 use Rattle.engine.specs.Computed.Steps.{within, narrowed, cut}
 use Rattle.engine.proofs.Fewer.{Fewer, fewer_marks, fewer_rules}
-use Rattle.engine.proofs.Lengths.{Lengths}
+use Rattle.table.specs.Fits.{Lengths}
 use Rattle.engine.proofs.Reaching.{within_length, within_has, within_same}
 
 narrowed_fewer : (t : Table) (o k : ℕ) → Fewer t (narrowed t o k)

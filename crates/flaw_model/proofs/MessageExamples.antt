@@ -4,6 +4,7 @@
 use mathlib.Core.Path.{◌≡◌, refl}
 use mathlib.Core.List.{List, [], ◌∷◌}
 use Prim.Native.String.{String, ◌++◌ as ◌&◌}
+use Rattle.std.specs.Prelude.{Option, Some, option_map}
 use Rattle.text.specs.Decimal.{digits, decimal}
 use Rattle.text.specs.Fields.{largest, fields_text, bytes}
 use Rattle.text.specs.Lines.{lines_from}
@@ -17,7 +18,7 @@ use Rattle.flaw_model.specs.Message.{largest_text, message_text}
 
 -- what is found, and the message that it should have
 record Row : Type 0 where
-  found : Flaw
+  found : Option Flaw
   says : String
 
 -- a message that ends so
@@ -62,14 +63,14 @@ rows =
     ∷ ("N,1,1,1,1\nH,8,0,4\n" gives "arb: line 2: field 2 (d) of 'H,d,s,imm': found 8, expected a register from 0 to 7\n")
     ∷ ("N,1,1,1,1\nP,1,0,8\n" gives "arb: line 2: field 4 (imm) of 'P,d,s,imm': found 8, expected a register from 0 to 7\n")
     ∷ ("N,1,1,1,1\ni\nA,1,0,5\n" gives "arb: line 3: found an instruction after a step, expected a step\n")
-    ∷ (record { found = flaw_at 0 TooLong; says = "arb: line 0: found over 65536 bytes of input, expected at most 65536\n" })
-    ∷ (record { found = flaw_at 258 Full; says = "arb: line 258: found a 257th instruction, expected at most 256\n" })
+    ∷ (record { found = flaw_at 0 (Some TooLong); says = "arb: line 0: found over 65536 bytes of input, expected at most 65536\n" })
+    ∷ (record { found = flaw_at 258 (Some Full); says = "arb: line 258: found a 257th instruction, expected at most 256\n" })
     ∷ []
 
--- the message of each row is as it says
+-- what is found has the message that each row says
 abbrev Hold : List Row → Type 0
 Hold [] = Unit {0}
-Hold (r ∷ rs) = (message_text r.found ≡ ascii r.says) × Hold rs
+Hold (r ∷ rs) = (option_map message_text r.found ≡ Some (ascii r.says)) × Hold rs
 
 infixr 20 ◌also◌
 abbrev ◌also◌ : {A B : Type 0} → A → B → A × B

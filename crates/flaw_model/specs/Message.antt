@@ -3,29 +3,32 @@
 -- for each reason with its message.
 -- Assumes nothing.
 use Rattle.std.specs.Prelude.{cond, ◌&&◌, List, [], ◌∷◌, ◌++◌, ℕ, suc, eqb, leb, ltb, length}
+use Rattle.std.specs.Prelude.{Option, None, Some}
 use Rattle.text.specs.Ascii.{ascii}
 use Rattle.text.specs.Decimal.{decimal}
 use Rattle.table.specs.Limits.{banks_most, rows_most, stages_most, words_most}
 use Rattle.machine_model.specs.Program.{instructions_most, last_register}
 use Rattle.flaw_model.specs.declared.Defect.{Defect}
-use Rattle.flaw_model.specs.declared.Defect.TheVariants.{Sound, Missing, Zero, Stray, Large, Beyond}
+use Rattle.flaw_model.specs.declared.Defect.TheVariants.{Missing, Zero, Stray, Large, Beyond}
 use Rattle.flaw_model.specs.declared.Reason.{Reason}
-use Rattle.flaw_model.specs.declared.Reason.TheVariants.{Fine, TooLong, NoInput, Blank, Unended, CarriageReturn, NoSizes}
+use Rattle.flaw_model.specs.declared.Reason.TheVariants.{TooLong, NoInput, Blank, Unended, CarriageReturn, NoSizes}
 use Rattle.flaw_model.specs.declared.Reason.TheVariants.{SizesAgain, Letter, Glued, Count, Field, Full, Late}
 use Rattle.flaw_model.specs.declared.Flaw.{Flaw}
 use Rattle.script_model.specs.Output.{most}
-use Rattle.flaw_model.specs.Flaw.{arity, is_fine}
+use Rattle.flaw_model.specs.Flaw.{arity}
 
 -- a byte: itself between quotes, or its number where it is no printable character
 abbrev pub byte_text : ℕ → List ℕ
 byte_text b = cond (leb 32 b && leb b 126) (39 ∷ b ∷ 39 ∷ []) (ascii "byte " ++ decimal b)
 
--- the form of the lines with this letter, between quotes
-abbrev pub form_text : ℕ → List ℕ
-form_text b =
-    (39 ∷ b ∷ [])
-    ++ cond (eqb (arity b) 5) (ascii ",banks,rows,stages,words'")
+-- the form of the lines with this letter, between quotes; what stands behind the letter
+abbrev pub form_end : ℕ → List ℕ
+form_end b =
+    cond (eqb (arity b) 5) (ascii ",banks,rows,stages,words'")
     (cond (eqb (arity b) 4) (ascii ",d,s,imm'") (cond (eqb (arity b) 2) (ascii ",k'") (ascii "'")))
+
+abbrev pub form_text : ℕ → List ℕ
+form_text b = (39 ∷ b ∷ []) ++ form_end b
 
 -- one of four, by the number of the field
 abbrev pub of_four : ℕ → List ℕ → List ℕ → List ℕ → List ℕ → List ℕ
@@ -59,7 +62,6 @@ number_text = ascii "a number from 0 to " ++ largest_text ++ ascii " without ext
 
 -- what a field is, and what it should be
 abbrev pub found_text : Defect → List ℕ
-found_text Sound = []
 found_text Missing = ascii "nothing"
 found_text Zero = ascii "an extra leading zero"
 found_text (Stray b) = byte_text b
@@ -67,7 +69,6 @@ found_text Large = ascii "a number above " ++ largest_text
 found_text (Beyond v) = decimal v
 
 abbrev pub expected_text : ℕ → ℕ → Defect → List ℕ
-expected_text b k Sound = number_text
 expected_text b k Missing = number_text
 expected_text b k Zero = number_text
 expected_text b k (Stray c) = number_text
@@ -85,7 +86,6 @@ count_text b n =
     ascii "fields: found " ++ decimal n ++ ascii ", expected " ++ decimal (arity b) ++ ascii " as in " ++ form_text b
 
 abbrev pub reason_text : Reason → List ℕ
-reason_text Fine = []
 reason_text TooLong = ascii "found over " ++ decimal most ++ ascii " bytes of input, expected at most " ++ decimal most
 reason_text NoInput = ascii "found no input, expected 'N,banks,rows,stages,words'"
 reason_text Blank = ascii "found an empty line, expected a letter"
@@ -111,5 +111,6 @@ abbrev pub message_room : ℕ
 message_room = 256
 
 -- what is written of a flaw: nothing where there is none, or where there may be no room
-abbrev pub message_in : List ℕ → Flaw → List ℕ
-message_in out f = cond (is_fine f.reason) [] (cond (ltb (length out) message_room) [] (message_text f))
+abbrev pub message_in : List ℕ → Option Flaw → List ℕ
+message_in out None = []
+message_in out (Some f) = cond (ltb (length out) message_room) [] (message_text f)

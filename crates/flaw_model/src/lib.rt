@@ -10,11 +10,10 @@ pub enum Part {
     Steps,
 }
 
-// What is wrong with a field: nothing, it is empty, it has an extra leading zero, this byte is no digit, it is above
-// the largest number, or its number is outside the field's limits.
+// What is wrong with a field: it is empty, it has an extra leading zero, this byte is no digit, it is above the largest number,
+// or its number is outside the field's limits.
 #[derive(Clone, Copy)]
 pub enum Defect {
-    Sound,
     Missing,
     Zero,
     Stray(u8),
@@ -22,19 +21,10 @@ pub enum Defect {
     Beyond(u32),
 }
 
-// What a byte does to the field that it follows: it ends it, makes it this number, or is wrong there.
-#[derive(Clone, Copy)]
-pub enum Took {
-    Ends,
-    Grows(u32),
-    Wrong(Defect),
-}
-
 // Why a script is bad. A letter comes with what follows from it: the byte behind it, the number of fields found (itself among
 // them), or one of its fields (the letter is field 1).
 #[derive(Clone, Copy)]
 pub enum Reason {
-    Fine,
     TooLong,
     NoInput,
     Blank,
@@ -50,16 +40,9 @@ pub enum Reason {
     Late,
 }
 
-// The first bad line of a script and what is wrong with it; `Fine`: no line is bad.
+// The first bad line of a script and what is wrong with it.
 #[derive(Clone, Copy)]
 pub struct Flaw {
     pub line: u64,
     pub reason: Reason,
-}
-
-// What a line leads to: the end, for this reason, or the next line, which begins there and stands in this part.
-#[derive(Clone, Copy)]
-pub enum Outlook {
-    Ends(Reason),
-    Goes(Part, usize),
 }

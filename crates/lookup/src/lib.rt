@@ -2,7 +2,8 @@
 // table answer. No code: the searches are in the crates `lookup_marks` and `lookup_rows`.
 #![tactic(auto)]
 
-// The row in which an execution is marked, and how many references stay; none stay where it stalls.
+// The row in which an execution is marked, and how many references stay; none stay where it stalls. That is no Option, since the
+// definitions and laws of a stall (`evicted`, `survivors`, `stalls`) count what stays.
 #[derive(Clone, Copy)]
 pub struct Place {
     pub row: usize,

@@ -1,63 +1,28 @@
-// The call `commit`, which requires nothing; its contract is `Meets` of crates/machine_model/specs/Contract.antt.
+// The call `commit`, which requires nothing; its contract is `Meets` of crates/machine_model/specs/Contract.antt. It takes the
+// machine by value and hands it back beside its answer; what it does is a function on a lent machine.
 #![tactic(auto)]
 
 ghost use Rattle.std.specs.Prelude.{[]};
 ghost use Rattle.machine_model.specs.Calls.{commit};
 ghost use Rattle.machine_model.specs.Contract.{commit_says, Meets};
 
-use machine_model::{CommitAnswer, CommitResult, Machine};
+use engine::{Answered, Refusal};
+use machine_model::{Committed, Machine};
 
 // Commits the oldest entry: its register, or for S, B and H its memory word, takes the value.
-pub fn commit(mut m: Machine, program: &[u32], memory: &mut [u32]) -> CommitResult
-    ensures { Meets program.now m commit memory.old (commit_says result.answer) result.machine
+pub fn commit(mut m: Machine, program: &[u32], memory: &mut [u32]) -> Answered<Machine, Committed>
+    ensures { Meets program.now m commit memory.old (commit_says result.answer) result.state
         memory.new [] }
 {
-    let window = m.window;
-    let why = machine_window::validate(
-        m.table.banks,
-        m.table.rows,
-        m.table.stages,
-        m.table.words,
-        m.table.oldest,
-        m.table.live,
-        m.table.executed,
-        &m.table.addresses,
-        &m.table.loads,
-        &m.table.stores,
-        window,
-        m.count,
-        program,
-        memory.len(),
-    );
-    if why != 0 {
-        return CommitResult {
-            answer: CommitAnswer::Refused(why),
-            machine: m,
-        };
-    }
-    let banks = m.table.banks;
-    let live = m.table.live;
-    let oldest = m.table.oldest;
-    let stages = m.table.stages;
-    let e = window[oldest];
-    let refusal = machine_steps::commit_refusal(e, live, m.table.words);
-    if refusal != 0 {
-        return CommitResult {
-            answer: CommitAnswer::Refused(refusal),
-            machine: m,
-        };
-    }
-    let word = engine_steps::at_stage(&m.table.values, oldest);
-    engine_steps::write_back(memory, machine_steps::oldest_mark(e, word));
-    let first = marks::stage_at(oldest, stages, 1);
-    let stay = marks::first_stages(first, stages, live - 1);
-    m.table.oldest = first;
-    m.table.live = live - 1;
-    engine_steps::keep(&mut m.table.loads, banks, stay);
-    engine_steps::keep(&mut m.table.stores, banks, stay);
-    machine_steps::write_register(&mut m.registers, e);
-    CommitResult {
-        answer: machine_steps::commit_answer(e),
-        machine: m,
-    }
+    let answer = commit_in(&mut m, program, memory);
+    Answered { answer, state: m }
+}
+
+fn commit_in(m: &mut Machine, program: &[u32], memory: &mut [u32]) -> Result<Committed, Refusal>
+    ensures { Meets program.now m.old commit memory.old (commit_says result) m.new memory.new [] }
+{
+    machine_window::validate(m, program, memory.len())?;
+    let e = m.window[m.table.oldest];
+    machine_steps::commit_refusal(e, m.table.live, m.table.words)?;
+    Ok(machine_steps::commit_oldest(m, memory))
 }

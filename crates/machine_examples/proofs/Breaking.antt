@@ -14,7 +14,8 @@ use Rattle.table.specs.Computed.Check.{marks_below, row_fits, lawful_by, lawful}
 use Rattle.machine_model.specs.declared.Machine.{Machine}
 use Rattle.machine_model.specs.Contract.{Sound}
 use Rattle.machine_examples.specs.Broken.{RefusesAll, Case, sound, broken, AllTold, cases}
-use Rattle.machine_model.proofs.Sounding.{agreeing, tests_sound, broken_tests}
+use Rattle.machine_model.specs.Tests.{agreeing}
+use Rattle.machine_model.proofs.Sounding.{tests_sound, broken_tests}
 
 -- whatever call is made on a machine that breaks the rules is refused with 2
 pub broken_refuses : (m : Machine) → (Sound m → ⊥) → RefusesAll m

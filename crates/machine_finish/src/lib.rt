@@ -1,137 +1,91 @@
 // The call `finish`, which requires nothing; its contract is `Meets` of crates/machine_model/specs/Contract.antt.
 #![tactic(auto)]
 
-ghost use Rattle.machine_model.specs.Calls.{finish};
+ghost use Rattle.std.specs.Prelude.{◌≡◌, true, ◌+◌, ◌*◌, ◌≤◌, ◌<◌, length, get_or};
+ghost use Rattle.table.specs.Fits.{Fits};
+ghost use Rattle.table.specs.Limits.{slots};
+ghost use Rattle.machine_model.specs.Program.{per_instruction, registers_most};
+ghost use Rattle.machine_model.specs.Calls.{finish, pending};
 ghost use Rattle.machine_model.specs.Contract.{finish_says, Meets};
+ghost use Rattle.machine_laws.specs.Computed.Parts.{OperandsExist};
+ghost use Rattle.machine_laws.specs.Computed.Steps.{own, begun_over, oldest_effect, ready_over};
 
-use machine_model::{FinishAnswer, FinishResult, Machine, PER_COMMIT};
+use engine::{Answered, Refusal};
+use machine_model::{Machine, PER_COMMIT};
+use table_rules::Fitted;
 
 // Takes the oldest to its commit again and again, until `k` commits, fewer places left in the list than a commit takes, the end
 // of the program, or a fault. Each commit's numbers go to the list.
-//
-// The steps of `issue`, `execute` and `commit` at the oldest stand here once more, in place: a function for each would copy
-// the machine. The oldest's entry is a local until it has executed: written in parts and read back as a whole it would be
-// waited for.
 pub fn finish(
     mut m: Machine,
     program: &[u32],
     k: u32,
     memory: &mut [u32],
     list: &mut [u32],
-) -> FinishResult
+) -> Answered<Machine, usize>
     ensures { Meets program.now m (finish k list.old) memory.old (finish_says result.answer)
-        result.machine memory.new list.new }
+        result.state memory.new list.new }
 {
-    let window = m.window;
-    let why = machine_window::validate(
-        m.table.banks,
-        m.table.rows,
-        m.table.stages,
-        m.table.words,
-        m.table.oldest,
-        m.table.live,
-        m.table.executed,
-        &m.table.addresses,
-        &m.table.loads,
-        &m.table.stores,
-        window,
-        m.count,
-        program,
-        memory.len(),
-    );
-    if why != 0 {
-        return FinishResult {
-            answer: FinishAnswer::Refused(why),
-            machine: m,
-        };
+    let answer = finish_in(&mut m, program, k, memory, list);
+    Answered { answer, state: m }
+}
+
+// Where nothing is live the next instruction is issued.
+fn begin_turn(m: &mut Machine, program: &[u32])
+    requires fits { Fits m.old.table }
+    requires next { m.old.table.live ≡ 0
+        → (m.old.table.live < m.old.table.stages) × (m.old.next < m.old.count)
+        × (m.old.next * per_instruction + 3 < length program.now)
+        × (get_or program.now (m.old.next * per_instruction + 1) 0 < registers_most)
+        × (get_or program.now (m.old.next * per_instruction + 2) 0 < registers_most) }
+    ensures { m.new ≡ begun_over program.now m.old }
+{
+    if m.table.live == 0 {
+        machine_steps::issue_next(m, program);
     }
+}
+
+// Where the oldest waits it executes, with what the registers hold.
+fn execute_oldest(m: &mut Machine, memory: &[u32])
+    requires some { Fits m.old.table × (0 < m.old.table.live) × OperandsExist (own m.old).instruction }
+    requires bounds { pending (own m.old).fate ≡ true
+        → ((oldest_effect memory.now m.old).left ≤ m.old.table.live) × ((oldest_effect memory.now m.old).row < slots) }
+    ensures { m.new ≡ ready_over memory.now m.old }
+{
+    let oldest = m.table.oldest;
+    let e = m.window[oldest];
+    if machine_isa::is_pending(e) {
+        let action = machine_steps::action_by(&m.registers, e);
+        let below = engine_steps::word_below(memory, action);
+        let effect = engine_steps::effect_of(Fitted { table: &m.table }, 0, action, below);
+        machine_steps::execute_stage(m, oldest, effect);
+    }
+}
+
+fn finish_in(
+    m: &mut Machine,
+    program: &[u32],
+    k: u32,
+    memory: &mut [u32],
+    list: &mut [u32],
+) -> Result<usize, Refusal>
+    ensures { Meets program.now m.old (finish k list.old) memory.old (finish_says result) m.new memory.new list.new }
+{
+    machine_window::validate(m, program, memory.len())?;
     let limit = k as usize;
-    let mut n: usize = 0;
-    while n < limit {
-        let next = m.next;
-        if (list.len() - n * PER_COMMIT < PER_COMMIT) | ((m.table.live == 0) & (m.count <= next)) {
-            return FinishResult {
-                answer: FinishAnswer::Finished(n),
-                machine: m,
-            };
+    for n in 0..limit {
+        let places = list.len() - n * PER_COMMIT;
+        if (places < PER_COMMIT) | ((m.table.live == 0) & (m.count <= m.next)) {
+            return Ok(n);
         }
-        let oldest = m.table.oldest;
-        let stages = m.table.stages;
-        let mut e = m.window[oldest];
-        if m.table.live == 0 {
-            let number = m.table.next;
-            m.table.live = 1;
-            m.table.next = std::num::wrapping_add_u32(number, 1);
-            m.table.executed = 0;
-            engine_steps::set_number(&mut m.table.numbers, oldest, number);
-            e = machine_steps::entry_issued(program, next);
-            m.next = next + 1;
+        begin_turn(m, program);
+        execute_oldest(m, memory);
+        let e = m.window[m.table.oldest];
+        if let Err(_) = machine_steps::commit_refusal(e, m.table.live, m.table.words) {
+            return Ok(n);
         }
-        if machine_isa::is_pending(e) {
-            let banks = m.table.banks;
-            let live = m.table.live;
-            let executed = m.table.executed;
-            let action = machine_steps::action_by(&m.registers, e);
-            let effect = engine_steps::effect_of(
-                banks,
-                m.table.rows,
-                stages,
-                oldest,
-                live,
-                &m.table.addresses,
-                &m.table.loads,
-                &m.table.stores,
-                &m.table.values,
-                &m.table.taken,
-                0,
-                action,
-                engine_steps::word_below(memory, action),
-            );
-            let r = effect.row;
-            let left = effect.left;
-            let v = effect.value;
-            let a = effect.address;
-            engine_steps::cut(&mut m.table.loads, banks, oldest, stages, live, left);
-            engine_steps::cut(&mut m.table.stores, banks, oldest, stages, live, left);
-            m.table.live = left;
-            m.table.executed = marks::including(executed, oldest);
-            engine_steps::set_word(
-                &mut m.table.addresses,
-                effect.load | effect.store,
-                r,
-                effect.word,
-            );
-            engine_steps::add_mark(&mut m.table.loads, effect.load, r, oldest);
-            engine_steps::add_mark(&mut m.table.stores, effect.store, r, oldest);
-            engine_steps::set_value(&mut m.table.values, effect.store, oldest, v);
-            engine_steps::set_value(&mut m.table.taken, effect.load, oldest, effect.taken);
-            let f = m.window[marks::stage_at(oldest, stages, left)];
-            e = machine_steps::entry_executed(e, v, a, effect.distance);
-            m.next = machine_steps::next_after(f.index, live, left, m.next);
-        }
-        m.window[oldest] = e;
-        let banks = m.table.banks;
-        let live = m.table.live;
-        if machine_steps::commit_refusal(e, live, m.table.words) != 0 {
-            return FinishResult {
-                answer: FinishAnswer::Finished(n),
-                machine: m,
-            };
-        }
-        let word = engine_steps::at_stage(&m.table.values, oldest);
-        engine_steps::write_back(memory, machine_steps::oldest_mark(e, word));
-        let first = marks::stage_at(oldest, stages, 1);
-        let stay = marks::first_stages(first, stages, live - 1);
-        m.table.oldest = first;
-        m.table.live = live - 1;
-        engine_steps::keep(&mut m.table.loads, banks, stay);
-        engine_steps::keep(&mut m.table.stores, banks, stay);
-        machine_steps::write_register(&mut m.registers, e);
-        machine_steps::list_commit(list, n, e);
-        n += 1;
+        let committed = machine_steps::commit_oldest(m, memory);
+        machine_steps::list_commit(list, n, committed);
     }
-    FinishResult {
-        answer: FinishAnswer::Finished(n),
-        machine: m,
-    }
+    Ok(limit)
 }

@@ -1,16 +1,14 @@
-// The calls that open a machine and move its window's young end: `open`, `issue` and `squash`. None requires anything. Each
-// contract is `Meets` (or `Opens`) of crates/machine_model/specs/Contract.antt.
+// The calls that open a machine and move its window's young end: `open`, `issue` and `squash`. Each takes the machine by value
+// and hands it back beside its answer; what it does is a function on a lent machine. None requires anything. Each contract is
+// `Meets` (or `Opens`) of crates/machine_model/specs/Contract.antt.
 #![tactic(auto)]
 
-ghost use Rattle.std.specs.Prelude.{◌≡◌, ℕ, List, []};
-ghost use Rattle.engine.specs.Contract.{refused};
+ghost use Rattle.std.specs.Prelude.{◌≡◌, ℕ, List, [], Err};
 ghost use Rattle.machine_model.specs.Calls.{banked, issue, squash};
 ghost use Rattle.machine_model.specs.Contract.{done_says, issue_says, empty_machine, fresh_machine, Meets, Opens};
 
-use machine_model::{
-    DoneAnswer, DoneResult, Entry, Fate, Instruction, IssueAnswer, IssueResult, Machine,
-    PER_INSTRUCTION, PROGRAM, REGISTERS,
-};
+use engine::{Answered, Refusal};
+use machine_model::{Entry, Fate, Instruction, Machine, PER_INSTRUCTION, PROGRAM, REGISTERS};
 use table::{STAGES, Table};
 
 // A machine of `count` instructions over this table, with nothing in its window.
@@ -32,16 +30,16 @@ fn empty(table: Table, count: u32) -> Machine
 }
 
 // A refused opening: a machine without stages.
-fn unopened(why: u32) -> DoneResult
-    ensures { (done_says result.answer ≡ refused why) × (result.machine ≡ fresh_machine (banked 0 0 0 0) 0) }
+fn unopened(why: Refusal) -> Answered<Machine, ()>
+    ensures { (result.answer ≡ Err why) × (result.state ≡ fresh_machine (banked 0 0 0 0) 0) }
 {
-    DoneResult {
-        answer: DoneAnswer::Refused(why),
-        machine: empty(engine_steps::empty(0, 0, 0, 0), 0),
+    Answered {
+        answer: Err(why),
+        state: empty(engine_steps::empty(0, 0, 0, 0), 0),
     }
 }
 
-// A machine for the program over a table of these sizes.
+// A machine for the program over a table of these sizes: four numbers, as C passes them.
 pub fn open(
     banks: usize,
     rows: usize,
@@ -49,125 +47,61 @@ pub fn open(
     words: usize,
     program: &[u32],
     memory: &[u32],
-) -> DoneResult
+) -> Answered<Machine, ()>
     ensures { Opens (banked banks rows stages words) program.now memory.now (done_says result.answer)
-        result.machine }
+        result.state }
 {
     if !(table_rules::sizes_fit(banks, rows, stages, words) & (program.len() <= PROGRAM)) {
-        return unopened(1);
+        return unopened(Refusal::Sizes);
     }
     if memory.len() != words {
-        return unopened(3);
+        return unopened(Refusal::Memory);
     }
     if !machine_isa::program_fits(program) {
-        return unopened(4);
+        return unopened(Refusal::Program);
     }
-    DoneResult {
-        answer: DoneAnswer::Done,
-        machine: empty(
+    Answered {
+        answer: Ok(()),
+        state: empty(
             engine_steps::empty(banks, rows, stages, words),
             (program.len() / PER_INSTRUCTION) as u32,
         ),
     }
 }
 
-// Puts the next instruction in the next stage.
-pub fn issue(mut m: Machine, program: &[u32]) -> IssueResult
-    ensures { (w : List ℕ) → Meets program.now m issue w (issue_says result.answer) result.machine w [] }
+// Puts the next instruction in the next stage; the answer is its position.
+pub fn issue(mut m: Machine, program: &[u32]) -> Answered<Machine, usize>
+    ensures { (w : List ℕ) → Meets program.now m issue w (issue_says result.answer) result.state w [] }
 {
-    let window = m.window;
-    let why = machine_window::validate(
-        m.table.banks,
-        m.table.rows,
-        m.table.stages,
-        m.table.words,
-        m.table.oldest,
-        m.table.live,
-        m.table.executed,
-        &m.table.addresses,
-        &m.table.loads,
-        &m.table.stores,
-        window,
-        m.count,
-        program,
-        m.table.words,
-    );
-    if why != 0 {
-        return IssueResult {
-            answer: IssueAnswer::Refused(why),
-            machine: m,
-        };
-    }
+    let answer = issue_in(&mut m, program);
+    Answered { answer, state: m }
+}
+
+fn issue_in(m: &mut Machine, program: &[u32]) -> Result<usize, Refusal>
+    ensures { (w : List ℕ) → Meets program.now m.old issue w (issue_says result) m.new w [] }
+{
+    machine_window::validate(m, program, m.table.words)?;
     let live = m.table.live;
-    let oldest = m.table.oldest;
-    let stages = m.table.stages;
-    let executed = m.table.executed;
-    let number = m.table.next;
-    let next = m.next;
-    let refusal = machine_steps::issue_refusal(live == stages, m.count, next);
-    if refusal != 0 {
-        return IssueResult {
-            answer: IssueAnswer::Refused(refusal),
-            machine: m,
-        };
-    }
-    let s = marks::stage_at(oldest, stages, live);
-    m.table.live = live + 1;
-    m.table.next = std::num::wrapping_add_u32(number, 1);
-    m.table.executed = executed & marks::first_stages(oldest, stages, live);
-    engine_steps::set_number(&mut m.table.numbers, s, number);
-    m.window[s] = machine_steps::entry_issued(program, next);
-    m.next = next + 1;
-    IssueResult {
-        answer: IssueAnswer::Issued(live),
-        machine: m,
-    }
+    machine_steps::issue_refusal(live == m.table.stages, m.count, m.next)?;
+    machine_steps::issue_next(m, program);
+    Ok(live)
 }
 
 // Drops the entry at position `p` and everything younger; issue goes on there.
-pub fn squash(mut m: Machine, program: &[u32], p: usize) -> DoneResult
-    ensures { (w : List ℕ) → Meets program.now m (squash p) w (done_says result.answer) result.machine w [] }
+pub fn squash(mut m: Machine, program: &[u32], p: usize) -> Answered<Machine, ()>
+    ensures { (w : List ℕ) → Meets program.now m (squash p) w (done_says result.answer) result.state w [] }
 {
-    let window = m.window;
-    let why = machine_window::validate(
-        m.table.banks,
-        m.table.rows,
-        m.table.stages,
-        m.table.words,
-        m.table.oldest,
-        m.table.live,
-        m.table.executed,
-        &m.table.addresses,
-        &m.table.loads,
-        &m.table.stores,
-        window,
-        m.count,
-        program,
-        m.table.words,
-    );
-    if why != 0 {
-        return DoneResult {
-            answer: DoneAnswer::Refused(why),
-            machine: m,
-        };
+    let answer = squash_in(&mut m, program, p);
+    Answered { answer, state: m }
+}
+
+fn squash_in(m: &mut Machine, program: &[u32], p: usize) -> Result<(), Refusal>
+    ensures { (w : List ℕ) → Meets program.now m.old (squash p) w (done_says result) m.new w [] }
+{
+    machine_window::validate(m, program, m.table.words)?;
+    if p >= m.table.live {
+        return Err(Refusal::Unnamed);
     }
-    let banks = m.table.banks;
-    let live = m.table.live;
-    let oldest = m.table.oldest;
-    let stages = m.table.stages;
-    if p >= live {
-        return DoneResult {
-            answer: DoneAnswer::Refused(7),
-            machine: m,
-        };
-    }
-    let e = window[marks::stage_at(oldest, stages, p)];
-    engine_steps::cut(&mut m.table.loads, banks, oldest, stages, live, p);
-    engine_steps::cut(&mut m.table.stores, banks, oldest, stages, live, p);
-    m.table.live = p;
-    m.next = e.index;
-    DoneResult {
-        answer: DoneAnswer::Done,
-        machine: m,
-    }
+    machine_steps::squash_from(m, p);
+    Ok(())
 }

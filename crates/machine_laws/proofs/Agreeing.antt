@@ -3,8 +3,8 @@
 -- Members of a union are those of its parts (union_has, union_from). A row with a mark lies in the bank of its address, so the
 -- marks at an address are those of the rows of the bank that have it (row_in, row_found); a stage's marks are in one row, so at
 -- its address they are that row's (at_row) and at another there are none (at_none). How it compares window and program is how
--- the contract does too, of a well-formed program of the opened length (fitting_law). So the validation over the machine's
--- parts is that of the contract (validate_law): where the rules are broken, both are 2. Assumes nothing.
+-- the contract does too, of a well-formed program of the opened length (fitting_law). So where the rules are kept the code's
+-- validation is that of the contract (validate_law). Assumes nothing.
 use mathlib.Core.Bool.{Bool, true, false, cond, not, ◌&&◌, ◌||◌, true≢false, and-true, and-false, or-true, or-false}
 use mathlib.Core.Bool.{not-eq-not, and-eq-true_iff}
 use mathlib.Core.List.{List, [], ◌∷◌}
@@ -26,13 +26,13 @@ use Rattle.marks.proofs.Sets.{has_or, has_zero}
 use Rattle.table.specs.declared.Table.{Table}
 use Rattle.table.specs.Bank.{bank}
 use Rattle.table.specs.Limits.{rows_most, rows_in}
-use Rattle.table.specs.Computed.Check.{marks_below, lawful}
+use Rattle.table.specs.Computed.Check.{marks_below}
 use Rattle.table.specs.Reference.{Side, Fate, waiting, other}
 use Rattle.table.specs.Rules.{Rules}
 use Rattle.table.specs.View.{stage_of, address, load_mark, store_mark, mark, value, taken, word_if, fate_at}
 use Rattle.table.proofs.Sizes.{sizes, bank_lt}
 use Rattle.table.proofs.Fates.{Fated, waits, bare, marks, fated, mark_load, mark_store, fate_marked, fate_other, fate_waiting}
-use Rattle.table.proofs.Lawful.{lawful_rules, taken_has, taken_from}
+use Rattle.table.proofs.Lawful.{rules_lawful, taken_has, taken_from}
 use Rattle.machine_model.specs.Contract.{mark_kind, kind_of, place_of, entry_of, agree}
 use Rattle.engine.specs.Conditions.{refusal, when}
 use Rattle.engine.specs.Part.{word_of}
@@ -49,9 +49,8 @@ use Rattle.machine_model.specs.Program.{per_instruction, last_register, kind, pr
 use Rattle.machine_model.specs.Window.{blank_entry, access_by, reference_by, untold}
 use Rattle.machine_model.specs.Calls.{matches_program}
 use Rattle.machine_laws.proofs.Comparing.{marked_kind}
-use Rattle.machine_model.proofs.Sounding.{agreeing, fitting, validate_of}
+use Rattle.machine_model.specs.Tests.{agreeing, validate_of}
 use Rattle.machine_laws.specs.Computed.Parts.{union, marks_at, mark_number, agrees_by, agreeing_by, like_by, fitting_by}
-use Rattle.machine_laws.specs.Computed.Parts.{validate_by}
 
 module _ (test : ℕ → Bool) (f : ℕ → ℕ) where
   -- one number more
@@ -363,20 +362,27 @@ module _ (program : List ℕ) (count : ℕ) (fits : program_fits program ≡ tru
   fitting_law oldest stages window live =
       every_same _ _ live (λ p h. like_law (get_or window (stage oldest stages p) blank_entry))
 
--- the validation over the machine's parts, as the code finds it, is that of the contract
-abbrev pub validate_in : Machine → List ℕ → ℕ → ℕ
-validate_in m program lent =
-    let t = m.table in
-    validate_by t.banks t.rows t.stages t.words t.oldest t.live t.executed t.addresses t.loads
-    t.stores m.window m.count program lent
-
-pub validate_law : (m : Machine) (program : List ℕ) (lent : ℕ) → validate_in m program lent ≡ validate_of m program lent
-validate_law m program lent =
-    let t = m.table in
-    ap
-    (λ (b : Bool).
-    refusal
-    (when (not b) 2 ∷ when (not (eqb lent t.words)) 3
-    ∷ when (not (fitting program m)) 4
-    ∷ []))
-    (where_true (lawful t) _ (agreeing m t.live) (λ h. agreeing_law m (lawful_rules t h) t.live))
+-- Of a table that keeps its rules, the tests of window and entries as the code makes them decide as the contract's do.
+pub validate_law : (m : Machine) (program : List ℕ) (lent : ℕ) → Rules m.table → {agrees fits : Bool}
+    → (let t = m.table in agrees ≡ agreeing_by t.banks t.oldest t.stages t.executed t.addresses t.loads t.stores m.window t.live)
+    → fits ≡ fitting_by program m.table.oldest m.table.stages m.window m.table.live
+    → validate_of m program lent
+    ≡ refusal
+    (when (not agrees) 2 ∷ when (not (eqb lent m.table.words)) 3
+    ∷ when (not (program_fits program && eqb (length program) (per_instruction * m.count) && fits)) 4
+    ∷ [])
+validate_law m program lent rules {agrees} {fits} window entries =
+    ap₂
+    (λ (a f : Bool).
+    refusal (when (not a) 2 ∷ when (not (eqb lent m.table.words)) 3 ∷ when (not f) 4 ∷ []))
+    (ap (λ (b : Bool). b && agreeing m m.table.live) (rules_lawful m.table rules)
+    ∙ sym (window ∙ agreeing_law m rules m.table.live))
+    (where_true (program_fits program && counted) _ fits
+    (λ h.
+    let both = (and-eq-true_iff (program_fits program) counted).0 h in
+    sym
+    (entries
+    ∙ fitting_law program m.count both.0 (eqb-true _ _ both.1) m.table.oldest m.table.stages m.window m.table.live)))
+  where
+    counted : Bool
+    counted = eqb (length program) (per_instruction * m.count)

@@ -12,24 +12,24 @@ use Rattle.engine.specs.Conditions.{when, refusal}
 use Rattle.machine_model.specs.declared.Machine.{Machine}
 use Rattle.machine_model.specs.Calls.{buffered, Call, lent_to}
 use Rattle.machine_model.specs.Contract.{plain, Meets}
-use Rattle.machine_model.proofs.Sounding.{agreeing, fitting, validate_of, tests_sound, broken_tests}
+use Rattle.machine_model.specs.Tests.{agreeing, fitting, validate_of}
+use Rattle.machine_model.proofs.Sounding.{tests_sound, broken_tests}
 use Rattle.machine_model.proofs.Answering.{broken_meets, refused_meets, fits_same, Passed, validate_passes}
-use Rattle.machine_laws.proofs.Agreeing.{validate_in, validate_law}
 use Rattle.machine_laws.proofs.Refusals.{length_for, length_turned, program_turned}
 
 -- 0: none of them holds
-module _ (m : Machine) (program : List ℕ) (lent : ℕ) {why : ℕ} (found : why ≡ validate_in m program lent) (none : why ≡ 0) where
+module _ (m : Machine) (program : List ℕ) (lent : ℕ) {why : ℕ} (found : why ≡ validate_of m program lent) (none : why ≡ 0) where
   pub check_none : validate_of m program lent ≡ 0
-  check_none = sym (validate_law m program lent) ∙ sym found ∙ none
+  check_none = sym found ∙ none
 
   pub check_passes : Passed m program lent
   check_passes = validate_passes m program lent check_none
 
 pub check_turns : (m : Machine) (program : List ℕ) (c : Call) (w : List ℕ) {k : ℕ}
-    → k ≡ validate_in m program (length_for buffered (plain m) c w) → (k ≡ 0 → ⊥) → Meets program m c w (refused k) m w (lent_to c)
+    → k ≡ validate_of m program (length_for buffered (plain m) c w) → (k ≡ 0 → ⊥) → Meets program m c w (refused k) m w (lent_to c)
 check_turns m program c w {k} found some =
     go (lawful m.table && agreeing m m.table.live) (eqb lent m.table.words) (fitting program m) refl
-    refl refl (sym (found ∙ validate_law m program lent))
+    refl refl (sym found)
   where
     lent : ℕ
     lent = length_for buffered (plain m) c w

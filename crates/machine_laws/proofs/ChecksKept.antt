@@ -17,7 +17,8 @@ use Rattle.machine_model.specs.Program.{per_instruction, program_fits}
 use Rattle.machine_model.specs.Over
 use Rattle.machine_model.specs.Calls.{buffered, Plain, Call, issue, execute, commit, Answer, respond, matches_program}
 use Rattle.machine_model.specs.Contract.{entry_of, plain, Sound, Meets}
-use Rattle.machine_model.proofs.Sounding.{agreeing, validate_of, length_entries, entry_at_lem, sound_tests}
+use Rattle.machine_model.specs.Tests.{agreeing, validate_of}
+use Rattle.machine_model.proofs.Sounding.{length_entries, entry_at_lem, sound_tests}
 use Rattle.machine_model.proofs.Answering.{Passed, validate_passes}
 use Rattle.machine_laws.proofs.Fits.{KeepsWords, Fitting, issue_fits, execute_fits, commit_fits}
 

@@ -31,6 +31,7 @@ use Rattle.machine_model.specs.Over
 use Rattle.machine_model.specs.Calls.{buffered, commit, Answer, value_by, registers_after, committed_says, committing, respond}
 use Rattle.machine_model.specs.Contract.{plain, agree, Meets}
 use Rattle.machine_laws.specs.Computed.Parts.{entries_of, mark_with, commit_number}
+use Rattle.machine_laws.specs.Computed.Steps.{own_mark, committed_over}
 use Rattle.machine_laws.proofs.Comparing.{agree_both, idle_by, waits_idle, mark_faults_lem, mark_agreed}
 use Rattle.machine_model.proofs.Sounding.{entry_at_lem}
 use Rattle.machine_model.proofs.Answering.{Passed, refused_meets, accepted_meets}
@@ -164,3 +165,11 @@ module _ (program : List ℕ) (m : Machine) (w : List ℕ) (passed : Passed m pr
           refl
           (reached u (committing (plain m) w).state (retire_rules t rules some) state
           (agreed_drop (plain m).entries refs (sound_agreed m passed.sound))))
+
+    -- and as its step leaves the whole
+    pub committed_clean : faults (length w) (marked_fate (own_mark m)) ≡ false
+    committed_clean = commit_clean (own_mark m) refl
+
+    pub committed_meets :
+        Meets program m commit w (committed_says own) (committed_over m) (written w (marked_fate (own_mark m))) []
+    committed_meets = commit_meets (own_mark m) refl _ refl _ _ _ _ _ _ refl refl refl refl refl refl

@@ -15,16 +15,15 @@ use Rattle.lookup.specs.Computed.Search.{mark_by, marked_fate}
 use Rattle.engine.specs.Conditions.{faults}
 use Rattle.engine.specs.Part.{word_of}
 use Rattle.machine_model.specs.declared.Instruction.{Instruction}
-use Rattle.machine_model.specs.declared.Instruction.TheVariants.{Add, Sum, Load, Store, Byte, Half}
 use Rattle.machine_model.specs.declared.Kind.{Kind}
 use Rattle.machine_model.specs.declared.Kind.TheVariants.{Computing, Loading, Storing, Merging}
 use Rattle.machine_model.specs.declared.Fate.{Fate}
 use Rattle.machine_model.specs.declared.Fate.TheVariants.{Waiting, Executed}
-use Rattle.machine_model.specs.Program.{code_of, kind}
+use Rattle.machine_model.specs.Program.{kind}
 use Rattle.machine_model.specs.Window.{access_by, reference_by, untold}
 use Rattle.machine_model.specs.Calls.{pending}
 use Rattle.machine_model.specs.Contract.{mark_kind, kind_of, place_of, agree}
-use Rattle.machine_laws.specs.Computed.Parts.{kind_by, place_by, mark_with}
+use Rattle.machine_laws.specs.Computed.Parts.{mark_with}
 
 -- an access neither waits nor is without memory
 pub marked_kind : (l s : Side)
@@ -52,23 +51,6 @@ idle_by other = refl
 idle_by (accessed a l s) = sym (marked_kind l s).0
 
 -- ---- what an entry is to the buffer
-
--- its kind and place by its code
-pub kind_code : (i : Instruction) (v a : ℕ) → kind_of (reference_by untold i (Executed v a)) ≡ kind_by (code_of i)
-kind_code (Add d s imm) v a = refl
-kind_code (Sum d s r) v a = refl
-kind_code (Load d s imm) v a = refl
-kind_code (Store d s imm) v a = refl
-kind_code (Byte d s imm) v a = refl
-kind_code (Half d s imm) v a = refl
-
-pub place_code : (i : Instruction) (v a : ℕ) → place_of (reference_by untold i (Executed v a)) ≡ place_by (code_of i) a
-place_code (Add d s imm) v a = refl
-place_code (Sum d s r) v a = refl
-place_code (Load d s imm) v a = refl
-place_code (Store d s imm) v a = refl
-place_code (Byte d s imm) v a = refl
-place_code (Half d s imm) v a = refl
 
 access_executed : (k : Kind) (v a : ℕ) → idle (access_by untold k v a) ≡ false
 access_executed Computing v a = refl

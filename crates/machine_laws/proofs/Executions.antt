@@ -25,7 +25,7 @@ use Rattle.table.specs.Rules.{Rules}
 use Rattle.table.proofs.Sizes.{sizes}
 use Rattle.table.proofs.Lists.{tabulate_take, tabulate_set}
 use Rattle.table.proofs.Fates.{length_refs}
-use Rattle.engine.proofs.Lengths.{Lengths}
+use Rattle.table.specs.Fits.{Lengths}
 use Rattle.lookup.specs.Forwarding.{forwarded, distance}
 use Rattle.lookup.specs.Outcome.{survivors, executes}
 use Rattle.engine.specs.declared.Action.{Action}
@@ -37,8 +37,8 @@ use Rattle.engine.specs.Execution.{fate_by, answer_of}
 use Rattle.engine.specs.Computed.Effect.{effect_at, apply_effect}
 use Rattle.engine.proofs.Meeting.{judged_refused}
 use Rattle.engine.proofs.Fated.{executed_at}
-use Rattle.engine.proofs.Executed.{effect_left, effect_bounds, effect_value, effect_distance, part_value, effect_view}
-use Rattle.engine.proofs.Executed.{effect_rules}
+use Rattle.engine.proofs.Effects.{effect_left, effect_bounds, effect_value, effect_distance, part_value, effect_view}
+use Rattle.engine.proofs.Effects.{effect_rules}
 use Rattle.machine_model.specs.declared.Instruction.{Instruction}
 use Rattle.machine_model.specs.declared.Fate.{Fate}
 use Rattle.machine_model.specs.declared.Fate.TheVariants.{Waiting, Executed}
@@ -52,6 +52,7 @@ use Rattle.machine_model.specs.Calls.{buffered, Plain, execute, Answer, Result, 
 use Rattle.machine_model.specs.Calls.{refetch_index, executing, execute_checks, survivors_of, answer_by, load_distance, respond}
 use Rattle.machine_model.specs.Contract.{entry_of, plain, agree, Sound, Meets}
 use Rattle.machine_laws.specs.Computed.Parts.{second, asked_of, asked_number, executed_says}
+use Rattle.machine_laws.specs.Computed.Steps.{executed_over}
 use Rattle.machine_laws.proofs.Comparing.{agree_words, agree_waiting}
 use Rattle.machine_model.proofs.Sounding.{length_entries, entry_at_lem}
 use Rattle.machine_laws.proofs.Operands.{fate_after, outcome_ready, reference_ready, value_ready, distance_ready}
@@ -359,3 +360,12 @@ module _ (m : Machine) (program w : List ℕ) (p : ℕ) (passed : Passed m progr
         let some_left : (effect_at m.table p w act).left ≡ 0 → ⊥ =
         λ z. stays (ap (λ (k : Effect). k.left) hq ∙ z) in
         rw (hg, hn, ha, he, hs, hq, effect_fate full lengths some_left) (accepted full lengths some_left)
+
+    -- and as its step leaves the whole
+    pub executed_meets : length m.window ≡ stages_most → Lengths m.table → (s : ℕ) → s ≡ stage_of m.table p
+        → (q : Effect) → q ≡ effect_at m.table p w act → (q.left ≡ 0 → ⊥)
+        → Meets program m (execute p) w (executed_says q m.table.live) (executed_over m s q) w []
+    executed_meets full lengths s hs q hq stays =
+        execute_meets full lengths s hs q hq stays _ refl _
+        (ap (λ (j : ℕ). entry_with (get_or m.window j blank_entry) (Executed q.value q.address) q.distance) hs)
+        _ refl _ refl

@@ -10,18 +10,17 @@ use native.Mathlib.Nat.{ne_of_lt, le_of_lt}
 use native.Mathlib.Numerals.{add-one}
 use native.Mathlib.Omega.{arith}
 use lib.Dec.{eqb, leb}
-use lib.ListN.{length, take, set, length-append}
+use lib.ListN.{length, take, length-append}
 use lib.Seq.{length-take-le}
 use borrow.Author.Tests.{lt-ltb, le-leb, lt-leb, ne_eqb}
 use Rattle.table.specs.Limits.{stages_most}
 use Rattle.table.specs.Reference.{ref, waiting}
-use Rattle.table.specs.View.{stage_of, view}
+use Rattle.table.specs.View.{view}
 use Rattle.table.specs.Moves.{issued, squash_to}
 use Rattle.table.proofs.Sizes.{sizes}
 use Rattle.table.proofs.Lists.{tabulate_take}
 use Rattle.table.proofs.Fates.{length_refs}
-use Rattle.engine.specs.Computed.Steps.{cut, grown}
-use Rattle.engine.proofs.Lengths.{Lengths}
+use Rattle.table.specs.Fits.{Lengths}
 use Rattle.engine.proofs.Narrowing.{cut_rules, cut_view}
 use Rattle.engine.proofs.Growing.{grown_rules, grown_view}
 use Rattle.engine.specs.Contract.{refused, named, done, judged}
@@ -37,21 +36,11 @@ use Rattle.machine_model.specs.Contract.{entry_of, plain, Meets}
 use Rattle.machine_laws.specs.Computed.Parts.{entries_of, issue_number}
 use Rattle.machine_model.proofs.Sounding.{length_entries, entry_at_lem}
 use Rattle.machine_model.proofs.Answering.{Passed, refused_meets, accepted_meets}
+use Rattle.machine_laws.specs.Computed.Steps.{issued_over, squashed_over}
 use Rattle.machine_laws.proofs.Refusals.{issue_number_lem}
 use Rattle.machine_laws.proofs.PlainOfView.{plain_by, entries_grow, sound_agreed, reached, agreed_grow, agreed_take}
 
 -- ---- issue
-
--- the machine after an issue
-abbrev pub issued_over : List ℕ → Machine → Machine
-issued_over program m =
-    record {
-      table = grown m.table;
-      window = set m.window (stage_of m.table m.table.live) (new_entry program m.next);
-      registers = m.registers;
-      count = m.count;
-      next = m.next + 1;
-    }
 
 module _ (program : List ℕ) (m : Machine) (passed : Passed m program m.table.words) (w : List ℕ) where
   -- the number of the conditions 5 and 6, as the code finds it
@@ -108,17 +97,6 @@ module _ (program : List ℕ) (m : Machine) (passed : Passed m program m.table.w
       (length_entries m ∙ sym (length_refs m.table)) refl))
 
 -- ---- squash
-
--- the machine after a squash at position p
-abbrev pub squashed_over : Machine → ℕ → Machine
-squashed_over m p =
-    record {
-      table = cut m.table p;
-      window = m.window;
-      registers = m.registers;
-      count = m.count;
-      next = (entry_of m p).index;
-    }
 
 module _ (program : List ℕ) (m : Machine) (passed : Passed m program m.table.words) (w : List ℕ) (p : ℕ) where
   squash_number : (b : Bool) → leb m.table.live p ≡ b → refusal (squash_checks program (plain m) p) ≡ cond b 7 0

@@ -5,7 +5,7 @@
 -- operands. What it then is to the buffer, and the value answered, go by the instruction too.
 -- Assumes nothing.
 use mathlib.Core.Bool.{Bool, true, false, cond}
-use mathlib.Core.List.{List, [], ◌∷◌, ◌++◌}
+use mathlib.Core.List.{List}
 use mathlib.Core.Option.{Option, none, some, map}
 use mathlib.Core.Path.{◌≡◌, refl, sym, ap, ◌∙◌}
 use Prim.Native.Nat.{ℕ, zero, suc, ◌-◌, ◌<◌}
@@ -25,18 +25,7 @@ use Rattle.machine_model.specs.declared.Entry.{Entry}
 use Rattle.machine_model.specs.Program.{registers_most, s_of, kind, destination, sum}
 use Rattle.engine.specs.declared.Action.TheVariants.{Compute, LoadAt, StoreAt, PartAt}
 use Rattle.engine.specs.declared.Action.{Action}
-use Rattle.machine_model.specs.Window.{
-  blank_entry,
-  is_register,
-  writes_to,
-  value_of,
-  address_by,
-  register_seen,
-  reference_by,
-  with₂,
-  part_stored,
-  evaluate,
-}
+use Rattle.machine_model.specs.Window.{blank_entry, is_register, value_of, address_by, register_seen, reference_by, with₂, part_stored, evaluate}
 use Rattle.machine_model.specs.Calls.{value_by, answer_by, load_value}
 use Rattle.machine_model.proofs.Sentences.{register_snoc}
 use Rattle.machine_laws.specs.Computed.Parts.{register_number, destination_at, writer, entries_of, action_of, second}

@@ -1,24 +1,14 @@
 -- The lengths of a machine's arrays and the size of its count, which a struct by value has.
 -- Assumes nothing.
-use mathlib.Core.Path.{◌≡◌}
 use mathlib.Core.List.{List}
-use Prim.Native.Nat.{◌^◌, ◌<◌}
-use lib.ListN.{length, length-map}
 use mir.Val.{Val}
 use denote.Laws.{Is}
 use denote.Struct.Declared.{row}
 use borrow.Author.Rules.{rules}
-use Rattle.machine_model.specs.Program.{registers_most}
-use Rattle.table.specs.Limits.{stages_most}
-use Rattle.engine.proofs.Lengths.{Lengths, lengths_of}
+use Rattle.engine.proofs.Lengths.{lengths_of}
 use Rattle.machine_model.specs.declared.Machine.{Machine}
 use Rattle.machine_model.specs.contracts.Machine.{the_type}
-
-pub record Sized (m : Machine) : Type 0 where
-  pub lengths : Lengths m.table
-  pub window : length m.window ≡ stages_most
-  pub registers : length m.registers ≡ registers_most
-  pub small : m.count < 2 ^ 32
+use Rattle.machine_laws.specs.Computed.Steps.{Sized}
 
 -- a machine that machine values hold has them
 pub sized_of : (m : Machine) {vs : List Val} → Is (row the_type) m vs → Sized m

@@ -22,7 +22,8 @@ use Rattle.machine_model.specs.Program.{per_instruction, program_fits}
 use Rattle.machine_model.specs.Window.{entry_at}
 use Rattle.machine_model.specs.Calls.{Call, lent_to, Answer, Result, matches_program, fits_program, respond}
 use Rattle.machine_model.specs.Contract.{entry_of, plain, Sound, Meets}
-use Rattle.machine_model.proofs.Sounding.{agreeing, fitting, validate_of, length_entries, entry_at_lem, tests_sound}
+use Rattle.machine_model.specs.Tests.{agreeing, fitting, validate_of}
+use Rattle.machine_model.proofs.Sounding.{length_entries, entry_at_lem, tests_sound}
 
 -- ---- meeting the contract
 

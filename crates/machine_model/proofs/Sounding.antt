@@ -1,14 +1,12 @@
 -- A machine is sound exactly where its tests pass: the table's own rules, and the agreement of window and table at every
 -- live position. The fates that are compared are those of the view, which the table's marks give (view_fate).
 -- Assumes nothing.
-use mathlib.Core.Bool.{Bool, true, false, not, ◌&&◌, true≢false, and-eq-true_iff}
-use mathlib.Core.List.{List, [], ◌∷◌}
+use mathlib.Core.Bool.{true, false, ◌&&◌, true≢false, and-eq-true_iff}
 use mathlib.Core.Logic.{◌⊎◌}
 use mathlib.Core.Path.{◌≡◌, sym, ap, ap₂, ◌∙◌}
-use Prim.Native.Nat.{ℕ, ◌*◌, ◌<◌}
+use Prim.Native.Nat.{ℕ, ◌<◌}
 use lib.Dec.{eqb, leb}
 use lib.ListN.{length}
-use Rattle.marks.specs.Counting.{every}
 use Rattle.marks.proofs.Counts.{every_at, every_from}
 use Rattle.table.specs.declared.Table.{Table}
 use Rattle.table.specs.Reference.{fate_of, at}
@@ -17,31 +15,12 @@ use Rattle.table.specs.Computed.Check.{lawful}
 use Rattle.table.proofs.Lists.{length_tabulate, at_tabulate}
 use Rattle.table.proofs.Fates.{at_refs}
 use Rattle.table.proofs.Lawful.{lawful_rules, rules_lawful}
-use Rattle.engine.specs.Conditions.{refusal, when}
 use Rattle.engine.proofs.Deciding.{tested}
 use Rattle.machine_model.specs.declared.Machine.{Machine}
-use Rattle.machine_model.specs.Program.{per_instruction, program_fits}
 use Rattle.machine_model.specs.Window.{blank_entry, entry_at, reference}
-use Rattle.machine_model.specs.Calls.{matches_program, program_done}
+use Rattle.machine_model.specs.Calls.{program_done}
 use Rattle.machine_model.specs.Contract.{entry_of, plain, agree, Sound}
-
--- the window agrees with the table at the first k positions
-abbrev pub agreeing : Machine → ℕ → Bool
-agreeing m k = every (λ (p : ℕ). agree (reference (entry_of m p)) (fate_at m.table (stage_of m.table p))) k
-
--- the program is the opened one, and the live entries are its instructions
-abbrev pub fitting : List ℕ → Machine → Bool
-fitting program m =
-    program_fits program && eqb (length program) (per_instruction * m.count)
-    && every (λ (p : ℕ). matches_program program m.count (entry_of m p)) m.table.live
-
--- the conditions 2, 3 and 4, in that order, of a call lent a memory of this length
-abbrev pub validate_of : Machine → List ℕ → ℕ → ℕ
-validate_of m program lent =
-    refusal
-    (when (not (lawful m.table && agreeing m m.table.live)) 2 ∷ when (not (eqb lent m.table.words)) 3
-    ∷ when (not (fitting program m)) 4
-    ∷ [])
+use Rattle.machine_model.specs.Tests.{agreeing}
 
 -- the entries of the plain state, by position
 pub length_entries : (m : Machine) → length (plain m).entries ≡ m.table.live

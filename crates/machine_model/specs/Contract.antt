@@ -1,60 +1,45 @@
 -- What every call of the machine promises, for every machine, program, memory, position, limit and list.
 -- Assumes nothing.
-use Rattle.std.specs.Prelude.{◌≡◌, Bool, true, ◌&&◌, List, ℕ, ◌<◌, eqb, get_or, replicate}
-use Rattle.std.proofs.Math.Option.{Option, none, some}
+use Rattle.std.specs.Prelude.{◌≡◌, ⊤, Bool, true, ◌&&◌, List, ℕ, ◌<◌, eqb, get_or, replicate, Result}
 use Rattle.table.specs.declared.Table.{Table}
 use Rattle.table.specs.Limits.{stages_most}
 use Rattle.table.specs.Reference
 use Rattle.table.specs.Reference.{Side, lacks, holds, waiting, other, accessed, fate_of, at}
 use Rattle.table.specs.View.{stage_of, tabulate, view}
 use Rattle.table.specs.Rules.{Rules}
-use Rattle.engine.specs.Contract.{refused, done, named, executed, committed, finished}
+use Rattle.engine.specs.declared.Refusal.{Refusal}
+use Rattle.engine.specs.declared.Executed.{Executed}
+use Rattle.engine.specs.Contract.{done, named, committed, finished}
+use Rattle.engine.specs.Answers.{says, says_executed}
 use Rattle.engine.specs.Opening.{fresh}
 use Rattle.machine_model.specs.declared.Entry.{Entry}
 use Rattle.machine_model.specs.declared.Machine.{Machine}
-use Rattle.machine_model.specs.declared.Squashed.{Squashed}
-use Rattle.machine_model.specs.declared.Squashed.TheVariants as squashed
-use Rattle.machine_model.specs.declared.DoneAnswer.{DoneAnswer}
-use Rattle.machine_model.specs.declared.DoneAnswer.TheVariants as done-answer
-use Rattle.machine_model.specs.declared.IssueAnswer.{IssueAnswer}
-use Rattle.machine_model.specs.declared.IssueAnswer.TheVariants as issue-answer
-use Rattle.machine_model.specs.declared.ExecuteAnswer.{ExecuteAnswer}
-use Rattle.machine_model.specs.declared.ExecuteAnswer.TheVariants as execute-answer
-use Rattle.machine_model.specs.declared.CommitAnswer.{CommitAnswer}
-use Rattle.machine_model.specs.declared.CommitAnswer.TheVariants as commit-answer
-use Rattle.machine_model.specs.declared.FinishAnswer.{FinishAnswer}
-use Rattle.machine_model.specs.declared.FinishAnswer.TheVariants as finish-answer
+use Rattle.machine_model.specs.declared.Committed.{Committed}
 use Rattle.machine_model.specs.Window.{blank_entry, reference}
 use Rattle.machine_model.specs.Program.{registers_most}
 use Rattle.machine_model.specs.Over
 use Rattle.machine_model.specs.Over.{Realization}
 use Rattle.machine_model.specs.Calls.{Opening, banked, buffered, Plain, Call, Answer}
 
--- 01's numbers and values for each case of the code's answers
+-- what the calls answer, in 01's numbers and values
 
-abbrev pub done_says : DoneAnswer → Answer
-done_says (done-answer.Refused k) = refused k
-done_says done-answer.Done = done
+-- of opening and of squash
+abbrev pub done_says : Result ⊤ Refusal → Answer
+done_says = says (λ (u : ⊤). done)
 
-abbrev pub issue_says : IssueAnswer → Answer
-issue_says (issue-answer.Refused k) = refused k
-issue_says (issue-answer.Issued p) = named p
+-- the position issued
+abbrev pub issue_says : Result ℕ Refusal → Answer
+issue_says = says named
 
-abbrev pub squash_says : Squashed → Option ℕ
-squash_says squashed.Nothing = none
-squash_says (squashed.From p) = some p
+abbrev pub execute_says : Result (Executed ℕ) Refusal → Answer
+execute_says = says says_executed
 
-abbrev pub execute_says : ExecuteAnswer → Answer
-execute_says (execute-answer.Refused k) = refused k
-execute_says (execute-answer.Executed v d s) = executed v d (squash_says s)
+abbrev pub commit_says : Result Committed Refusal → Answer
+commit_says = says (λ (c : Committed). committed c.index c.code c.target c.value c.distance)
 
-abbrev pub commit_says : CommitAnswer → Answer
-commit_says (commit-answer.Refused k) = refused k
-commit_says (commit-answer.Committed i c r v d) = committed i c r v d
-
-abbrev pub finish_says : FinishAnswer → Answer
-finish_says (finish-answer.Refused k) = refused k
-finish_says (finish-answer.Finished n) = finished n
+-- the number of commits
+abbrev pub finish_says : Result ℕ Refusal → Answer
+finish_says = says finished
 
 -- the entry at position p of a machine's window
 abbrev pub entry_of : Machine → ℕ → Entry

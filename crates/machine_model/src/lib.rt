@@ -21,8 +21,8 @@ pub const PROGRAM: usize = INSTRUCTIONS * PER_INSTRUCTION;
 // The places of a finish's list that a commit takes.
 pub const PER_COMMIT: usize = 5;
 
-// An instruction: codes 1 (A), 2 (P), 3 (L), 4 (S), 5 (B) and 6 (H), each with d, s and imm. Registers are bytes: so a window of
-// sixteen entries is copied in few moves.
+// An instruction: codes 1 (A), 2 (P), 3 (L), 4 (S), 5 (B) and 6 (H), each with d, s and imm. In a program, a script and a commit's
+// answer the code stays the number that 01 gives. Registers are bytes: so a window of sixteen entries is copied in few moves.
 #[derive(Clone, Copy)]
 pub enum Instruction {
     Add(u8, u8, u32),
@@ -35,7 +35,7 @@ pub enum Instruction {
 
 // What an instruction does: a register becomes a number, a register becomes a word of memory, a word becomes a register, a
 // word's part becomes a register's.
-#[derive(Clone, Copy)]
+#[derive(Clone, Copy, PartialEq, Eq)]
 pub enum Kind {
     Computing,
     Loading,
@@ -43,7 +43,8 @@ pub enum Kind {
     Merging,
 }
 
-// What became of an entry (its status): waiting, or executed with its value and address (of B and H the byte number).
+// What became of an entry (its status): waiting, or executed with its value and address (of B and H the byte number). 01 names
+// this enum.
 #[derive(Clone, Copy)]
 pub enum Fate {
     Waiting,
@@ -70,89 +71,19 @@ pub struct Machine {
     pub next: u32,
 }
 
-// From which position on entries were squashed, or that none was.
+// What `commit` answers: index, code, register (for S, B and H the address), value and distance (of L, else 0).
 #[derive(Clone, Copy)]
-pub enum Squashed {
-    Nothing,
-    From(usize),
+pub struct Committed {
+    pub index: u32,
+    pub code: u32,
+    pub target: u32,
+    pub value: u32,
+    pub distance: u32,
 }
 
-// The answer of `open` and `squash`: a refusal's number, or that it was done.
-#[derive(Clone, Copy)]
-pub enum DoneAnswer {
-    Refused(u32),
-    Done,
-}
-
-// The answer of `issue`: the new position.
-#[derive(Clone, Copy)]
-pub enum IssueAnswer {
-    Refused(u32),
-    Issued(usize),
-}
-
-// The answer of `execute`: the value and the distance (of a load, else 0), and what was squashed.
-#[derive(Clone, Copy)]
-pub enum ExecuteAnswer {
-    Refused(u32),
-    Executed(u32, u32, Squashed),
-}
-
-// The answer of `commit`: index, code, register (for S, B and H the address), value and distance (of L, else 0).
-#[derive(Clone, Copy)]
-pub enum CommitAnswer {
-    Refused(u32),
-    Committed(u32, u32, u32, u32, u32),
-}
-
-// The answer of `finish`: the number of commits.
-#[derive(Clone, Copy)]
-pub enum FinishAnswer {
-    Refused(u32),
-    Finished(usize),
-}
-
-#[derive(Clone, Copy)]
-pub struct DoneResult {
-    pub answer: DoneAnswer,
-    pub machine: Machine,
-}
-
-#[derive(Clone, Copy)]
-pub struct IssueResult {
-    pub answer: IssueAnswer,
-    pub machine: Machine,
-}
-
-#[derive(Clone, Copy)]
-pub struct ExecuteResult {
-    pub answer: ExecuteAnswer,
-    pub machine: Machine,
-}
-
-#[derive(Clone, Copy)]
-pub struct CommitResult {
-    pub answer: CommitAnswer,
-    pub machine: Machine,
-}
-
-#[derive(Clone, Copy)]
-pub struct FinishResult {
-    pub answer: FinishAnswer,
-    pub machine: Machine,
-}
-
-// An operand: the number, or that its writer has not executed.
-#[derive(Clone, Copy)]
-pub enum Operand {
-    Unknown,
-    Known(u32),
-}
-
-// What an execute at a position is refused with (7, 8 or 9), or 0 and then its stage, its entry and what that asks.
+// What is executed at a position: its stage, its entry and what that asks.
 #[derive(Clone, Copy)]
 pub struct Asked {
-    pub why: u32,
     pub stage: usize,
     pub entry: Entry,
     pub action: Action,

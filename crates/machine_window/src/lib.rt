@@ -1,21 +1,29 @@
-// The window held to its table and to the program (`validate`, which every call asks first, over lent arrays), and what an
-// execute asks of the window alone (`asked_at`), with the search for operands. Inner: the functions require what their callers
-// have shown; `validate` asks only the lengths of lent arrays.
+// The window held to its table and to the program (`validate`, which every call asks first), and what an execute asks of the
+// window alone (`asked_at`), with the search for operands. Inner: a machine is lent, so that no call copies it, and the functions
+// require what their callers have shown; `validate` asks nothing.
 #![tactic(auto)]
 
-ghost use Rattle.std.specs.Prelude.{◌≡◌, ℕ, ◌≤◌, ◌<◌, length, get_or};
+ghost use Rattle.std.specs.Prelude.{◌≡◌, ℕ, ◌≤◌, ◌<◌, get_or, length, IfOk, OnOk};
 ghost use Rattle.std.proofs.Math.Option.{some};
 ghost use Rattle.marks.specs.Circle.{stage};
-ghost use Rattle.machine_model.specs.Window.{blank_entry, value_of};
-ghost use Rattle.machine_laws.specs.Computed.Parts.{destination_at, writer, as_number, marks_at, mark_number};
-ghost use Rattle.machine_laws.specs.Computed.Parts.{agrees_by, agreeing_by, fitting_by, validate_by, OperandsExist, asked_of};
-ghost use Rattle.machine_laws.specs.Computed.Parts.{asked_number};
-ghost use Rattle.table.specs.Limits.{banks_most, slots, stages_most};
 ghost use Rattle.table.specs.Bank.{bank};
+ghost use Rattle.table.specs.Limits.{stages_most};
+ghost use Rattle.lookup.specs.Computed.Search.{one_more};
+ghost use Rattle.engine.specs.Answers.{as_option, turned_down};
+ghost use Rattle.machine_model.specs.Contract.{kind_of, place_of};
+ghost use Rattle.machine_model.specs.Program.{registers_most};
+ghost use Rattle.machine_model.specs.Tests.{validate_of};
+ghost use Rattle.machine_model.specs.Window.{blank_entry, reference, register_seen, value_of};
+ghost use Rattle.machine_laws.specs.Computed.Steps.{Sized};
+ghost use Rattle.machine_laws.specs.Computed.Kinds.{access_number};
+ghost use Rattle.machine_laws.specs.Computed.Parts.{destination_at, writer, marks_at, mark_number, agrees_by, agreeing_by};
+ghost use Rattle.machine_laws.specs.Computed.Parts.{fitting_by, OperandsExist, entries_of, asked_of, asked_number};
 
-use engine::Action;
-use machine_model::{Asked, Entry, Fate, Instruction, Operand, PER_INSTRUCTION, REGISTERS};
-use table::{ROWS, SLOTS, STAGES};
+use engine::Refusal;
+use machine_model::{Asked, Entry, Fate, Kind, Machine, PER_INSTRUCTION, REGISTERS};
+use marks::Circle;
+use table::{ROWS, STAGES};
+use table_rules::Fitted;
 
 // The stages with a load mark and with a store mark in rows of one address.
 #[derive(Clone, Copy)]
@@ -25,77 +33,52 @@ struct Marks {
 }
 
 // Those of address `a`. Every row of its bank is read: an early exit would be a branch to guess.
-fn marks_at<'a>(
-    banks: usize,
-    addresses: &'a [u32; SLOTS],
-    loads: &'a [u32; SLOTS],
-    stores: &'a [u32; SLOTS],
-    a: u32,
-) -> Marks
-    requires banks_nonzero { (0 < banks) × (banks ≤ banks_most) }
-    requires addresses_len { (length addresses.now ≡ slots) × (length loads.now ≡ slots) × (length stores.now ≡ slots) }
-    ensures { (result.loads ≡ marks_at addresses.now loads.now (bank banks a) a)
-        × (result.stores ≡ marks_at addresses.now stores.now (bank banks a) a) }
+fn marks_at(t: Fitted, a: u32) -> Marks
+    ensures { let t = t.entry.table.now in
+        (result.loads ≡ marks_at t.addresses t.loads (bank t.banks a) a)
+        × (result.stores ≡ marks_at t.addresses t.stores (bank t.banks a) a) }
 {
-    let first = table_rules::bank_of(banks, a) * ROWS;
-    let mut load: u32 = 0;
-    let mut store: u32 = 0;
-    let mut i = 0;
-    while i < ROWS {
+    let table = t.table;
+    let first = table_rules::bank_of(table.banks, a) * ROWS;
+    let mut loads = 0;
+    let mut stores = 0;
+    for i in 0..ROWS {
         let r = first + i;
-        if addresses[r] == a {
-            load = load | loads[r];
-            store = store | stores[r];
+        if table.addresses[r] == a {
+            loads |= table.loads[r];
+            stores |= table.stores[r];
         }
-        i += 1;
     }
-    Marks {
-        loads: load,
-        stores: store,
+    Marks { loads, stores }
+}
+
+// What an entry with these marks did.
+fn mark_kind(load: bool, store: bool) -> Kind
+    ensures { access_number result ≡ mark_number load store }
+{
+    match (load, store) {
+        (false, false) => Kind::Computing,
+        (true, false) => Kind::Loading,
+        (false, true) => Kind::Storing,
+        (true, true) => Kind::Merging,
     }
 }
 
-// The kind of an access with these marks; 0 with neither.
-fn mark_number(load: bool, store: bool) -> u32
-    ensures { result ≡ mark_number load store }
+// Whether an entry agrees with what the table's marks say of its stage `s`, where `marked` are the stages with a mark.
+fn stage_agrees(t: Fitted, marked: u32, e: Entry, s: usize) -> bool
+    requires { s < stages_most }
+    ensures { let t = t.entry.table.now in
+        result ≡ agrees_by t.banks t.executed marked t.addresses t.loads t.stores (kind_of (reference e)) (place_of (reference e)) s }
 {
-    if load {
-        if store {
-            return 3;
+    let executed = t.table.executed;
+    match machine_isa::entry_kind(e) {
+        None => !marks::contains(executed, s),
+        Some(Kind::Computing) => marks::contains(executed, s) & !marks::contains(marked, s),
+        Some(kind) => {
+            let at = marks_at(t, machine_isa::entry_place(e));
+            kind == mark_kind(marks::contains(at.loads, s), marks::contains(at.stores, s))
         }
-        return 1;
     }
-    if store {
-        return 2;
-    }
-    0
-}
-
-// Whether an entry of this kind and address agrees with what the table's marks say of its stage `s`.
-fn stage_agrees<'a>(
-    banks: usize,
-    executed: u32,
-    marked: u32,
-    addresses: &'a [u32; SLOTS],
-    loads: &'a [u32; SLOTS],
-    stores: &'a [u32; SLOTS],
-    kind: u32,
-    place: u32,
-    s: usize,
-) -> bool
-    requires banks_nonzero { (0 < banks) × (banks ≤ banks_most) × (s < stages_most) }
-    requires addresses_len { (length addresses.now ≡ slots) × (length loads.now ≡ slots) × (length stores.now ≡ slots) }
-    ensures { result
-        ≡ agrees_by banks executed marked addresses.now loads.now stores.now kind place s }
-{
-    if kind == 4 {
-        return !marks::contains(executed, s);
-    }
-    if kind == 0 {
-        return marks::contains(executed, s) & !marks::contains(marked, s);
-    }
-    let at = marks_at(banks, addresses, loads, stores, place);
-    mark_number(marks::contains(at.loads, s), marks::contains(at.stores, s)) == kind
 }
 
 // What one pass over the live entries says: whether window and table agree on them (executed or not, at which address and
@@ -107,203 +90,166 @@ struct Pass {
 }
 
 // That pass. It is safe for any program: what it says of one counts once the program is checked.
-fn pass_over<'a>(
-    banks: usize,
-    oldest: usize,
-    stages: usize,
-    live: usize,
-    executed: u32,
-    addresses: &'a [u32; SLOTS],
-    loads: &'a [u32; SLOTS],
-    stores: &'a [u32; SLOTS],
-    window: [Entry; STAGES],
-    program: &[u32],
-) -> Pass
-    requires banks_nonzero { (0 < banks) × (banks ≤ banks_most) × (oldest < stages) × (live ≤ stages) × (stages ≤ stages_most) }
-    requires addresses_len { (length addresses.now ≡ slots) × (length loads.now ≡ slots) × (length stores.now ≡ slots) }
-    ensures agrees_value { result.agrees ≡ agreeing_by banks oldest stages executed addresses.now loads.now
-        stores.now window live }
-    ensures fits_value { result.fits ≡ fitting_by program.now oldest stages window live }
+fn pass_over(t: Fitted, window: &[Entry; STAGES], program: &[u32]) -> Pass
+    ensures agrees_value { let t = t.entry.table.now in
+        result.agrees
+        ≡ agreeing_by t.banks t.oldest t.stages t.executed t.addresses t.loads t.stores window.now t.live }
+    ensures fits_value { let t = t.entry.table.now in
+        result.fits ≡ fitting_by program.now t.oldest t.stages window.now t.live }
+    ensures long { length window.now ≡ stages_most }
 {
-    let marked = table_rules::marks_from(loads, stores, 0, banks * ROWS);
+    let table = t.table;
+    let circle = t.circle();
+    let marked = table_rules::marks_from(table, 0, table.banks * ROWS);
     let mut agrees = true;
     let mut fits = true;
-    let mut p = 0;
-    while p < live {
-        let s = marks::stage_at(oldest, stages, p);
+    for p in 0..table.live {
+        let s = circle.stage_at(p);
         let e = window[s];
-        let kind = machine_isa::entry_kind(e);
-        let place = machine_isa::entry_place(e);
-        agrees = agrees
-            & stage_agrees(
-                banks, executed, marked, addresses, loads, stores, kind, place, s,
-            );
-        fits = fits & machine_isa::entry_fits(program, e);
-        p += 1;
+        agrees &= stage_agrees(t, marked, e, s);
+        fits &= machine_isa::entry_fits(program, e);
     }
     Pass { agrees, fits }
 }
 
-// Which of the conditions 2, 3 and 4 holds first, of a machine with these parts and a call lent a memory of this length; 0:
-// none.
-pub fn validate<'a>(
-    banks: usize,
-    rows: usize,
-    stages: usize,
-    words: usize,
-    oldest: usize,
-    live: usize,
-    executed: u32,
-    addresses: &'a [u32; SLOTS],
-    loads: &'a [u32; SLOTS],
-    stores: &'a [u32; SLOTS],
-    window: [Entry; STAGES],
-    count: u32,
-    program: &[u32],
-    lent: usize,
-) -> u32
-    requires { (length addresses.now ≡ slots) × (length loads.now ≡ slots) × (length stores.now ≡ slots) }
-    ensures { result ≡ validate_by banks rows stages words oldest live executed addresses.now loads.now
-        stores.now window count program.now lent }
+// Which of the conditions 2, 3 and 4 holds first, of a call lent a memory of this length; else the machine's table, which fits
+// its sizes.
+pub fn validate<'a>(m: &'a Machine, program: &[u32], lent: usize) -> Result<Fitted<'a>, Refusal>
+    ensures number { turned_down result ≡ validate_of m.now program.now lent }
+    ensures table { IfOk result (λ f. f.table.now ≡ m.now.table) }
+    ensures sized { OnOk result (Sized m.now) }
 {
-    if !table_rules::keeps_rules(
-        banks, rows, stages, words, oldest, live, executed, addresses, loads, stores,
-    ) {
-        return 2;
-    }
-    let pass = pass_over(
-        banks, oldest, stages, live, executed, addresses, loads, stores, window, program,
-    );
+    let table = Fitted::of(&m.table).ok_or(Refusal::Rules)?;
+    let pass = pass_over(table, &m.window, program);
     if !pass.agrees {
-        return 2;
+        return Err(Refusal::Rules);
     }
-    if lent != words {
-        return 3;
+    if lent != m.table.words {
+        return Err(Refusal::Memory);
     }
     if !machine_isa::program_fits(program) {
-        return 4;
+        return Err(Refusal::Program);
     }
-    if program.len() != PER_INSTRUCTION * (count as usize) {
-        return 4;
+    if program.len() != PER_INSTRUCTION * (m.count as usize) {
+        return Err(Refusal::Program);
     }
     if !pass.fits {
-        return 4;
+        return Err(Refusal::Program);
     }
-    0
+    Ok(table)
 }
 
-// The registers that the entries before position `p` write, by position: what the search for a writer reads.
-fn destinations(window: [Entry; STAGES], oldest: usize, stages: usize, p: usize) -> [u32; STAGES]
-    requires { (oldest < stages) × (stages ≤ stages_most) × (p ≤ stages) }
-    ensures { (q : ℕ) → q < p → get_or result q 0 ≡ destination_at window oldest stages q }
+// The position of the nearest older writer of register `k`: the search goes on at the next older position.
+fn writer_of(into: &[u32; STAGES], k: u32, p: usize) -> Option<usize>
+    requires { p ≤ stages_most }
+    ensures { (one_more result ≤ p) × (one_more result ≡ writer into.now k p) }
 {
-    let mut into = [0u32; STAGES];
-    let mut q = 0;
-    while q < p {
-        let e = window[marks::stage_at(oldest, stages, q)];
-        let i = e.instruction;
-        into[q] = machine_isa::destination_of(i);
-        q += 1;
+    let q = p.checked_sub(1)?;
+    if into[q] == k {
+        return Some(q);
     }
-    into
-}
-
-// One more than the position of the nearest older writer of register `k`, or 0: the search goes on at the next older position.
-fn writer_of(into: &[u32; STAGES], k: u32, p: usize) -> usize
-    requires { (p ≤ stages_most) × (length into.now ≡ stages_most) }
-    ensures { (result ≤ p) × (result ≡ writer into.now k p) }
-{
-    if p == 0 {
-        return 0;
-    }
-    if into[p - 1] == k {
-        return p;
-    }
-    writer_of(into, k, p - 1)
+    writer_of(into, k, q)
 }
 
 // What an entry's register holds: its value, once it has executed.
-fn operand_of(e: Entry) -> Operand
-    ensures { as_number result ≡ value_of e.fate }
+fn operand_of(e: Entry) -> Option<u32>
+    ensures { as_option result ≡ value_of e.fate }
 {
-    let fate = e.fate;
-    match fate {
-        Fate::Waiting => Operand::Unknown,
-        Fate::Executed(v, _) => Operand::Known(v),
+    match e.fate {
+        Fate::Waiting => None,
+        Fate::Executed(v, _) => Some(v),
     }
 }
 
-// Refused with this number.
-fn unasked(why: u32) -> Asked
-    ensures { result.why ≡ why }
-{
-    Asked {
-        why,
-        stage: 0,
-        entry: Entry {
-            instruction: Instruction::Add(0, 0, 0),
-            index: 0,
-            fate: Fate::Waiting,
-            distance: 0,
-        },
-        action: Action::Compute(0),
+// A machine whose window lies in its table's stages, lent: what the search for operands goes by.
+#[derive(Clone, Copy)]
+struct Held<'a> {
+    machine: &'a Machine,
+    ghost starts: { machine.now.table.oldest < machine.now.table.stages },
+    ghost narrow: { machine.now.table.stages ≤ stages_most },
+}
+
+impl Held<'_> {
+    // The circle of its table's stages.
+    fn circle(self) -> Circle
+        ensures { let t = self.entry.machine.now.table in (result.oldest ≡ t.oldest) × (result.stages ≡ t.stages) }
+    {
+        table_rules::circle_of(&self.machine.table)
+    }
+
+    // The entry at position `p`.
+    fn entry_at(self, p: usize) -> Entry
+        requires { p < self.machine.now.table.stages }
+        ensures { let m = self.entry.machine.now in
+            result ≡ get_or m.window (stage m.table.oldest m.table.stages p) blank_entry }
+    {
+        self.machine.window[self.circle().stage_at(p)]
+    }
+
+    // The registers that the entries before position `p` write, by position: what the search for a writer reads.
+    fn destinations(self, p: usize) -> [u32; STAGES]
+        requires { p ≤ self.machine.now.table.stages }
+        ensures { let m = self.entry.machine.now in
+            (q : ℕ) → q < p → get_or result q 0 ≡ destination_at m.window m.table.oldest m.table.stages q }
+    {
+        let mut into = [0; STAGES];
+        for q in 0..p {
+            let e = self.entry_at(q);
+            into[q] = machine_isa::destination_of(e.instruction).unwrap_or(REGISTERS as u32);
+        }
+        into
+    }
+
+    // What register `k` holds for the entry at position `p`, if it is known: the value of its nearest older writer, or what is
+    // committed where there is none.
+    fn operand_at(self, into: &[u32; STAGES], k: u32, p: usize) -> Option<u32>
+        requires within { (k < registers_most) × (p ≤ self.machine.now.table.stages) }
+        requires packed { let m = self.machine.now in
+            (q : ℕ) → q < p → get_or into.now q 0 ≡ destination_at m.window m.table.oldest m.table.stages q }
+        ensures { let m = self.entry.machine.now in
+            as_option result
+            ≡ register_seen (entries_of m.window m.table.oldest m.table.stages p) k (some (get_or m.registers k 0)) }
+    {
+        match writer_of(into, k, p) {
+            Some(q) => operand_of(self.entry_at(q)),
+            None => Some(self.machine.registers[k as usize]),
+        }
     }
 }
 
-// Which of the conditions 7, 8 and 9 turns down an execute at position `p` of `live` entries; where none does (0), its stage, its
-// entry and what that asks. Both operands are searched for in one array of destinations, and the window is read in place: a
-// function for an operand would copy it.
-pub fn asked_at(
-    window: [Entry; STAGES],
-    registers: [u32; REGISTERS],
-    oldest: usize,
-    stages: usize,
-    live: usize,
-    p: usize,
-) -> Asked
-    requires oldest_lt_stages { (oldest < stages) × (live ≤ stages) × (stages ≤ stages_most) }
-    requires operands_exist { p < live → OperandsExist (get_or window (stage oldest stages p) blank_entry).instruction }
-    ensures why_value { result.why ≡ asked_number window registers oldest stages live p }
-    ensures stage_value { result.why ≡ 0 → (result.stage ≡ stage oldest stages p)
-        × (result.entry ≡ get_or window (stage oldest stages p) blank_entry)
-        × (asked_of window registers oldest stages p ≡ some result.action) }
+// What an execute at position `p` asks; refused where one of the conditions 7, 8 and 9 holds.
+pub fn asked_at(m: &Machine, p: usize) -> Result<Asked, Refusal>
+    requires within { let t = m.now.table in (t.oldest < t.stages) × (t.live ≤ t.stages) × (t.stages ≤ stages_most) }
+    requires operands_exist { let t = m.now.table in
+        p < t.live → OperandsExist (get_or m.now.window (stage t.oldest t.stages p) blank_entry).instruction }
+    ensures number { let t = m.now.table in
+        turned_down result ≡ asked_number m.now.window m.now.registers t.oldest t.stages t.live p }
+    ensures asked { let t = m.now.table in
+        IfOk result
+        (λ a. (a.stage ≡ stage t.oldest t.stages p)
+        × (a.entry ≡ get_or m.now.window (stage t.oldest t.stages p) blank_entry)
+        × (asked_of m.now.window m.now.registers t.oldest t.stages p ≡ some a.action)) }
 {
-    if p >= live {
-        return unasked(7);
+    if p >= m.table.live {
+        return Err(Refusal::Unnamed);
     }
-    let s = marks::stage_at(oldest, stages, p);
-    let entry = window[s];
+    let held = Held { machine: m };
+    let stage = held.circle().stage_at(p);
+    let entry = m.window[stage];
     if !machine_isa::is_pending(entry) {
-        return unasked(8);
+        return Err(Refusal::Executed);
     }
     let i = entry.instruction;
-    let into = destinations(window, oldest, stages, p);
-    let k = machine_isa::s_of(i);
-    let w = writer_of(&into, k, p);
-    let first = if w == 0 {
-        Operand::Known(registers[k as usize])
-    } else {
-        let e = window[marks::stage_at(oldest, stages, w - 1)];
-        operand_of(e)
-    };
-    let j = machine_isa::second_of(i);
-    let v = writer_of(&into, j, p);
-    let other = if v == 0 {
-        Operand::Known(registers[j as usize])
-    } else {
-        let e = window[marks::stage_at(oldest, stages, v - 1)];
-        operand_of(e)
-    };
-    match first {
-        Operand::Unknown => unasked(9),
-        Operand::Known(x) => match other {
-            Operand::Unknown => unasked(9),
-            Operand::Known(y) => Asked {
-                why: 0,
-                stage: s,
-                entry,
-                action: machine_isa::action_of(i, x, y),
-            },
-        },
-    }
+    let into = held.destinations(p);
+    let x = held
+        .operand_at(&into, machine_isa::s_of(i), p)
+        .ok_or(Refusal::Operand)?;
+    let y = held
+        .operand_at(&into, machine_isa::second_of(i), p)
+        .ok_or(Refusal::Operand)?;
+    Ok(Asked {
+        stage,
+        entry,
+        action: machine_isa::action_of(i, x, y),
+    })
 }

@@ -46,53 +46,69 @@ pub fn highest(word: u32) -> usize
     WIDTH - 1 - u32::leading_zeros(word) as usize
 }
 
-// The stage at position `p` of a window that starts at stage `oldest` of `stages`.
-pub fn stage_at(oldest: usize, stages: usize, p: usize) -> usize
-    requires { (oldest < stages) × (p ≤ stages) × (stages ≤ width) }
-    ensures { result ≡ stage oldest stages p }
-{
-    let sum = oldest + p;
-    if sum < stages { sum } else { sum - stages }
+// The circle of `stages` stages of a window, whose positions count from stage `oldest` on.
+#[derive(Clone, Copy)]
+pub struct Circle {
+    pub oldest: usize,
+    pub stages: usize,
+    pub ghost starts: { oldest < stages },
+    pub ghost narrow: { stages ≤ width },
 }
 
-// The position of stage `s` in that window.
-pub fn position_of(oldest: usize, stages: usize, s: usize) -> usize
-    requires { (oldest < stages) × (s < stages) × (stages ≤ width) }
-    ensures { result ≡ position oldest stages s }
-{
-    if oldest <= s {
-        s - oldest
-    } else {
-        s + stages - oldest
+impl Circle {
+    // The stage at position `p`.
+    pub fn stage_at(self, p: usize) -> usize
+        requires { p ≤ self.stages }
+        ensures { result ≡ stage self.oldest self.stages p }
+    {
+        let sum = self.oldest + p;
+        if sum < self.stages {
+            sum
+        } else {
+            sum - self.stages
+        }
     }
-}
 
-// The set of the stages at the first `count` positions: as many ones from bit `oldest` on, turned in `stages` bits. What
-// passes bit `stages` comes back at bit 0. The empty set stands apart, and the way back takes two shifts, so that no shift is
-// by WIDTH where `stages` is WIDTH.
-pub fn first_stages(oldest: usize, stages: usize, count: usize) -> u32
-    requires { (oldest < stages) × (count ≤ stages) × (stages ≤ width) }
-    ensures { result ≡ firsts oldest stages count }
-{
-    if count == 0 {
-        return 0;
+    // The position of stage `s`.
+    pub fn position_of(self, s: usize) -> usize
+        requires { s < self.stages }
+        ensures { result ≡ position self.oldest self.stages s }
+    {
+        if self.oldest <= s {
+            s - self.oldest
+        } else {
+            s + self.stages - self.oldest
+        }
     }
-    let all = ONES >> (WIDTH - stages);
-    let run = all >> (stages - count);
-    ((run << oldest) & all) | ((run >> (stages - 1 - oldest)) >> 1)
-}
 
-// The set `word` as a set of positions, of the first `count` alone: its first `stages` bits, turned in as many bits so that
-// bit 0 is that of stage `oldest`. What stands below that bit comes after the last stage's, by two shifts, so that here too
-// no shift is by WIDTH.
-pub fn turned(oldest: usize, stages: usize, count: usize, word: u32) -> u32
-    requires { (oldest < stages) × (count ≤ stages) × (stages ≤ width) }
-    ensures { result ≡ turned oldest stages word count }
-{
-    if count == 0 {
-        return 0;
+    // The set of the stages at the first `count` positions: as many ones from bit `oldest` on, turned in `stages` bits. What
+    // passes bit `stages` comes back at bit 0. The empty set stands apart, and the way back takes two shifts, so that no shift
+    // is by WIDTH where `stages` is WIDTH.
+    pub fn first_stages(self, count: usize) -> u32
+        requires { count ≤ self.stages }
+        ensures { result ≡ firsts self.oldest self.stages count }
+    {
+        if count == 0 {
+            return 0;
+        }
+        let all = ONES >> (WIDTH - self.stages);
+        let run = all >> (self.stages - count);
+        ((run << self.oldest) & all) | ((run >> (self.stages - 1 - self.oldest)) >> 1)
     }
-    let all = ONES >> (WIDTH - stages);
-    let set = word & all;
-    ((set >> oldest) | ((set << (stages - 1 - oldest)) << 1)) & (all >> (stages - count))
+
+    // The set `word` as a set of positions, of the first `count` alone: its first `stages` bits, turned in as many bits so that
+    // bit 0 is that of stage `oldest`. What stands below that bit comes after the last stage's, by two shifts, so that here too
+    // no shift is by WIDTH.
+    pub fn turned(self, count: usize, word: u32) -> u32
+        requires { count ≤ self.stages }
+        ensures { result ≡ turned self.oldest self.stages word count }
+    {
+        if count == 0 {
+            return 0;
+        }
+        let all = ONES >> (WIDTH - self.stages);
+        let set = word & all;
+        ((set >> self.oldest) | ((set << (self.stages - 1 - self.oldest)) << 1))
+            & (all >> (self.stages - count))
+    }
 }

@@ -1,13 +1,32 @@
-// What the benchmark's mixes of calls share: the draws, the checksum with one more number, and a table spoiled. The mixes are
-// in mixes_buffer and mixes_machine. What is promised is that every function ends and stays inside its arrays, and of two draws
-// the bounds that this asks for; the numbers drawn and summed are held to those of the same in C (benchmarks/inplace.c) by
-// tests/answers.
+// What the benchmark's mixes of calls share: their sizes, the draws, the checksum with what a call answered, and a table spoiled.
+// The mixes are in mixes_buffer and mixes_machine. What is promised is that every function ends and stays inside its arrays,
+// which numbers of an answer are summed, and bounds of draws; the numbers drawn and summed are held to those of the same in C
+// (benchmarks/inplace.c) by tests/answers.
 #![tactic(auto)]
 
-ghost use Rattle.std.specs.Prelude.{◌<◌};
+ghost use Rattle.std.specs.Prelude.{◌≡◌, List, [], ◌∷◌, ℕ, ◌<◌};
+ghost use Rattle.mixes.specs.Sums.{with, with_all, answer_numbers, executed_numbers};
 ghost use Rattle.table.specs.Limits.{stages_most};
 
-use table::{BANKS, ROWS, SLOTS, STAGES, Table};
+use engine::{Executed, Refusal};
+use table::{BANKS, ROWS, SLOTS, STAGES, Table, Ticket};
+
+// The sizes of a table.
+#[derive(Clone, Copy)]
+pub struct Sizes {
+    pub banks: usize,
+    pub rows: usize,
+    pub stages: usize,
+    pub words: usize,
+}
+
+// In the turn after which `when` are left one part of the state, by its number in C, is changed.
+#[derive(Clone, Copy)]
+pub struct Spoiling {
+    pub when: u32,
+    pub part: usize,
+    pub by: usize,
+}
 
 // What the stages and the oldest's stage of a spoiled table are below: each grows by less than the most stages.
 const SPOILED: usize = 2 * STAGES;
@@ -28,39 +47,84 @@ pub fn word_drawn(drawn: usize) -> u32 {
 }
 
 // The checksum with one more number: turned left by one, plus the number.
-pub fn with(sum: u64, x: u64) -> u64 {
-    let twice = std::num::wrapping_add_u64(sum, sum);
-    let turned = std::num::wrapping_add_u64(twice, sum / 9223372036854775808);
-    std::num::wrapping_add_u64(turned, x)
+pub fn with(sum: u64, x: u64) -> u64
+    ensures { result ≡ with sum x }
+{
+    sum.rotate_left(1).wrapping_add(x)
 }
 
-// The numbers of an answer: how many, at most five, and they.
-#[derive(Clone, Copy)]
-pub struct Tally(pub usize, pub u64, pub u64, pub u64, pub u64, pub u64);
+// The checksum with several numbers, in their order.
+pub fn with_all(sum: u64, numbers: &[u64]) -> u64
+    ensures { result ≡ with_all sum numbers.now }
+{
+    let mut all = sum;
+    for &x in numbers {
+        all = with(all, x);
+    }
+    all
+}
 
-// The checksum with the numbers of an answer.
-pub fn with_all(sum: u64, tally: Tally) -> u64 {
-    let count = tally.0;
-    if count == 0 {
-        return sum;
+// What an accepted call answers, as numbers of the checksum.
+pub trait Summed {
+    ghost numbers: { Self → List ℕ };
+
+    // The checksum with them.
+    fn summed(self, sum: u64) -> u64
+        ensures { result ≡ with_all sum (numbers self) };
+}
+
+impl Summed for () {
+    ghost numbers = { λ u. [] };
+
+    fn summed(self, sum: u64) -> u64 {
+        sum
     }
-    let one = with(sum, tally.1);
-    if count == 1 {
-        return one;
+}
+
+impl Summed for u32 {
+    ghost numbers = { λ x. x ∷ [] };
+
+    fn summed(self, sum: u64) -> u64 {
+        with(sum, u64::from(self))
     }
-    let two = with(one, tally.2);
-    if count == 2 {
-        return two;
+}
+
+impl Summed for usize {
+    ghost numbers = { λ x. x ∷ [] };
+
+    fn summed(self, sum: u64) -> u64 {
+        with(sum, self as u64)
     }
-    let three = with(two, tally.3);
-    if count == 3 {
-        return three;
+}
+
+impl Summed for Ticket {
+    ghost numbers = { λ t. t.stage ∷ t.number ∷ [] };
+
+    fn summed(self, sum: u64) -> u64 {
+        self.number.summed(self.stage.summed(sum))
     }
-    let four = with(three, tally.4);
-    if count == 4 {
-        return four;
+}
+
+impl<N: Summed + Copy> Summed for Executed<N> {
+    ghost numbers = { executed_numbers N.numbers };
+
+    fn summed(self, sum: u64) -> u64 {
+        let sum = self.distance.summed(self.value.summed(sum));
+        match self.squashed {
+            None => sum,
+            Some(from) => from.summed(sum),
+        }
     }
-    with(four, tally.5)
+}
+
+// The checksum with an answer: a refusal's number, or 100 and what the answer carries.
+pub fn with_answer<A: Summed + Copy>(sum: u64, answer: Result<A, Refusal>) -> u64
+    ensures { result ≡ with_all sum (answer_numbers A.numbers answer) }
+{
+    match answer {
+        Ok(accepted) => accepted.summed(with(sum, 100)),
+        Err(refusal) => refusal.number().summed(sum),
+    }
 }
 
 // One of sixteen addresses, spread over the banks; half of the draws give one of three.
@@ -71,53 +135,45 @@ pub fn address_drawn(drawn: usize) -> u32
 }
 
 // The stage at position `p`; of a table that breaks its rules any stage will do.
-pub fn stage_drawn(oldest: usize, stages: usize, p: usize) -> usize
+pub fn stage_drawn(t: &Table, p: usize) -> usize
     ensures { result < stages_most }
 {
-    if stages == 0 {
+    if t.stages == 0 {
         return 0;
     }
-    std::num::wrapping_add_usize(oldest, p) % stages % STAGES
+    t.oldest.wrapping_add(p) % t.stages % STAGES
 }
 
 // The position to execute or squash: the drawn one, or the oldest where it has executed or none is live.
-pub fn position_drawn(
-    oldest: usize,
-    stages: usize,
-    live: usize,
-    executed: u32,
-    drawn: usize,
-) -> usize {
-    if live == 0 {
+pub fn position_drawn(t: &Table, drawn: usize) -> usize
+    ensures { 0 < t.now.live → result < t.now.live }
+{
+    if t.live == 0 {
         return 0;
     }
-    let p = drawn % live;
-    if (executed >> stage_drawn(oldest, stages, p)) % 2 == 1 {
+    let p = drawn % t.live;
+    if (t.executed >> stage_drawn(t, p)) % 2 == 1 {
         return 0;
     }
     p
 }
 
-// The number off which kind, ticket and position of a turn of the buffer are read: the one drawn, or in falling order one that
-// stands for the turn that is due. In that order a window is issued whole, executed from its youngest reference down to its
-// oldest, and committed: every mark is younger than what executes, so that it evicts where no row is free.
-pub fn turn_drawn(
-    falling: usize,
-    oldest: usize,
-    stages: usize,
-    live: usize,
-    executed: u32,
-    drawn: usize,
-) -> usize {
-    if falling == 0 {
-        return drawn;
-    }
+// The number off which kind, ticket and position of a turn in falling order are read: one that stands for the turn that is due.
+// In that order a window is issued whole, executed from its youngest reference down to its oldest, and committed: every mark is
+// younger than what executes, so that it evicts where no row is free.
+pub fn falling_drawn(t: &Table, drawn: usize) -> usize {
+    let &Table {
+        stages,
+        oldest,
+        live,
+        ..
+    } = t;
     // The executed stages, turned so that bit p is position p, with a bit after the last live one. The remainders are for tables
     // that break their rules.
-    let set = executed as u64;
+    let set = u64::from(t.executed);
     let turned = (set | (set << (stages % SPOILED))) >> (oldest % SPOILED);
-    let waiting = (u64::trailing_zeros(turned | (1 << (live % 64))) % 64) as usize;
-    if (live == 0) | ((waiting == live) & (live < stages)) {
+    let waiting = ((turned | (1 << (live % 64))).trailing_zeros() % 64) as usize;
+    if live == 0 || (waiting == live && live < stages) {
         return 0;
     }
     if waiting == 0 {
@@ -128,97 +184,38 @@ pub fn turn_drawn(
 }
 
 // In a row of the table the marks of one kind come or go where there is one of the other, or one mark does.
-fn spoil_marks(t: Table, x: usize) -> Table {
-    let banks = t.banks;
-    let rows = t.rows;
-    let stages = t.stages;
-    let mut n = t;
-    if banks == 0 {
-        return n;
+fn spoil_marks(t: &mut Table, x: usize) {
+    if t.banks == 0 || t.rows == 0 || t.stages == 0 {
+        return;
     }
-    if rows == 0 {
-        return n;
+    let r = x % t.banks % BANKS * ROWS + x / 8 % t.rows % ROWS;
+    let bit = 1 << stage_drawn(t, x / 64);
+    match x / 8192 {
+        0 => t.loads[r] ^= t.stores[r],
+        1 => t.loads[r] ^= bit,
+        2 => t.stores[r] ^= t.loads[r],
+        _ => t.stores[r] ^= bit,
     }
-    if stages == 0 {
-        return n;
-    }
-    let r = x % banks % BANKS * ROWS + x / 8 % rows % ROWS;
-    let bit: u32 = 1 << stage_drawn(t.oldest, stages, x / 64);
-    let loads = n.loads[r];
-    let stores = n.stores[r];
-    if x < 8192 {
-        n.loads[r] = loads ^ stores;
-        return n;
-    }
-    if x < 16384 {
-        n.loads[r] = loads ^ bit;
-        return n;
-    }
-    if x < 24576 {
-        n.stores[r] = stores ^ loads;
-        return n;
-    }
-    n.stores[r] = stores ^ bit;
-    n
 }
 
-// A table with one number, the marks of one row or the words taken changed, which mostly breaks a rule; words never do. Sizes
-// wrap, so that they shrink too, also under a marked row; the row is any of the arrays', also one that the sizes do not give.
-pub fn spoil(t: Table, what: usize, x: usize) -> Table {
+// Changes one number of a table, the marks of one row or the words taken, which mostly breaks a rule; words never do. Sizes wrap,
+// so that they shrink too, also under a marked row; the row is any of the arrays', also one that the sizes do not give.
+pub fn spoil(t: &mut Table, part: usize, x: usize) {
     let r = x % SLOTS;
-    let bit: u32 = 1 << (x / SLOTS % STAGES);
-    let mut n = t;
-    if what == 0 {
-        n.banks = std::num::wrapping_add_usize(t.banks, x);
-        return n;
+    let bit = 1 << (x / SLOTS % STAGES);
+    match part {
+        0 => t.banks = t.banks.wrapping_add(x),
+        1 => t.rows = t.rows.wrapping_add(x),
+        2 => t.stages = t.stages.wrapping_add(x % 16),
+        3 => t.words = t.words.wrapping_add(x),
+        4 => t.oldest = t.oldest.wrapping_add(x % 16),
+        5 => t.live = x % 20,
+        6 => t.executed ^= bit,
+        7 => t.loads[r] ^= bit,
+        8 if x < 16384 => t.stores[r] ^= bit,
+        8 => t.stores[r] |= t.loads[r],
+        10 => spoil_marks(t, x),
+        11 => t.taken = [word_drawn(x); STAGES],
+        _ => t.addresses[r] = address_drawn(x / SLOTS),
     }
-    if what == 1 {
-        n.rows = std::num::wrapping_add_usize(t.rows, x);
-        return n;
-    }
-    if what == 2 {
-        n.stages = std::num::wrapping_add_usize(t.stages, x % 16);
-        return n;
-    }
-    if what == 3 {
-        n.words = std::num::wrapping_add_usize(t.words, x);
-        return n;
-    }
-    if what == 4 {
-        n.oldest = std::num::wrapping_add_usize(t.oldest, x % 16);
-        return n;
-    }
-    if what == 5 {
-        n.live = x % 20;
-        return n;
-    }
-    if what == 6 {
-        n.executed = t.executed ^ bit;
-        return n;
-    }
-    if what == 10 {
-        return spoil_marks(n, x);
-    }
-    if what == 11 {
-        let words = [word_drawn(x); STAGES];
-        n.taken = words;
-        return n;
-    }
-    if what == 7 {
-        let loads = n.loads[r];
-        n.loads[r] = loads ^ bit;
-        return n;
-    }
-    if (what == 8) & (x < 16384) {
-        let stores = n.stores[r];
-        n.stores[r] = stores ^ bit;
-        return n;
-    }
-    if what == 8 {
-        let stores = n.stores[r];
-        n.stores[r] = stores | n.loads[r];
-        return n;
-    }
-    n.addresses[r] = address_drawn(x / SLOTS);
-    n
 }

@@ -20,14 +20,14 @@ use Rattle.engine.specs.Conditions.{refusal}
 use Rattle.machine_model.specs.declared.Machine.{Machine}
 use Rattle.machine_model.specs.Program.{per_instruction, program_most}
 use Rattle.machine_model.specs.Calls.{Opening, banked, buffered, Plain, Answer, open_checks}
-use Rattle.machine_model.specs.Contract.{fresh_machine, tabled, Opens}
+use Rattle.machine_model.specs.Contract.{fresh_machine, Opens}
 use Rattle.machine_model.proofs.Opened.{fresh_sound, fresh_plain}
 use Rattle.sequential.specs.Play.{play, start}
 use Rattle.sequential.proofs.Owing.{Linked}
 use Rattle.theorem.proofs.Buffered.{buffer_owes}
 use Rattle.sequential.proofs.Linking.{linked_open}
-use Rattle.player_model.specs.declared.Found.{Found}
-use Rattle.player_model.specs.declared.Found.TheVariants.{Nothing, Four}
+use Rattle.player_model.specs.declared.Four.{Four}
+use Rattle.std.specs.Prelude.{Option, Some, None}
 use Rattle.player_model.specs.declared.Phase.TheVariants.{Over, Bad, Stepping}
 use Rattle.player_model.specs.declared.Player.{Player}
 use Rattle.script_model.specs.Language.{Body, Script, words_asked, unread, script}
@@ -75,7 +75,7 @@ unfolding sizes_fit
 unread_player text = refl
 
 -- a text with a bad first line
-module _ (text : List ℕ) (short : length text ≤ most) (none : header_of text ≡ Nothing) where
+module _ (text : List ℕ) (short : length text ≤ most) (none : header_of text ≡ None) where
   script_headless : script_of text ≡ unread
   script_headless = script_short text short ∙ script_unheaded text none
 
@@ -140,11 +140,11 @@ body_behind (suc fuel) s i p h =
     by_room (ltb (length p) program_most) refl (λ ns four. body_behind fuel s (suc i) (p ++ ns)
     (omega (arith, h, length-append p ns, four)))
   where
-    by_found : (f : Found) → found_at s (line_start s i) ≡ f → length p < program_most → More s i p → Behind s i p
-    by_found Nothing e room more = behind_none s i p (body_stop s p (line_start s i) (suc i) e)
-    by_found (Four code d r imm next) e room more =
-        let ns = code ∷ d ∷ r ∷ imm ∷ [] in
-        let b = body_four s p (line_start s i) (suc i) code d r imm next e room in
+    by_found : (f : Option Four) → found_at s (line_start s i) ≡ f → length p < program_most → More s i p → Behind s i p
+    by_found None e room more = behind_none s i p (body_stop s p (line_start s i) (suc i) e)
+    by_found (Some f) e room more =
+        let ns = f.0 ∷ f.1 ∷ f.2 ∷ f.3 ∷ [] in
+        let b = body_four s p (line_start s i) (suc i) f.0 f.1 f.2 f.3 f.4 e room in
         behind_more s i p ns refl (omega (arith, b.1, b.2))
         (b.0 ∙ ap (λ (k : ℕ). body_at s k (suc (suc i)) (p ++ ns)) b.1)
         (more ns refl)
@@ -152,12 +152,6 @@ body_behind (suc fuel) s i p h =
     by_room : (t : Bool) → ltb (length p) program_most ≡ t → More s i p → Behind s i p
     by_room true e more = by_found (found_at s (line_start s i)) refl (ltb-true (length p) program_most e) more
     by_room false e more = behind_none s i p (body_full s p (line_start s i) (suc i) (ltb-false (length p) program_most e))
-
--- a machine opened without sizes
-pub closed_machine : {program w : List ℕ} {said : Answer} {u : Machine} → Opens (banked 0 0 0 0) program w said u
-    → u ≡ tabled.unopened
-unfolding sizes_fit
-closed_machine opens = (opens.refuses 1 (λ z. omega (arith, z)) refl).1
 
 -- ---- lent rightly
 
@@ -207,22 +201,21 @@ module _ {text : List ℕ} {whole : Bool} {program memory : List ℕ} where
   begins_long right long is = begins_unread 0 right (script_long text long) (player_long text long) is
 
   pub begins_headless : {q : Player} → wrongly_lent text whole program memory ≡ false → length text ≤ most
-      → header_of text ≡ Nothing → q ≡ idle (Bad 1) → Begins text whole program memory q program memory
+      → header_of text ≡ None → q ≡ idle (Bad 1) → Begins text whole program memory q program memory
   begins_headless right short none is =
       begins_unread 1 right (script_headless text short none) (player_headless text short none) is
 
   -- the player of a script whose machine was opened as u
-  pub begins_open : {o : Opening} {from cursor line used count : ℕ} {into after : List ℕ} {said : Answer} {u : Machine}
+  pub begins_open : {o : Opening} {from cursor line used : ℕ} {into after : List ℕ} {said : Answer} {u : Machine}
       → wrongly_lent text whole program memory ≡ false
       → length text ≤ most
       → Headed text o from
       → Loads text from program into cursor line used
       → used ≤ length into
       → after ≡ replicate (length memory) 0
-      → count ≡ used
-      → Opens o (take count into) after said u
+      → Opens o (take used into) after said u
       → Begins text whole program memory (player Stepping cursor line 0 used u) into after
-  begins_open {o} {from} {cursor} {line} {used} {into = into} {after} {said} {u} right short head loads room cleared all opens =
+  begins_open {o} {from} {cursor} {line} {used} {into = into} {after} {said} {u} right short head loads room cleared opens =
       let numbers = take used into in
       let long : length numbers ≡ used = length-take-le used into room in
       let of : Body → Script = λ b. record { opening = o; body = b } in
@@ -236,8 +229,7 @@ module _ {text : List ℕ} {whole : Bool} {program memory : List ℕ} where
       let checked : refusal (open_checks o numbers after) ≡ 0 =
       ap (λ (m : List ℕ). refusal (open_checks o numbers m)) clears
       ∙ script_checked text s plainly head.fit in
-      let made : u ≡ fresh_machine o k =
-      ((subst (λ (n : ℕ). Opens o (take n into) after said u) all opens).opens checked).1 in
+      let made : u ≡ fresh_machine o k = (opens.opens checked).1 in
       let place : cursor ≡ line_start text (suc k) =
       loads.starts head.starts
       ∙ ap (line_start text) (let e : line - 1 ≡ suc k = omega (arith, loads.lines, long) in e) in
@@ -355,21 +347,21 @@ first_starts text = by_length (ltb most (length text)) refl
     shown q is s =
         subst (λ (p : Player). Starts text p (script_of text).body.program (replicate (words_of text) 0)) (sym is) s
 
-    by_header : length text ≤ most → (f : Found) → header_of text ≡ f
+    by_header : length text ≤ most → (f : Option Four) → header_of text ≡ f
         → Starts text (first_player text) (script_of text).body.program (replicate (words_of text) 0)
-    by_header short Nothing e =
+    by_header short None e =
         shown (idle (Bad 1)) (player_headless text short e)
         (bad_starts text 1 (script_of text) (script_headless text short e)
         (printed_short text short ∙ ap output (script_unheaded text e) ∙ unread_prints))
-    by_header short (Four banks rows stages words from) e =
+    by_header short (Some f) e =
         let s = script_of text in
         let same = script_short text short in
-        let o = banked banks rows stages words in
-        let fit = script_fits text short o from (headed text e) s same in
+        let o = banked f.0 f.1 f.2 f.3 in
+        let fit = script_fits text short o f.4 (headed text e) s same in
         shown (opened_player text s (length s.body.program / per_instruction))
         (player_short text s short refl
         ∙ ap (λ (t : Bool). cond t (opened_player text s (length s.body.program / per_instruction)) (idle (Bad 1))) fit)
-        (open_starts text short o from (headed text e) s same)
+        (open_starts text short o f.4 (headed text e) s same)
 
     by_length : (t : Bool) → ltb most (length text) ≡ t
         → Starts text (first_player text) (script_of text).body.program (replicate (words_of text) 0)

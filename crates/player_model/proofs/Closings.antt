@@ -1,20 +1,17 @@
 -- The closing lines: the words of memory, one after the other, and the end line. At an address within memory the word
 -- there is told first, unless it is 0 (words_first); past the last one only the end line is left (no_words). These are the
 -- steps of a player that closes (word_goes, end_goes). Assumes nothing.
-use mathlib.Core.Path.{◌≡◌, refl, sym, ap, subst, ◌∙◌}
-use mathlib.Core.Bool.{Bool, cond}
+use mathlib.Core.Path.{◌≡◌, refl, sym, ap, ◌∙◌}
 use mathlib.Core.List.{List, [], ◌++◌, append_assoc, append-nil}
 use Prim.Native.Nat.{ℕ, suc, ◌+◌, ◌≤◌, ◌<◌}
 use native.Mathlib.Omega.{arith}
-use lib.ListN.{length, get_or, drop, drop_of_length-le}
+use lib.ListN.{length, drop, drop_of_length-le}
 use lib.Seq.{drop-cons}
-use borrow.Author.Tests.{eq-eqb, ne_eqb}
 use Rattle.machine_model.specs.declared.Machine.{Machine}
 use Rattle.machine_model.specs.Contract.{plain}
 use Rattle.player_model.specs.declared.Phase.TheVariants.{Over, Words}
-use Rattle.script_model.specs.Output.{word_line, word_lines, ending, end_line}
-use Rattle.player_model.specs.Playing.{Writes, word_line_at}
-use Rattle.player_model.proofs.Writing.{writes_none}
+use Rattle.script_model.specs.Output.{word_lines, ending, end_line}
+use Rattle.player_model.specs.Playing.{word_line_at}
 use Rattle.player_model.proofs.Phases.{Goes}
 
 -- the lines of the word at a, and of those after it
@@ -28,19 +25,6 @@ words_first memory a h =
 no_words : (memory : List ℕ) (a : ℕ) → length memory ≤ a → word_lines a (drop a memory) ≡ []
 unfolding word_lines
 no_words memory a h = ap (word_lines a) (drop_of_length-le memory h)
-
--- the line of a word, by whether it is 0
-pub zero_written : (memory : List ℕ) (a : ℕ) (out : List ℕ) (at : ℕ) → get_or memory a 0 ≡ 0
-    → Writes out at (word_line_at memory a) out at
-zero_written memory a out at z =
-    subst (λ (b : Bool). Writes out at (cond b [] (word_line a (get_or memory a 0))) out at)
-    (sym (eq-eqb (get_or memory a 0) 0 z)) (writes_none out at)
-
-pub word_written : (memory : List ℕ) (a : ℕ) {out into : List ℕ} {at end : ℕ} → (get_or memory a 0 ≡ 0 → ⊥)
-    → Writes out at (word_line a (get_or memory a 0)) into end → Writes out at (word_line_at memory a) into end
-word_written memory a {out} {into} {at} {end} z writes =
-    subst (λ (b : Bool). Writes out at (cond b [] (word_line a (get_or memory a 0))) into end)
-    (sym (ne_eqb (get_or memory a 0) 0 z)) writes
 
 module _ (program : List ℕ) (m : Machine) (n a : ℕ) (memory : List ℕ) where
   -- the end line, by what is left to print before it

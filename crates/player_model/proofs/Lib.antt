@@ -1,5 +1,5 @@
 -- Reading. Heads: what the first line asks for. Founds: the four numbers of a line. Programs: the program's lines, as the loop
--- reads them. Zeros: a list made zeros.
+-- reads them.
 -- Printing. Writing: texts written one after another. Closings: the words of memory and the end line.
 -- Playing. Invariant: what is left to print, and what holds of a player. CallOnPlayer: what one call records and counts, from the
 -- machine's contract. Phases: a step that reads no line. Limits: a finish as finishes with a list of one commit. StepContract: what
@@ -12,7 +12,6 @@
 pub mod Heads
 pub mod Founds
 pub mod Programs
-pub mod Zeros
 pub mod Writing
 pub mod Invariant
 pub mod Closings

@@ -21,48 +21,42 @@ use Rattle.machine_model.specs.Program.{per_instruction, program_most, well_form
 use Rattle.script_model.specs.declared.Item.{Item}
 use Rattle.script_model.specs.declared.Item.TheVariants.{Malformed, Sizes, Operation, Issue, Execute, Squash, Commit}
 use Rattle.script_model.specs.declared.Item.TheVariants.{Finish}
-use Rattle.player_model.specs.declared.Found.TheVariants.{Nothing, Four}
+use Rattle.std.specs.Prelude.{None}
 use Rattle.script_model.specs.Language.{parsed_line, Steps, Body, numbers_of, joining, steps, body}
 use Rattle.player_model.specs.Playing.{line_start}
-use Rattle.player_model.specs.Computed.Parts.{found_in, found_by, found_at, steps_at, body_at, Loads}
-
-never : {A : Type 0} {code d s imm at : ℕ} → Nothing ≡ Four code d s imm at → A
-never e = absurd (let z : ◌≡◌ {A = ℕ} 0 1 = cc in omega arith)
+use Rattle.player_model.proofs.Founds.{same_four}
+use Rattle.player_model.specs.Computed.Parts.{some_four, found_in, found_by, found_at, steps_at, body_at, Loads}
 
 -- ---- the numbers of one line
 
 -- an instruction found joins a program with room for it
-numbers_four : (p : List ℕ) (i : Item) (at code d s imm next : ℕ) → found_in false i at ≡ Four code d s imm next
+numbers_four : (p : List ℕ) (i : Item) (at code d s imm next : ℕ) → found_in false i at ≡ some_four code d s imm next
     → length p < program_most
     → (numbers_of p i ≡ some (code ∷ d ∷ s ∷ imm ∷ [])) × (next ≡ at)
-numbers_four p Malformed at code d s imm next h room = never h
-numbers_four p (Sizes x y z w) at code d s imm next h room = never h
+numbers_four p Malformed at code d s imm next h room = cc
+numbers_four p (Sizes x y z w) at code d s imm next h room = cc
 numbers_four p (Operation x y z w) at code d s imm next h room =
     rw (lt-ltb (length p) program_most room) (go (well_formed x y z w) h)
   where
-    go : (t : Bool) → cond t (Four x y z w at) Nothing ≡ Four code d s imm next
+    go : (t : Bool) → cond t (some_four x y z w at) None ≡ some_four code d s imm next
         → (cond t (some (x ∷ y ∷ z ∷ w ∷ [])) none ≡ some (code ∷ d ∷ s ∷ imm ∷ [])) × (next ≡ at)
-    go true g =
-        let e : x ≡ code = cc in
-        let f : y ≡ d = cc in
-        let k : z ≡ s = cc in
-        let l : w ≡ imm = cc in (cc, cc)
-    go false g = never g
-numbers_four p Issue at code d s imm next h room = never h
-numbers_four p (Execute k) at code d s imm next h room = never h
-numbers_four p (Squash k) at code d s imm next h room = never h
-numbers_four p Commit at code d s imm next h room = never h
-numbers_four p (Finish k) at code d s imm next h room = never h
+    go true g = let e = same_four g in (cc (e.0, e.1, e.2, e.3), sym e.4)
+    go false g = cc
+numbers_four p Issue at code d s imm next h room = cc
+numbers_four p (Execute k) at code d s imm next h room = cc
+numbers_four p (Squash k) at code d s imm next h room = cc
+numbers_four p Commit at code d s imm next h room = cc
+numbers_four p (Finish k) at code d s imm next h room = cc
 
 -- where none is found, none joins
-numbers_none : (p : List ℕ) (i : Item) (at : ℕ) → found_in false i at ≡ Nothing → numbers_of p i ≡ none
+numbers_none : (p : List ℕ) (i : Item) (at : ℕ) → found_in false i at ≡ None → numbers_of p i ≡ none
 numbers_none p Malformed at h = refl
 numbers_none p (Sizes x y z w) at h = refl
 numbers_none p (Operation x y z w) at h = go (ltb (length p) program_most) (well_formed x y z w) h
   where
-    go : (r t : Bool) → cond t (Four x y z w at) Nothing ≡ Nothing
+    go : (r t : Bool) → cond t (some_four x y z w at) None ≡ None
         → cond (r && t) (some (x ∷ y ∷ z ∷ w ∷ [])) none ≡ none
-    go r true g = never (sym g)
+    go r true g = cc
     go true false g = refl
     go false false g = refl
 numbers_none p Issue at h = refl
@@ -110,20 +104,20 @@ unfolding body
 body_stops n p line ls e = ap (joined_by n p line ls) e
 
 -- at an instruction the next line goes on with the longer program
-pub body_four : (s p : List ℕ) (at n code d r imm next : ℕ) → found_at s at ≡ Four code d r imm next → length p < program_most
+pub body_four : (s p : List ℕ) (at n code d r imm next : ℕ) → found_at s at ≡ some_four code d r imm next → length p < program_most
     → (body_at s at n p ≡ body_at s next (suc n) (p ++ (code ∷ d ∷ r ∷ imm ∷ []))) × (next ≡ suc (feed s at)) × (next ≤ length s)
 body_four s p at n code d r imm next h room = go (line_at s at) (line_is s at (line_at s at) refl) h
   where
-    go : (l : Line) → LineIs s at l → found_by false s l ≡ Four code d r imm next
+    go : (l : Line) → LineIs s at l → found_by false s l ≡ some_four code d r imm next
         → (body_at s at n p ≡ body_at s next (suc n) (p ++ (code ∷ d ∷ r ∷ imm ∷ [])))
         × (next ≡ suc (feed s at))
         × (next ≤ length s)
-    go End is g = never g
-    go (Unended from) is g = never g
+    go End is g = cc
+    go (Unended from) is g = cc
     go (Whole from to) is g =
         let ends : feed s at < length s = omega arith in
         let line = slice at (feed s at) s in
-        let says : found_in false (parsed_line line) (suc (feed s at)) ≡ Four code d r imm next = rw (is.0, is.1) at g in
+        let says : found_in false (parsed_line line) (suc (feed s at)) ≡ some_four code d r imm next = rw (is.0, is.1) at g in
         let four = numbers_four p (parsed_line line) (suc (feed s at)) code d r imm next says room in
         let ns = code ∷ d ∷ r ∷ imm ∷ [] in (
           ap (body_of n p) (line_whole s at ends)
@@ -155,7 +149,7 @@ body_here s p at n h = go (line_at s at) refl (line_is s at (line_at s at) refl)
         ap (body_of n p) whole ∙ body_stops n p line (lines_of (drop (suc (feed s at)) s)) nothing
         ∙ ap (λ (ls : Lines). record { program = p; steps = steps_of n ls }) (sym whole)
 
-pub body_stop : (s p : List ℕ) (at n : ℕ) → found_at s at ≡ Nothing
+pub body_stop : (s p : List ℕ) (at n : ℕ) → found_at s at ≡ None
     → body_at s at n p ≡ record { program = p; steps = steps_at s at n }
 body_stop s p at n h =
     body_here s p at n (λ from to e. numbers_none p (parsed_line (slice from to s)) (suc to) (ap (found_by false s) (sym e) ∙ h))
@@ -211,7 +205,7 @@ next_start s cursor next line counted after is =
     after ∙ ap (λ (k : ℕ). suc (feed s k)) is ∙ ap (line_start s) (let e : suc (line - 1) ≡ line + 1 - 1 = omega arith in e)
 
 pub reading_goes : (s lent program into : List ℕ) (from cursor line used code d r imm next : ℕ)
-    → Reading s from lent program cursor line used → used < program_most → found_at s cursor ≡ Four code d r imm next
+    → Reading s from lent program cursor line used → used < program_most → found_at s cursor ≡ some_four code d r imm next
     → into ≡ sets program used (code ∷ d ∷ r ∷ imm ∷ [])
     → Reading s from lent into next (line + 1) (used + 4)
 reading_goes s lent program into from cursor line used code d r imm next so room found put =
@@ -250,7 +244,7 @@ reading_done s lent program from cursor line used so body_is =
     }
 
 pub reading_stops : (s lent program : List ℕ) (from cursor line used : ℕ) → Reading s from lent program cursor line used
-    → found_at s cursor ≡ Nothing → Loads s from lent program cursor line used
+    → found_at s cursor ≡ None → Loads s from lent program cursor line used
 reading_stops s lent program from cursor line used so nothing =
     reading_done s lent program from cursor line used so (body_stop s (take used program) cursor line nothing)
 

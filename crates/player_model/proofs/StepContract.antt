@@ -15,7 +15,7 @@ use native.Mathlib.Omega.{arith}
 use lib.Dec.{eqb, ltb}
 use lib.ListN.{length, take, replicate}
 use lib.Seq.{slice, length-sets, drop-cons}
-use borrow.Author.Tests.{lt-ltb, le-ltb}
+use borrow.Author.Tests.{lt-ltb}
 use Rattle.text.specs.declared.Line.{Line}
 use Rattle.text.specs.declared.Line.TheVariants.{End, Unended, Whole}
 use Rattle.text.specs.Fields.{largest, fields}
@@ -256,9 +256,6 @@ more_most n = either (λ (k : ℕ). k ≤ suc n) (ltb n count_most) (omega arith
 
 pub more_is : (n : ℕ) → n < count_most → one_more n ≡ suc n
 more_is n few = ap (λ (b : Bool). cond b (suc n) n) (lt-ltb n count_most few)
-
-pub more_stays : (n : ℕ) → count_most ≤ n → one_more n ≡ n
-more_stays n full = ap (λ (b : Bool). cond b (suc n) n) (le-ltb n count_most full)
 
 orders : (text : List ℕ) (cursor line : ℕ) → Orders text cursor line (order_at text cursor line)
 orders text cursor line = go (line_at text cursor) refl

@@ -2,6 +2,7 @@
 -- falls: what the code knows on a way, in the order in which it learns it. The machine's answers tell of no commit (Quiet) or of
 -- one.
 -- Assumes nothing.
+use Rattle.std.specs.Prelude.{⊤, Result, Ok, Err}
 use mathlib.Core.Path.{◌≡◌, refl, sym, ap, ap₂, subst, ◌∙◌}
 use mathlib.Core.Bool.{Bool, false, cond}
 use mathlib.Core.List.{List, []}
@@ -12,16 +13,9 @@ use lib.Dec.{eqb}
 use lib.ListN.{length, replicate}
 use borrow.Author.Tests.{eq-eqb, ne_eqb}
 use Rattle.machine_model.specs.declared.Machine.{Machine}
-use Rattle.machine_model.specs.declared.DoneAnswer.{DoneAnswer}
-use Rattle.machine_model.specs.declared.DoneAnswer.TheVariants as done-answer
-use Rattle.machine_model.specs.declared.IssueAnswer.{IssueAnswer}
-use Rattle.machine_model.specs.declared.IssueAnswer.TheVariants as issue-answer
-use Rattle.machine_model.specs.declared.ExecuteAnswer.{ExecuteAnswer}
-use Rattle.machine_model.specs.declared.ExecuteAnswer.TheVariants as execute-answer
-use Rattle.machine_model.specs.declared.CommitAnswer.{CommitAnswer}
-use Rattle.machine_model.specs.declared.CommitAnswer.TheVariants as commit-answer
-use Rattle.machine_model.specs.declared.FinishAnswer.{FinishAnswer}
-use Rattle.machine_model.specs.declared.FinishAnswer.TheVariants as finish-answer
+use Rattle.machine_model.specs.declared.Committed.{Committed}
+use Rattle.engine.specs.declared.Refusal.{Refusal}
+use Rattle.engine.specs.declared.Executed.{Executed}
 use Rattle.machine_model.specs.Calls.{Call, commit, finish, Answer, per_commit}
 use Rattle.machine_model.specs.Contract.{plain, Meets, done_says, issue_says, execute_says, commit_says, finish_says}
 use Rattle.sequential.specs.Play.{commits_in}
@@ -50,29 +44,29 @@ pub record Quiet (said : Answer) : Type 0 where
   pub silent : told_by said [] ≡ []
   pub uncounted : (n : ℕ) → counted_by said n ≡ n
 
-pub issue_quiet : (a : IssueAnswer) → Quiet (issue_says a)
-issue_quiet (issue-answer.Refused k) = record { silent = refl; uncounted = λ n. refl }
-issue_quiet (issue-answer.Issued p) = record { silent = refl; uncounted = λ n. refl }
+pub issue_quiet : (a : Result ℕ Refusal) → Quiet (issue_says a)
+issue_quiet (Err r) = record { silent = refl; uncounted = λ n. refl }
+issue_quiet (Ok p) = record { silent = refl; uncounted = λ n. refl }
 
-pub execute_quiet : (a : ExecuteAnswer) → Quiet (execute_says a)
-execute_quiet (execute-answer.Refused k) = record { silent = refl; uncounted = λ n. refl }
-execute_quiet (execute-answer.Executed v d s) = record { silent = refl; uncounted = λ n. refl }
+pub execute_quiet : (a : Result (Executed ℕ) Refusal) → Quiet (execute_says a)
+execute_quiet (Err r) = record { silent = refl; uncounted = λ n. refl }
+execute_quiet (Ok e) = record { silent = refl; uncounted = λ n. refl }
 
-pub squash_quiet : (a : DoneAnswer) → Quiet (done_says a)
-squash_quiet (done-answer.Refused k) = record { silent = refl; uncounted = λ n. refl }
-squash_quiet done-answer.Done = record { silent = refl; uncounted = λ n. refl }
+pub squash_quiet : (a : Result ⊤ Refusal) → Quiet (done_says a)
+squash_quiet (Err r) = record { silent = refl; uncounted = λ n. refl }
+squash_quiet (Ok u) = record { silent = refl; uncounted = λ n. refl }
 
-pub commit_quiet : {a : CommitAnswer} (k : ℕ) → a ≡ commit-answer.Refused k → Quiet (commit_says a)
-commit_quiet k is = subst (λ (b : CommitAnswer). Quiet (commit_says b)) (sym is) (record { silent = refl; uncounted = λ n. refl })
+pub commit_quiet : {a : Result Committed Refusal} (r : Refusal) → a ≡ Err r → Quiet (commit_says a)
+commit_quiet r is = subst (λ (b : Result Committed Refusal). Quiet (commit_says b)) (sym is) (record { silent = refl; uncounted = λ n. refl })
 
-finish_silent : (a : FinishAnswer) (list : List ℕ) → commits_in (finish_says a) ≡ 0 → told_by (finish_says a) list ≡ []
-finish_silent (finish-answer.Refused k) list none = refl
-finish_silent (finish-answer.Finished n) list none = ap (λ (t : Bool). cond t [] (first_lines list)) (eq-eqb n 0 none)
+finish_silent : (a : Result ℕ Refusal) (list : List ℕ) → commits_in (finish_says a) ≡ 0 → told_by (finish_says a) list ≡ []
+finish_silent (Err r) list none = refl
+finish_silent (Ok n) list none = ap (λ (t : Bool). cond t [] (first_lines list)) (eq-eqb n 0 none)
 
-finish_told : (a : FinishAnswer) (list : List ℕ) → (commits_in (finish_says a) ≡ 0 → ⊥)
+finish_told : (a : Result ℕ Refusal) (list : List ℕ) → (commits_in (finish_says a) ≡ 0 → ⊥)
     → told_by (finish_says a) list ≡ first_lines list
-finish_told (finish-answer.Refused k) list some = absurd (some refl)
-finish_told (finish-answer.Finished n) list some = ap (λ (t : Bool). cond t [] (first_lines list)) (ne_eqb n 0 some)
+finish_told (Err r) list some = absurd (some refl)
+finish_told (Ok n) list some = ap (λ (t : Bool). cond t [] (first_lines list)) (ne_eqb n 0 some)
 
 -- ---- the ways
 
@@ -125,7 +119,7 @@ module _ {text program : List ℕ} {p : Player} {memory₀ out₀ : List ℕ} {q
     limit_way e none = in_phase_lem e (inl (none, record { prints = refl; leads = refl; keeps = refl })) (put_none out at)
 
     -- a finish with a list of one commit
-    module _ {k : ℕ} {u : Machine} {after list : List ℕ} (a : FinishAnswer) (finishing : q.phase ≡ Finishing k)
+    module _ {k : ℕ} {u : Machine} {after list : List ℕ} (a : Result ℕ Refusal) (finishing : q.phase ≡ Finishing k)
         (some : k ≡ 0 → ⊥)
         (meets : Meets program q.machine (finish k (replicate per_commit 0)) memory (finish_says a) u after list)
         (lent : length after ≡ length memory) where
@@ -202,10 +196,10 @@ module _ {text program : List ℕ} {p : Player} {memory₀ out₀ : List ℕ} {q
     turn_way asked = line_way line asked (record { prints = refl; leads = refl; keeps = refl }) (put_none out at)
 
     -- a commit that was made
-    pub commit_way : {u : Machine} {after into : List ℕ} {i code r v d j end : ℕ} (a : CommitAnswer) → o.ask ≡ ask.Commit
+    pub commit_way : {u : Machine} {after into : List ℕ} {i code r v d j end : ℕ} (a : Result Committed Refusal) → o.ask ≡ ask.Commit
         → Meets program q.machine commit memory (commit_says a) u after [] → length after ≡ length memory
-        → a ≡ commit-answer.Committed i code r v d → j ≡ one_more q.commits → Puts out at (committed_lines i code r v d) into end
+        → a ≡ Ok (record { index = i; code = code; target = r; value = v; distance = d }) → j ≡ one_more q.commits → Puts out at (committed_lines i code r v d) into end
         → Onward here (player q.phase o.cursor o.line j q.used u) after into end
     commit_way {into = into} {end = end} a asked meets lent said counted put =
-        call_way line asked meets lent (counted ∙ ap (λ (b : CommitAnswer). counted_by (commit_says b) q.commits) (sym said))
-        (subst (λ (b : CommitAnswer). Puts out at (told_by (commit_says b) []) into end) (sym said) put) refl (λ piece r after s. s)
+        call_way line asked meets lent (counted ∙ ap (λ (b : Result Committed Refusal). counted_by (commit_says b) q.commits) (sym said))
+        (subst (λ (b : Result Committed Refusal). Puts out at (told_by (commit_says b) []) into end) (sym said) put) refl (λ piece r after s. s)

@@ -7,9 +7,6 @@ use machine_model::Machine;
 // The room in the buffer with which a step is begun: more than the lines of a commit, the most that a step prints, take.
 pub const LINE: usize = 128;
 
-// The largest count of lines and of commits.
-pub const COUNT: u64 = 18446744073709551615;
-
 // What the player does next: nothing, the bad line of this number, the next step, a finish with so many commits left, or the
 // memory words from this address on and then the end line.
 #[derive(Clone, Copy)]
@@ -40,12 +37,9 @@ pub struct Piece {
     pub end: usize,
 }
 
-// The four numbers that a line gives, and where the next line begins: sizes on the first line, an instruction on a later one.
+// The four numbers that a line gives, sizes on the first line and an instruction on a later one, and where the next line begins.
 #[derive(Clone, Copy)]
-pub enum Found {
-    Nothing,
-    Four(u32, u32, u32, u32, usize),
-}
+pub struct Four(pub u32, pub u32, pub u32, pub u32, pub usize);
 
 // Where the steps begin, the number of that line, and the places of the program in use.
 #[derive(Clone, Copy)]

@@ -5,40 +5,28 @@
 // their contracts.
 #![tactic(auto)]
 
-ghost use Rattle.std.specs.Prelude.{◌≡◌, length, replicate};
+ghost use Rattle.std.specs.Prelude.{◌≡◌};
 ghost use Rattle.player_model.specs.Playing.{idle, is_over, wrongly_lent, Begins};
 
 use machine_model::PROGRAM;
-use player_model::Found;
 pub use player_model::{Phase, Piece, Player};
+use player_model::{Four, Loaded};
 use script_model::MOST;
 pub use script_playing::fill;
 pub use script_reading::words_of;
-
-// Memory starts as zeros.
-fn clear(memory: &mut [u32])
-    ensures { memory.new ≡ replicate (length memory.old) 0 }
-{
-    let mut i = 0;
-    while i < memory.len() {
-        memory[i] = 0;
-        i += 1;
-    }
-}
 
 // A player with no machine in use.
 fn idle(phase: Phase, program: &[u32], memory: &[u32]) -> Player
     ensures { result ≡ idle phase }
 {
     let closed = machine::open(0, 0, 0, 0, program, memory);
-    let machine = closed.machine;
     Player {
         phase,
         cursor: 0,
         line: 1,
         commits: 0,
         used: 0,
-        machine,
+        machine: closed.state,
     }
 }
 
@@ -61,31 +49,26 @@ pub fn begin(s: &[u8], whole: bool, program: &mut [u32], memory: &mut [u32]) -> 
     if MOST < s.len() {
         return idle(Phase::Bad(0), program, memory);
     }
-    let header = script_reading::read_header(s);
-    match header {
-        Found::Nothing => idle(Phase::Bad(1), program, memory),
-        Found::Four(banks, rows, stages, words, from) => {
-            clear(memory);
-            let loaded = script_reading::read_program(s, from, program);
-            let used = loaded.used;
-            let opened = machine::open(
-                banks as usize,
-                rows as usize,
-                stages as usize,
-                words as usize,
-                &program[0..used],
-                memory,
-            );
-            let machine = opened.machine;
-            Player {
-                phase: Phase::Stepping,
-                cursor: loaded.cursor,
-                line: loaded.line,
-                commits: 0,
-                used,
-                machine,
-            }
-        }
+    let Some(Four(banks, rows, stages, words, from)) = script_reading::read_header(s) else {
+        return idle(Phase::Bad(1), program, memory);
+    };
+    memory.fill(0);
+    let Loaded { cursor, line, used } = script_reading::read_program(s, from, program);
+    let opened = machine::open(
+        banks as usize,
+        rows as usize,
+        stages as usize,
+        words as usize,
+        &program[..used],
+        memory,
+    );
+    Player {
+        phase: Phase::Stepping,
+        cursor,
+        line,
+        commits: 0,
+        used,
+        machine: opened.state,
     }
 }
 
@@ -93,11 +76,5 @@ pub fn begin(s: &[u8], whole: bool, program: &mut [u32], memory: &mut [u32]) -> 
 pub fn is_over(phase: Phase) -> bool
     ensures { result ≡ is_over phase }
 {
-    match phase {
-        Phase::Over => true,
-        Phase::Bad(_) => false,
-        Phase::Stepping => false,
-        Phase::Finishing(_) => false,
-        Phase::Words(_) => false,
-    }
+    matches!(phase, Phase::Over)
 }

@@ -1,436 +1,253 @@
 // Why a script is bad: finds its first bad line and what is wrong there. `flaw_of` is to call, and requires nothing.
 #![tactic(auto)]
 
-ghost use Rattle.std.specs.Prelude.{cond, ◌≡◌, ◌+◌, ◌≤◌, ◌<◌, length, get_or};
-ghost use Rattle.std.proofs.Math.Seq.{slice};
-ghost use Rattle.text.specs.Fields.{empty};
+ghost use Rattle.std.specs.Prelude.{◌≡◌, ◌+◌, ◌≤◌, ◌<◌, ◌∷◌, length, MatchOption, Some};
 ghost use Rattle.machine_model.specs.Calls.{banked};
+ghost use Rattle.text.specs.Fields.{empty};
 ghost use Rattle.flaw_model.specs.declared.Defect.TheVariants.{Beyond};
-ghost use Rattle.flaw_model.specs.declared.Reason.TheVariants.{Fine, Field};
-ghost use Rattle.flaw_model.specs.Flaw.{arity, commas, digit_took, took, no_number, malformed, no_sizes, unfit, unformed};
-ghost use Rattle.flaw_model.specs.Flaw.{of_malformed, of_sizes, of_operation, of_step, reason_in, is_fine};
-ghost use Rattle.flaw_model.specs.Flaw.{after_operation, after_other, next_part, of_end, flaw_of};
+ghost use Rattle.flaw_model.specs.declared.Reason.TheVariants.{Field};
+ghost use Rattle.flaw_model.specs.Flaw.{arity, commas, digit_took, took, no_number, behind, malformed, no_sizes, unfit, unformed};
+ghost use Rattle.flaw_model.specs.Flaw.{reason_in, next_part, of_end, flaw_of};
 ghost use Rattle.flaw_model.specs.Computed.Looking.{open_of, Looks};
 
-use flaw_model::{Defect, Outlook, Part, Took};
+use flaw_model::{Defect, Part};
 pub use flaw_model::{Flaw, Reason};
 use machine_model::{INSTRUCTIONS, LAST_REGISTER};
 use script_model::{Item, MOST};
+use std::ops::ControlFlow;
 use table::{BANKS, ROWS, STAGES, WORDS};
 use text::{LARGEST, Line};
 
-// How many fields a line with this letter has, the letter among them; 0 where there is no such letter.
-pub fn arity_of(b: u8) -> usize
-    ensures { result ≡ arity b }
+// How many fields a line with this letter has, the letter among them, if there is such a letter.
+pub fn arity_of(b: u8) -> Option<usize>
+    ensures { MatchOption result (arity b ≡ 0) (λ n. (n ≡ arity b) × (0 < n)) }
 {
-    if (b == b'i') | (b == b'c') {
-        return 1;
+    match b {
+        b'i' | b'c' => Some(1),
+        b'e' | b'q' | b'x' => Some(2),
+        _ if script_reading::code_of(b).is_some() => Some(4),
+        b'N' => Some(5),
+        _ => None,
     }
-    if (b == b'e') | (b == b'q') | (b == b'x') {
-        return 2;
-    }
-    if 0 < script_reading::code_of(b) {
-        return 4;
-    }
-    if b == b'N' {
-        return 5;
-    }
-    0
 }
 
-// What a digit does to the open field, which is x if it has digits (`begun`).
-fn take_digit(begun: bool, x: u32, d: u32) -> Took
-    requires { d < 10 }
-    ensures { result ≡ digit_took (open_of begun x) d }
+// The open field with one digit more.
+fn take_digit(so_far: Option<u32>, digit: u32) -> Result<Option<u32>, Defect>
+    requires { digit < 10 }
+    ensures { result ≡ digit_took (open_of so_far) digit }
 {
-    if begun {
-        if 0 < x {
-            if x as u64 * 10 + d as u64 <= LARGEST {
-                return Took::Grows(x * 10 + d);
-            }
-            return Took::Wrong(Defect::Large);
-        }
-        return Took::Wrong(Defect::Zero);
+    match so_far {
+        None => Ok(Some(digit)),
+        Some(0) => Err(Defect::Zero),
+        Some(x) if x as u64 * 10 + digit as u64 <= LARGEST => Ok(Some(x * 10 + digit)),
+        Some(_) => Err(Defect::Large),
     }
-    Took::Grows(d)
 }
 
-// What any byte does to it.
-fn take_byte(begun: bool, x: u32, b: u8) -> Took
-    ensures { result ≡ took (open_of begun x) b }
+// The open field behind one byte more: a comma opens the next one.
+fn take_byte(so_far: Option<u32>, b: u8) -> Result<Option<u32>, Defect>
+    ensures { result ≡ took (open_of so_far) b }
 {
-    if b == b',' {
-        if begun {
-            return Took::Ends;
-        }
-        return Took::Wrong(Defect::Missing);
+    match b {
+        b',' if so_far.is_none() => Err(Defect::Missing),
+        b',' => Ok(None),
+        b'0'..=b'9' => take_digit(so_far, (b - b'0') as u32),
+        _ => Err(Defect::Stray(b)),
     }
-    if b < b'0' {
-        return Took::Wrong(Defect::Stray(b));
-    }
-    if b'9' < b {
-        return Took::Wrong(Defect::Stray(b));
-    }
-    take_digit(begun, x, b as u32 - 48)
 }
 
-// The first field from `from` up to `to` that is no number; at `from` field 2 begins.
-fn find_defect(s: &[u8], letter: u8, from: usize, to: usize) -> Reason
-    requires { (2 ≤ from) × (to ≤ length s.now) }
-    ensures { result ≡ no_number letter 2 empty (slice from to s.now) }
+// The first of these fields, of which the first is field 2, that is no number.
+#[tactic(auto, unfolding(flaw_model::specs::Flaw::no_number))]
+fn find_defect(letter: u8, fields: &[u8]) -> Option<Reason>
+    ensures { result ≡ no_number letter 2 empty fields.now }
 {
     let mut k: usize = 2;
-    let mut begun = false;
-    let mut x: u32 = 0;
-    let mut i = from;
-    while i < to {
-        let t = take_byte(begun, x, s[i]);
-        match t {
-            Took::Ends => {
-                k += 1;
-                begun = false;
-            }
-            Took::Grows(y) => {
-                begun = true;
-                x = y;
-            }
-            Took::Wrong(d) => {
-                return Reason::Field(letter, k, d);
-            }
+    let mut so_far = None;
+    for b in fields {
+        match take_byte(so_far, *b) {
+            Ok(next) => so_far = next,
+            Err(defect) => return Some(Reason::Field(letter, k, defect)),
         }
-        i += 1;
+        if so_far.is_none() {
+            k += 1;
+        }
     }
-    if begun {
-        return Reason::Fine;
+    match so_far {
+        None => Some(Reason::Field(letter, k, Defect::Missing)),
+        Some(_) => None,
     }
-    Reason::Field(letter, k, Defect::Missing)
 }
 
-// How many commas there are from `from` up to `to`.
-fn count_commas(s: &[u8], from: usize, to: usize) -> usize
-    requires { (from ≤ to) × (to ≤ length s.now) }
-    ensures commas { result ≡ commas (slice from to s.now) }
-    ensures within { result + from ≤ to }
+// How many commas there are.
+#[tactic(auto, using(flaw_model::proofs::Looking::commas_counted))]
+fn count_commas(fields: &[u8]) -> usize
+    ensures commas { result ≡ commas fields.now }
+    ensures within { result ≤ length fields.now }
 {
-    let mut n: usize = 0;
-    let mut i = from;
-    while i < to {
-        if s[i] == b',' {
-            n += 1;
-        }
-        i += 1;
-    }
-    n
+    fields.iter().filter(|b| **b == b',').count()
 }
 
-// What is wrong with the line from `from` up to `to`, which is none of the forms.
-fn find_malformed(s: &[u8], from: usize, to: usize) -> Reason
-    requires { (from ≤ to) × (to < length s.now) }
-    ensures { result ≡ malformed (slice from to s.now) }
+// What is wrong with the fields behind a letter and a comma: their number, or one of them.
+fn find_unlike(letter: u8, fields: &[u8]) -> Option<Reason>
+    ensures { result ≡ behind letter (44 ∷ fields.now) }
 {
-    if to <= from {
-        return Reason::Blank;
+    let found = count_commas(fields) + 2;
+    if arity_of(letter) != Some(found) {
+        return Some(Reason::Count(letter, found));
     }
-    let b = s[from];
-    if s[to - 1] == b'\r' {
-        return Reason::CarriageReturn;
+    find_defect(letter, fields)
+}
+
+// What is wrong with a line that is none of the forms.
+fn find_malformed(line: &[u8]) -> Option<Reason>
+    ensures { result ≡ malformed line.now }
+{
+    match line {
+        [] => Some(Reason::Blank),
+        [.., b'\r'] => Some(Reason::CarriageReturn),
+        [letter, ..] if arity_of(*letter).is_none() => Some(Reason::Letter(*letter)),
+        [letter] => Some(Reason::Count(*letter, 1)),
+        [letter, b',', fields @ ..] => find_unlike(*letter, fields),
+        [letter, behind, ..] => Some(Reason::Glued(*letter, *behind)),
     }
-    let fields = arity_of(b);
-    if fields == 0 {
-        return Reason::Letter(b);
-    }
-    if to - from == 1 {
-        return Reason::Count(b, 1);
-    }
-    let c = s[from + 1];
-    if c != b',' {
-        return Reason::Glued(b, c);
-    }
-    let found = count_commas(s, from + 2, to) + 2;
-    if found != fields {
-        return Reason::Count(b, found);
-    }
-    find_defect(s, b, from + 2, to)
 }
 
 // What is wrong with the first line, which is none of the forms.
-fn find_first(s: &[u8], from: usize, to: usize) -> Reason
-    requires { (from ≤ to) × (to < length s.now) }
-    ensures { result ≡ no_sizes (slice from to s.now) }
+fn find_first(line: &[u8]) -> Option<Reason>
+    ensures { result ≡ no_sizes line.now }
 {
-    if to <= from {
-        return Reason::Blank;
-    }
-    let b = s[from];
-    if b == b'N' {
-        return find_malformed(s, from, to);
-    }
-    Reason::NoSizes(b)
-}
-
-// What is wrong with a malformed line at its place.
-fn of_malformed(s: &[u8], from: usize, to: usize, part: Part) -> Reason
-    requires { (from ≤ to) × (to < length s.now) }
-    ensures { result ≡ of_malformed part (slice from to s.now) }
-{
-    match part {
-        Part::First => find_first(s, from, to),
-        Part::Program(_) => find_malformed(s, from, to),
-        Part::Steps => find_malformed(s, from, to),
+    match line {
+        [letter, ..] if *letter != b'N' => Some(Reason::NoSizes(*letter)),
+        _ => find_malformed(line),
     }
 }
 
-// The leftmost of the fields 2 to 5, which have these numbers, that does not fit.
-fn leftmost(
-    letter: u8,
-    p: bool,
-    a: u32,
-    q: bool,
-    b: u32,
-    r: bool,
-    c: u32,
-    s: bool,
-    d: u32,
-) -> Reason
-    ensures { result ≡ cond p (cond q (cond r (cond s Fine (Field letter 5 (Beyond d))) (Field letter 4 (Beyond c)))
-        (Field letter 3 (Beyond b))) (Field letter 2 (Beyond a)) }
+// A field whose number is outside its limits.
+fn beyond(letter: u8, field: usize, number: u32) -> Option<Reason>
+    ensures { result ≡ Some (Field letter field (Beyond number)) }
 {
-    if p {
-        if q {
-            if r {
-                if s {
-                    return Reason::Fine;
-                }
-                return Reason::Field(letter, 5, Defect::Beyond(d));
-            }
-            return Reason::Field(letter, 4, Defect::Beyond(c));
-        }
-        return Reason::Field(letter, 3, Defect::Beyond(b));
-    }
-    Reason::Field(letter, 2, Defect::Beyond(a))
+    Some(Reason::Field(letter, field, Defect::Beyond(number)))
 }
 
 // The leftmost of the sizes outside its limits.
-fn find_unfit(banks: u32, rows: u32, stages: u32, words: u32) -> Reason
+fn find_unfit(banks: u32, rows: u32, stages: u32, words: u32) -> Option<Reason>
     ensures { result ≡ unfit (banked banks rows stages words) }
 {
-    leftmost(
-        b'N',
-        (banks == 1) | (banks == 2) | (banks == 4) | (banks as usize == BANKS),
-        banks,
-        (1 <= rows) & (rows as usize <= ROWS),
-        rows,
-        (1 <= stages) & (stages as usize <= STAGES),
-        stages,
-        (1 <= words) & (words as usize <= WORDS),
-        words,
-    )
-}
-
-// What is wrong with a line of sizes at its place.
-fn of_sizes(part: Part, banks: u32, rows: u32, stages: u32, words: u32) -> Reason
-    ensures { result ≡ of_sizes part (banked banks rows stages words) }
-{
-    match part {
-        Part::First => find_unfit(banks, rows, stages, words),
-        Part::Program(_) => Reason::SizesAgain,
-        Part::Steps => Reason::SizesAgain,
+    if !matches!(banks, 1 | 2 | 4) && banks as usize != BANKS {
+        beyond(b'N', 2, banks)
+    } else if rows < 1 || ROWS < rows as usize {
+        beyond(b'N', 3, rows)
+    } else if stages < 1 || STAGES < stages as usize {
+        beyond(b'N', 4, stages)
+    } else if words < 1 || WORDS < words as usize {
+        beyond(b'N', 5, words)
+    } else {
+        None
     }
 }
 
 // The leftmost register that is none.
-fn find_unformed(letter: u8, code: u32, d: u32, s: u32, imm: u32) -> Reason
+fn find_unformed(letter: u8, code: u32, d: u32, s: u32, imm: u32) -> Option<Reason>
     ensures { result ≡ unformed letter code d s imm }
 {
     if machine_isa::well_formed(code, d, s, imm) {
-        return Reason::Fine;
+        None
+    } else if LAST_REGISTER < d {
+        beyond(letter, 2, d)
+    } else if LAST_REGISTER < s {
+        beyond(letter, 3, s)
+    } else {
+        beyond(letter, 4, imm)
     }
-    leftmost(
-        letter,
-        d <= LAST_REGISTER,
-        d,
-        s <= LAST_REGISTER,
-        s,
-        false,
-        imm,
-        true,
-        imm,
-    )
 }
 
-// What is wrong with an instruction at its place.
-fn of_operation(part: Part, letter: u8, code: u32, d: u32, s: u32, imm: u32) -> Reason
-    ensures { result ≡ of_operation part letter code d s imm }
+// What is wrong with this line, which says this item, in this part.
+fn reason_in(line: &[u8], part: Part, item: Item) -> Option<Reason>
+    ensures { result ≡ reason_in part item line.now }
 {
-    match part {
-        Part::First => Reason::NoSizes(letter),
-        Part::Program(room) => {
-            if 0 < room {
-                return find_unformed(letter, code, d, s, imm);
-            }
-            Reason::Full
+    let letter = line.first().copied().unwrap_or(0);
+    match (part, item) {
+        (Part::First, Item::Malformed) => find_first(line),
+        (_, Item::Malformed) => find_malformed(line),
+        (Part::First, Item::Sizes(banks, rows, stages, words)) => {
+            find_unfit(banks, rows, stages, words)
         }
-        Part::Steps => Reason::Late,
-    }
-}
-
-// What is wrong with a step at its place.
-fn of_step(part: Part, letter: u8) -> Reason
-    ensures { result ≡ of_step part letter }
-{
-    match part {
-        Part::First => Reason::NoSizes(letter),
-        Part::Program(_) => Reason::Fine,
-        Part::Steps => Reason::Fine,
-    }
-}
-
-// The first byte of a line; 0 where it is empty.
-fn first_byte(s: &[u8], from: usize, to: usize) -> u8
-    requires { to ≤ length s.now }
-    ensures { result ≡ get_or (slice from to s.now) 0 0 }
-{
-    if from < to {
-        return s[from];
-    }
-    0
-}
-
-// What is wrong with the line from `from` up to `to`, which is this item, in this part.
-fn reason_in(s: &[u8], from: usize, to: usize, part: Part, item: Item) -> Reason
-    requires { (from ≤ to) × (to < length s.now) }
-    ensures { result ≡ reason_in part item (slice from to s.now) }
-{
-    let letter = first_byte(s, from, to);
-    match item {
-        Item::Malformed => of_malformed(s, from, to, part),
-        Item::Sizes(banks, rows, stages, words) => of_sizes(part, banks, rows, stages, words),
-        Item::Operation(code, d, r, imm) => of_operation(part, letter, code, d, r, imm),
-        _ => of_step(part, letter),
-    }
-}
-
-// Whether nothing is wrong.
-pub fn is_fine(r: Reason) -> bool
-    ensures { result ≡ is_fine r }
-{
-    match r {
-        Reason::Fine => true,
-        Reason::TooLong => false,
-        Reason::NoInput => false,
-        Reason::Blank => false,
-        Reason::Unended => false,
-        Reason::CarriageReturn => false,
-        Reason::NoSizes(_) => false,
-        Reason::SizesAgain => false,
-        Reason::Letter(_) => false,
-        Reason::Glued(_, _) => false,
-        Reason::Count(_, _) => false,
-        Reason::Field(_, _, _) => false,
-        Reason::Full => false,
-        Reason::Late => false,
-    }
-}
-
-// The part of the line after an instruction.
-fn after_operation(part: Part) -> Part
-    ensures { result ≡ after_operation part }
-{
-    match part {
-        Part::First => Part::Program(INSTRUCTIONS),
-        Part::Program(room) => {
-            if 0 < room {
-                return Part::Program(room - 1);
-            }
-            Part::Program(0)
+        (_, Item::Sizes(_, _, _, _)) => Some(Reason::SizesAgain),
+        (Part::First, _) => Some(Reason::NoSizes(letter)),
+        (Part::Program(0), Item::Operation(_, _, _, _)) => Some(Reason::Full),
+        (Part::Program(_), Item::Operation(code, d, s, imm)) => {
+            find_unformed(letter, code, d, s, imm)
         }
-        Part::Steps => Part::Steps,
+        (Part::Steps, Item::Operation(_, _, _, _)) => Some(Reason::Late),
+        _ => None,
     }
 }
 
-// The part of the line after any other.
-fn after_other(part: Part) -> Part
-    ensures { result ≡ after_other part }
-{
-    match part {
-        Part::First => Part::Program(INSTRUCTIONS),
-        Part::Program(_) => Part::Steps,
-        Part::Steps => Part::Steps,
-    }
-}
-
-// The part of the next line.
+// The part of the line behind this item.
 fn next_part(part: Part, item: Item) -> Part
     ensures { result ≡ next_part part item }
 {
-    match item {
-        Item::Malformed => after_other(part),
-        Item::Sizes(_, _, _, _) => after_other(part),
-        Item::Operation(_, _, _, _) => after_operation(part),
-        Item::Issue => after_other(part),
-        Item::Execute(_) => after_other(part),
-        Item::Squash(_) => after_other(part),
-        Item::Commit => after_other(part),
-        Item::Finish(_) => after_other(part),
+    match (part, item) {
+        (Part::First, _) => Part::Program(INSTRUCTIONS),
+        (Part::Program(room), Item::Operation(_, _, _, _)) => Part::Program(room.saturating_sub(1)),
+        _ => Part::Steps,
     }
 }
 
 // What is wrong where no line is left.
-fn at_end(part: Part) -> Reason
+fn at_end(part: Part) -> Option<Reason>
     ensures { result ≡ of_end part }
 {
     match part {
-        Part::First => Reason::NoInput,
-        Part::Program(_) => Reason::Fine,
-        Part::Steps => Reason::Fine,
+        Part::First => Some(Reason::NoInput),
+        _ => None,
     }
 }
 
-// What the line that begins at `at` leads to.
-fn look(s: &[u8], at: usize, part: Part) -> Outlook
+// What the line that begins at `at` leads to: the end, with what is wrong, or the next line, its part and where it begins.
+#[tactic(auto, using(flaw_model::proofs::Looking::looks))]
+fn look(s: &[u8], at: usize, part: Part) -> ControlFlow<Option<Reason>, (Part, usize)>
     ensures { Looks s.now at part result }
 {
     let taken = text_lines::take_line(s, at);
-    let line = taken.line;
-    let next = taken.next;
-    match line {
-        Line::End => Outlook::Ends(at_end(part)),
-        Line::Unended(_) => Outlook::Ends(Reason::Unended),
+    match taken.line {
+        Line::End => ControlFlow::Break(at_end(part)),
+        Line::Unended(_) => ControlFlow::Break(Some(Reason::Unended)),
         Line::Whole(from, to) => {
-            let item = script_reading::read_item(s, from, to);
-            let reason = reason_in(s, from, to, part, item);
-            if is_fine(reason) {
-                return Outlook::Goes(next_part(part, item), next);
+            let line = &s[from..to];
+            let item = script_reading::read_item(line);
+            let reason = reason_in(line, part, item);
+            if reason.is_some() {
+                return ControlFlow::Break(reason);
             }
-            Outlook::Ends(reason)
+            ControlFlow::Continue((next_part(part, item), taken.next))
         }
     }
 }
 
 // The first bad line of a script and what is wrong with it.
-pub fn flaw_of(s: &[u8]) -> Flaw
+#[tactic(auto, unfolding(flaw_model::specs::Flaw::flaw_of))]
+pub fn flaw_of(s: &[u8]) -> Option<Flaw>
     ensures { result ≡ flaw_of s.now }
 {
     if MOST < s.len() {
-        return Flaw {
+        return Some(Flaw {
             line: 0,
             reason: Reason::TooLong,
-        };
+        });
     }
     let mut at: usize = 0;
     let mut line: u64 = 1;
     let mut part = Part::First;
+    // where the next line begins is told by the line before it
     loop {
-        let outlook = look(s, at, part);
-        match outlook {
-            Outlook::Ends(reason) => {
-                return Flaw { line, reason };
-            }
-            Outlook::Goes(next, to) => {
+        match look(s, at, part) {
+            ControlFlow::Continue((next, to)) => {
                 part = next;
                 at = to;
                 line += 1;
             }
+            ControlFlow::Break(reason) => return reason.map(|reason| Flaw { line, reason }),
         }
     }
 }

@@ -7,7 +7,7 @@
 ghost use Rattle.std.specs.Prelude.{◌≡◌, List, ℕ, take};
 ghost use Rattle.player_model.specs.Playing.{Fills};
 
-use machine_model::{CommitAnswer, PER_COMMIT};
+use machine_model::PER_COMMIT;
 use player_model::{Ask, LINE, Phase, Piece, Player};
 
 // Plays on with this program until all is printed or `out` has no room for another line.
@@ -24,13 +24,14 @@ fn play_on(p: Player, s: &[u8], program: &[u32], memory: &mut [u32], out: &mut [
     let mut commits = p.commits;
     let used = p.used;
     let mut at = 0;
+    // what is done next is the player's phase, data that `fill` hands out: a closure could not be kept between two calls
     while at + LINE <= out.len() {
         match phase {
             Phase::Over => {
                 break;
             }
             Phase::Bad(b) => {
-                at = script_printing::put_bad(out, at, b);
+                at = script_printing::put(out, at, &script_printing::bad_line(b));
                 phase = Phase::Over;
             }
             Phase::Stepping => {
@@ -44,25 +45,28 @@ fn play_on(p: Player, s: &[u8], program: &[u32], memory: &mut [u32], out: &mut [
                     }
                     Ask::Issue => {
                         let done = machine::issue(machine, program);
-                        machine = done.machine;
+                        machine = done.state;
                     }
                     Ask::Execute(k) => {
                         let done = machine::execute(machine, program, k as usize, memory);
-                        machine = done.machine;
+                        machine = done.state;
                     }
                     Ask::Squash(k) => {
                         let done = machine::squash(machine, program, k as usize);
-                        machine = done.machine;
+                        machine = done.state;
                     }
                     Ask::Commit => {
                         let done = machine::commit(machine, program, memory);
                         let said = done.answer;
-                        machine = done.machine;
+                        machine = done.state;
                         let more = script_steps::one_more(commits);
                         match said {
-                            CommitAnswer::Refused(_) => {}
-                            CommitAnswer::Committed(i, code, r, v, d) => {
-                                at = script_printing::put_committed(out, at, i, code, r, v, d);
+                            Err(_) => {}
+                            Ok(c) => {
+                                let lines = script_printing::committed_lines(
+                                    c.index, c.code, c.target, c.value, c.distance,
+                                );
+                                at = script_printing::put(out, at, &lines);
                                 commits = more;
                             }
                         }
@@ -77,26 +81,27 @@ fn play_on(p: Player, s: &[u8], program: &[u32], memory: &mut [u32], out: &mut [
                 let mut list = [0u32; PER_COMMIT];
                 let done = machine::finish(machine, program, k, memory, &mut list);
                 let said = done.answer;
-                machine = done.machine;
+                machine = done.state;
                 if script_steps::commits_of(said) == 0 {
                     phase = Phase::Stepping;
                     continue;
                 }
-                at = script_printing::put_committed(
-                    out, at, list[0], list[1], list[2], list[3], list[4],
-                );
+                let [i, code, r, v, d] = list;
+                let lines = script_printing::committed_lines(i, code, r, v, d);
+                at = script_printing::put(out, at, &lines);
                 commits = script_steps::one_more(commits);
                 let fewer = k - 1;
                 phase = Phase::Finishing(fewer);
             }
             Phase::Words(a) => {
                 if a < memory.len() {
-                    at = script_steps::put_word_at(memory, a, out, at);
+                    at = script_printing::put(out, at, &script_steps::word_line_at(memory, a));
                     let next = a + 1;
                     phase = Phase::Words(next);
                     continue;
                 }
-                at = script_printing::put_end(out, at, script_steps::ending_of(machine), commits);
+                let ending = script_steps::ending_of(&machine);
+                at = script_printing::put(out, at, &script_printing::end_line(ending, commits));
                 phase = Phase::Over;
             }
         }

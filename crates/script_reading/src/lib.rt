@@ -1,163 +1,85 @@
 // Reading a script: what a line says, the sizes of the first line, and the program after it.
 #![tactic(auto)]
 
-ghost use Rattle.std.specs.Prelude.{cond, ◌≡◌, ◌+◌, ◌≤◌, ◌<◌, length};
-ghost use Rattle.std.proofs.Math.Seq.{slice};
+ghost use Rattle.std.specs.Prelude.{◌≡◌, ◌==◌, ◌≤◌, ltb, length, position};
+ghost use Rattle.std.specs.Bool.{then_some};
 ghost use Rattle.text.specs.Lines.{line_at};
-ghost use Rattle.text.specs.Computed.Reader.{capacity, parsed_fields};
+ghost use Rattle.text.specs.Computed.Reader.{parsed_fields};
 ghost use Rattle.table.specs.Limits.{words_most};
 ghost use Rattle.machine_model.specs.Program.{program_most};
-ghost use Rattle.player_model.specs.declared.Found.TheVariants.{Nothing};
-ghost use Rattle.script_model.specs.declared.Item.TheVariants.{Malformed};
-ghost use Rattle.script_model.specs.Language.{letter_code, alone, with_one, with_three, with_four, lettered, parsed_line};
+ghost use Rattle.script_model.specs.Language.{letters, letter_code, alone, lettered, parsed_line};
 ghost use Rattle.player_model.specs.Playing.{words_of};
 ghost use Rattle.player_model.specs.Computed.Parts.{header_of, found_in, found_by, found_at, Loads};
 
+use arrayvec::ArrayVec;
 use machine_model::{PER_INSTRUCTION, PROGRAM};
-use player_model::{Found, Loaded};
+use player_model::{Four, Loaded};
 use script_model::{Item, LETTERS, MOST};
-use text::{Line, Numbers};
+use text::{FIELDS, Line};
+use text_lines::Taken;
 
-// The item of the first test that holds; malformed where none does.
-fn choose(p: bool, a: Item, q: bool, b: Item, r: bool, c: Item) -> Item
-    ensures { result ≡ cond p a (cond q b (cond r c Malformed)) }
+// The place of a byte among the letters.
+fn place_of(b: u8) -> Option<usize>
+    ensures { result ≡ position (λ letter. b == letter) letters }
 {
-    if p {
-        return a;
-    }
-    if q {
-        return b;
-    }
-    if r {
-        return c;
-    }
-    Item::Malformed
+    LETTERS.iter().position(|letter| b == *letter)
 }
 
-// The code of an instruction's letter; 0 where it is none.
-pub fn code_of(b: u8) -> u32
-    ensures { result ≡ letter_code b }
+// The code of an instruction's letter.
+pub fn code_of(b: u8) -> Option<u32>
+    ensures { result ≡ then_some (ltb 0 (letter_code b)) (letter_code b) }
 {
-    let mut code: u32 = 0;
-    while code < 7 {
-        if b == LETTERS[code as usize] {
-            return code;
-        }
-        code += 1;
-    }
-    0
+    let code = place_of(b)?;
+    (0 < code).then_some(code as u32)
 }
 
 // A letter alone.
 fn say_alone(b: u8) -> Item
     ensures { result ≡ alone b }
 {
-    let none = Item::Malformed;
-    choose(b == b'i', Item::Issue, b == b'c', Item::Commit, false, none)
-}
-
-// A letter and one number.
-fn say_one(b: u8, k: u32) -> Item
-    ensures { result ≡ with_one b k }
-{
-    choose(
-        b == b'e',
-        Item::Execute(k),
-        b == b'q',
-        Item::Squash(k),
-        b == b'x',
-        Item::Finish(k),
-    )
-}
-
-// A letter and three numbers.
-fn say_three(b: u8, d: u32, s: u32, imm: u32) -> Item
-    ensures { result ≡ with_three b d s imm }
-{
-    let none = Item::Malformed;
-    let code = code_of(b);
-    choose(
-        0 < code,
-        Item::Operation(code, d, s, imm),
-        false,
-        none,
-        false,
-        none,
-    )
-}
-
-// A letter and four numbers.
-fn say_four(b: u8, banks: u32, rows: u32, stages: u32, words: u32) -> Item
-    ensures { result ≡ with_four b banks rows stages words }
-{
-    let none = Item::Malformed;
-    choose(
-        b == b'N',
-        Item::Sizes(banks, rows, stages, words),
-        false,
-        none,
-        false,
-        none,
-    )
+    match b {
+        b'i' => Item::Issue,
+        b'c' => Item::Commit,
+        _ => Item::Malformed,
+    }
 }
 
 // A letter and these fields.
-fn say_fields(b: u8, n: Numbers) -> Item
-    requires { n.count ≤ capacity }
-    ensures { result ≡ lettered b (parsed_fields n) }
+fn say_fields(b: u8, fields: Option<ArrayVec<u32, FIELDS>>) -> Item
+    ensures { result ≡ lettered b (parsed_fields fields) }
 {
-    let k = n.count;
-    let good = n.good;
-    let first = n.values[0];
-    let second = n.values[1];
-    let third = n.values[2];
-    let one = say_one(b, first);
-    let three = say_three(b, first, second, third);
-    let four = say_four(b, first, second, third, n.values[3]);
-    choose(
-        good & (k == 1),
-        one,
-        good & (k == 3),
-        three,
-        good & (k == 4),
-        four,
-    )
+    let Some(fields) = fields else {
+        return Item::Malformed;
+    };
+    match (b, fields.as_slice()) {
+        (b'e', [k]) => Item::Execute(*k),
+        (b'q', [k]) => Item::Squash(*k),
+        (b'x', [k]) => Item::Finish(*k),
+        (b'N', [banks, rows, stages, words]) => Item::Sizes(*banks, *rows, *stages, *words),
+        (_, [d, s, imm]) => match code_of(b) {
+            Some(code) => Item::Operation(code, *d, *s, *imm),
+            None => Item::Malformed,
+        },
+        _ => Item::Malformed,
+    }
 }
 
-// What the line from `from` up to `to` says.
-pub fn read_item(s: &[u8], from: usize, to: usize) -> Item
-    requires { to ≤ length s.now }
-    ensures { result ≡ parsed_line (slice from to s.now) }
+// What a line says.
+pub fn read_item(line: &[u8]) -> Item
+    ensures { result ≡ parsed_line line.now }
 {
-    if to <= from {
-        return Item::Malformed;
+    match line {
+        [b] => say_alone(*b),
+        [b, b',', rest @ ..] => say_fields(*b, text_numbers::read_fields(rest)),
+        _ => Item::Malformed,
     }
-    let b = s[from];
-    if to - from == 1 {
-        return say_alone(b);
-    }
-    if s[from + 1] != b',' {
-        return Item::Malformed;
-    }
-    say_fields(b, text_numbers::read_fields(s, from + 2, to))
-}
-
-// What was found, if the test holds.
-fn found_if(t: bool, found: Found) -> Found
-    ensures { result ≡ cond t found Nothing }
-{
-    if t {
-        return found;
-    }
-    Found::Nothing
 }
 
 // The four numbers that an item gives: on the first line sizes within the limits, on a later one a well-formed instruction.
-fn take_four(item: Item, first: bool, at: usize) -> Found
+fn take_four(item: Item, first: bool, at: usize) -> Option<Four>
     ensures { result ≡ found_in first item at }
 {
     match item {
-        Item::Malformed => Found::Nothing,
         Item::Sizes(banks, rows, stages, words) => {
             let fit = table_rules::sizes_fit(
                 banks as usize,
@@ -165,39 +87,36 @@ fn take_four(item: Item, first: bool, at: usize) -> Found
                 stages as usize,
                 words as usize,
             );
-            found_if(first & fit, Found::Four(banks, rows, stages, words, at))
+            (first & fit).then_some(Four(banks, rows, stages, words, at))
         }
         Item::Operation(code, d, s, imm) => {
             let formed = machine_isa::well_formed(code, d, s, imm);
-            found_if(!first & formed, Found::Four(code, d, s, imm, at))
+            (!first & formed).then_some(Four(code, d, s, imm, at))
         }
-        _ => Found::Nothing,
+        _ => None,
     }
 }
 
 // The four numbers that the line gives which a reader at `at` hands out, and where the reader stands then.
-fn found_on(s: &[u8], at: usize, first: bool) -> Found
+fn found_on(s: &[u8], at: usize, first: bool) -> Option<Four>
     ensures { result ≡ found_by first s.now (line_at s.now at) }
 {
-    let taken = text_lines::take_line(s, at);
-    let line = taken.line;
-    let next = taken.next;
+    let Taken { line, next } = text_lines::take_line(s, at);
     match line {
-        Line::End => Found::Nothing,
-        Line::Unended(_) => Found::Nothing,
-        Line::Whole(from, to) => take_four(read_item(s, from, to), first, next),
+        Line::Whole(from, to) => take_four(read_item(&s[from..to]), first, next),
+        _ => None,
     }
 }
 
 // The sizes on the first line.
-pub fn read_header(s: &[u8]) -> Found
+pub fn read_header(s: &[u8]) -> Option<Four>
     ensures { result ≡ header_of s.now }
 {
     found_on(s, 0, true)
 }
 
 // The instruction on the line that begins at `at`.
-fn find_operation(s: &[u8], at: usize) -> Found
+fn find_operation(s: &[u8], at: usize) -> Option<Four>
     ensures { result ≡ found_at s.now at }
 {
     found_on(s, at, false)
@@ -211,10 +130,9 @@ pub fn words_of(s: &[u8]) -> usize
     if MOST < s.len() {
         return 0;
     }
-    let header = read_header(s);
-    match header {
-        Found::Nothing => 0,
-        Found::Four(_, _, _, words, _) => words as usize,
+    match read_header(s) {
+        Some(Four(_, _, _, words, _)) => words as usize,
+        None => 0,
     }
 }
 
@@ -226,19 +144,15 @@ pub fn read_program(s: &[u8], from: usize, program: &mut [u32]) -> Loaded
     let mut cursor = from;
     let mut line: u64 = 2;
     let mut used: usize = 0;
+    // `used` is told wherever the loop ends, so a range would count it twice.
     while used < PROGRAM {
-        let found = find_operation(s, cursor);
-        match found {
-            Found::Nothing => {
-                return Loaded { cursor, line, used };
-            }
-            Found::Four(code, d, r, imm, next) => {
-                machine_isa::put_four(program, used, code, d, r, imm);
-                used += PER_INSTRUCTION;
-                line += 1;
-                cursor = next;
-            }
-        }
+        let Some(Four(code, d, r, imm, next)) = find_operation(s, cursor) else {
+            break;
+        };
+        machine_isa::put_numbers(program, used, &[code, d, r, imm]);
+        used += PER_INSTRUCTION;
+        line += 1;
+        cursor = next;
     }
     Loaded { cursor, line, used }
 }

@@ -6,32 +6,33 @@ ghost use Rattle.marks.specs.Circle.{stage};
 ghost use Rattle.machine_model.specs.Contract.{plain, finish_says};
 ghost use Rattle.sequential.specs.Play.{commits_in};
 ghost use Rattle.script_model.specs.Output.{faulted, ending};
-ghost use Rattle.player_model.specs.Playing.{one_more, ask_in, order_at, word_line_at, Writes, longest};
+ghost use Rattle.player_model.specs.Playing.{one_more, ask_in, order_at};
+ghost use Rattle.player_model.specs.Playing as steps;
 
-use machine_model::{Entry, FinishAnswer, Machine};
-use player_model::{Ask, COUNT, Order, Phase};
+use engine::Refusal;
+use machine_model::{Entry, Kind, Machine};
+use player_model::{Ask, Order, Phase};
 use script_model::{Ending, Item};
-use table::STAGES;
+use script_printing::Lines;
 use text::Line;
+use text_lines::Taken;
 
 // One more; the largest number stays.
 pub fn one_more(n: u64) -> u64
     ensures { result ≡ one_more n }
 {
-    if n < COUNT {
-        return n + 1;
-    }
-    n
+    n.saturating_add(1)
 }
 
-// Whether an entry has executed at an address outside the memory (kinds 1 to 3 access it), or as an H at an odd byte number.
+// Whether an entry has executed at an address outside the memory, or as an H at an odd byte number.
 fn has_faulted(e: Entry, words: usize) -> bool
     ensures { result ≡ faulted words e }
 {
-    let kind = machine_isa::entry_kind(e);
-    let place = machine_isa::entry_place(e);
-    let odd = machine_isa::is_misaligned(e);
-    (((0 < kind) & (kind < 4)) & (words <= place as usize)) | odd
+    let accesses = matches!(
+        machine_isa::entry_kind(e),
+        Some(Kind::Loading | Kind::Storing | Kind::Merging)
+    );
+    (accesses && words <= machine_isa::entry_place(e) as usize) || machine_isa::is_misaligned(e)
 }
 
 // The stage of position 0.
@@ -45,39 +46,31 @@ fn first_stage(oldest: usize, stages: usize) -> usize
 }
 
 // How a script ends that left this machine.
-pub fn ending_of(m: Machine) -> Ending
-    ensures { result ≡ ending (plain m) }
+pub fn ending_of(m: &Machine) -> Ending
+    ensures { result ≡ ending (plain m.now) }
 {
-    let t = m.table;
-    let live = t.live;
-    let oldest = t.oldest;
-    let stages = t.stages;
-    let words = t.words;
+    let live = m.table.live;
     if live == 0 {
         if m.count <= m.next {
             return Ending::Done;
         }
         return Ending::Open;
     }
-    let first = first_stage(oldest, stages);
-    if first >= STAGES {
+    let first = first_stage(m.table.oldest, m.table.stages);
+    let Some(&e) = m.window.get(first) else {
         return Ending::Open;
-    }
-    let window = m.window;
-    if has_faulted(window[first], words) {
+    };
+    if has_faulted(e, m.table.words) {
         return Ending::Fault;
     }
     Ending::Open
 }
 
 // How many commits a finish made.
-pub fn commits_of(said: FinishAnswer) -> usize
+pub fn commits_of(said: Result<usize, Refusal>) -> usize
     ensures { result ≡ commits_in (finish_says said) }
 {
-    match said {
-        FinishAnswer::Refused(_) => 0,
-        FinishAnswer::Finished(n) => n,
-    }
+    said.unwrap_or(0)
 }
 
 // What this item of line `line` asks for; any item that is no step makes a bad line.
@@ -85,9 +78,7 @@ fn ask_of(item: Item, line: u64) -> Ask
     ensures { result ≡ ask_in item line }
 {
     match item {
-        Item::Malformed => Ask::Turn(Phase::Bad(line)),
-        Item::Sizes(_, _, _, _) => Ask::Turn(Phase::Bad(line)),
-        Item::Operation(_, _, _, _) => Ask::Turn(Phase::Bad(line)),
+        Item::Malformed | Item::Sizes(..) | Item::Operation(..) => Ask::Turn(Phase::Bad(line)),
         Item::Issue => Ask::Issue,
         Item::Execute(k) => Ask::Execute(k),
         Item::Squash(k) => Ask::Squash(k),
@@ -100,9 +91,7 @@ fn ask_of(item: Item, line: u64) -> Ask
 pub fn next_order(s: &[u8], cursor: usize, line: u64) -> Order
     ensures { result ≡ order_at s.now cursor line }
 {
-    let taken = text_lines::take_line(s, cursor);
-    let found = taken.line;
-    let next = taken.next;
+    let Taken { line: found, next } = text_lines::take_line(s, cursor);
     match found {
         Line::End => Order {
             ask: Ask::Turn(Phase::Words(0)),
@@ -115,7 +104,7 @@ pub fn next_order(s: &[u8], cursor: usize, line: u64) -> Order
             line,
         },
         Line::Whole(from, to) => {
-            let item = script_reading::read_item(s, from, to);
+            let item = script_reading::read_item(&s[from..to]);
             Order {
                 ask: ask_of(item, line),
                 cursor: next,
@@ -126,25 +115,19 @@ pub fn next_order(s: &[u8], cursor: usize, line: u64) -> Order
 }
 
 // The line of the word at address `a`; a word of 0 has none.
-pub fn put_word_at(memory: &[u32], a: usize, out: &mut [u8], at: usize) -> usize
-    requires a_in_bounds { a < length memory.now }
-    requires longest_in_bounds { at + longest ≤ length out.old }
-    ensures writes { Writes out.old at (word_line_at memory.now a) out.new result }
-    ensures upper_bound { result ≤ at + longest }
+pub fn word_line_at(memory: &[u32], a: usize) -> Lines
+    requires { a < length memory.now }
+    ensures { result.items ≡ steps.word_line_at memory.now a }
 {
-    let v = memory[a];
-    if v == 0 {
-        return at;
+    match memory[a] {
+        0 => Lines::new(),
+        v => script_printing::word_line(a, v),
     }
-    script_printing::put_word(out, at, a, v)
 }
 
 // How many places of the lent program are in use.
 pub fn places(program: &[u32], used: usize) -> usize
     ensures { (result ≤ length program.now) × (take result program.now ≡ take used program.now) }
 {
-    if used < program.len() {
-        return used;
-    }
-    program.len()
+    used.min(program.len())
 }

@@ -8,19 +8,16 @@ ghost use Rattle.io.specs.Counts.{IsPrefixLen};
 use machine_model::PROGRAM;
 use std::env::FillError;
 use std::fs;
-use std::io::{Print, Read};
+use std::io::Print;
 use std::rt::{Env, Files};
 use table::WORDS;
 
 // How many arguments there are, the program's name among them.
 fn count_arguments(env: &impl Env) -> usize {
     let mut path = io::buffer();
-    for i in 0..usize::MAX {
-        if let Err(FillError::NotPresent) = env.arg(i, &mut path) {
-            return i;
-        }
-    }
-    usize::MAX
+    (0..usize::MAX)
+        .find(|i| matches!(env.arg(*i, &mut path), Err(FillError::NotPresent)))
+        .unwrap_or(usize::MAX)
 }
 
 // Puts argument `i` at the start of `path`; nothing, where it is missing or longer than that.
@@ -28,21 +25,6 @@ fn argument(env: &impl Env, i: usize, path: &mut [u8]) -> usize
     ensures { IsPrefixLen result path.new }
 {
     env.arg(i, path).unwrap_or(0)
-}
-
-// Reads until the buffer is full, the input ends or a read fails, and returns how many bytes it put at the start.
-fn read_full<R: Read>(from: &mut R, into: &mut [u8]) -> usize
-    ensures { IsPrefixLen result into.new }
-{
-    let mut done = 0;
-    while done < into.len() {
-        let n = from.read(&mut into[done..]).unwrap_or(0);
-        if n == 0 {
-            break;
-        }
-        done += n;
-    }
-    done
 }
 
 // Reads the file that argument `i` names; nothing, where it cannot be read.
@@ -54,9 +36,11 @@ fn read_named(rt: &(impl Env + Files), i: usize, into: &mut [u8]) -> usize
     let Ok(name) = str::from_utf8(&path[..length]) else {
         return 0;
     };
-    match fs::open(rt, name) {
-        Ok(mut file) => read_full(&mut file, into),
-        Err(_) => 0,
+    let Ok(mut file) = fs::open(rt, name) else {
+        return 0;
+    };
+    match input::read_all(&mut file, into) {
+        Ok(n) | Err(n) => n,
     }
 }
 
@@ -65,8 +49,7 @@ fn play(s: &[u8], program: &mut [u32], memory: &mut [u32], out: &mut [u8]) -> us
     ensures { result ≤ length out.new }
 {
     let player = script::begin(s, true, program, memory);
-    let piece = script::fill(player, s, program, memory, out);
-    piece.end
+    script::fill(player, s, program, memory, out).end
 }
 
 fn say(to: &impl Print, s: &[u8]) {
@@ -96,10 +79,8 @@ fn compare(rt: &(impl Env + Print), i: usize, s: &[u8], out: &[u8], wanted: &[u8
     false
 }
 
-// Plays the script that argument `i` names, and compares with what argument `j` names: 1 if it printed that.
-fn play_pair(rt: &(impl Env + Files + Print), i: usize, j: usize) -> u64
-    ensures { result ≤ 1 }
-{
+// Plays the script that argument `i` names, and compares with what argument `j` names: whether it printed that.
+fn play_pair(rt: &(impl Env + Files + Print), i: usize, j: usize) -> bool {
     let mut text = io::large_buffer();
     let n = read_named(rt, i, &mut text);
     let mut wanted = io::buffer();
@@ -108,21 +89,15 @@ fn play_pair(rt: &(impl Env + Files + Print), i: usize, j: usize) -> u64
     let mut memory = [0u32; WORDS];
     let mut out = io::buffer();
     let words = script::words_of(&text[..n]);
-    let end = play(&text[..n], &mut program, &mut memory[0..words], &mut out);
-    if compare(rt, i, &text[..n], &out[0..end], &wanted[..m]) {
-        return 1;
-    }
-    0
+    let end = play(&text[..n], &mut program, &mut memory[..words], &mut out);
+    compare(rt, i, &text[..n], &out[..end], &wanted[..m])
 }
 
 fn main(rt: HostRuntime) {
     let pairs = count_arguments(&rt) / 2;
-    let mut passed: u64 = 0;
-    let mut k: usize = 0;
-    while k < pairs {
-        passed += play_pair(&rt, 2 * k + 1, 2 * k + 2);
-        k += 1;
-    }
+    let passed = (0..pairs)
+        .filter(|k| play_pair(&rt, 2 * *k + 1, 2 * *k + 2))
+        .count();
     let _ = print!(rt; "{passed}");
     say(&rt, b" passed\n");
 }

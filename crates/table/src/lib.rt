@@ -13,9 +13,9 @@ pub const SLOTS: usize = BANKS * ROWS;
 
 pub const WORDS: usize = 4096;
 
-// Row i of bank b is at b * ROWS + i of the arrays by row. A mark word (load or store bits) has bit s for stage s.
-// `executed` has the stages whose reference has executed, `values` the word of a store and `taken` the word that a load took,
-// by its stage, which bears its marks in one row. C shares this layout, and the ticket's (crate embed).
+// A struct of arrays by row and by stage, as 01 names it. Row i of bank b is at b * ROWS + i of the arrays by row. A mark word (load
+// or store bits) has bit s for stage s. `executed` has the stages whose reference has executed, `values` the word of a store and
+// `taken` the word that a load took, by its stage, which bears its marks in one row. C shares this layout, and the ticket's (crate embed).
 #[repr(C)]
 #[derive(Clone, Copy)]
 pub struct Table {

@@ -1,15 +1,13 @@
--- The equations of a decimal: one digit below ten, otherwise the decimal of the tenth part and one digit more; and its
--- length. The count that bounds the digits does not matter as long as it is larger than the number, so the tenth part may
+-- The equations of a decimal: one digit below ten, otherwise the decimal of the tenth part and one digit more.
+-- The count that bounds the digits does not matter as long as it is larger than the number, so the tenth part may
 -- take its own.
 -- Assumes nothing.
 use mathlib.Core.Bool.{Bool, true, false}
 use mathlib.Core.Path.{◌≡◌, refl, ap}
 use mathlib.Core.List.{List, [], ◌∷◌, ◌++◌}
-use Prim.Native.Nat.{ℕ, zero, suc, ◌+◌, ◌/◌, ◌%◌, ◌^◌, ◌<◌, ◌≤◌, zero-le}
-use native.Mathlib.Nat.{pow-suc}
+use Prim.Native.Nat.{ℕ, zero, suc, ◌+◌, ◌/◌, ◌%◌, ◌<◌, ◌≤◌}
 use native.Mathlib.Omega.{arith}
 use lib.Dec.{ltb}
-use lib.ListN.{length, length-append}
 use borrow.Author.Tests.{ltb-false, lt-ltb, le-ltb}
 use Rattle.text.specs.Decimal.{digits, decimal}
 
@@ -36,25 +34,3 @@ unfolding digits
 decimal_more n h =
     rw (le-ltb n 10 h)
     (ap (λ (l : List ℕ). l ++ ((48 + n % 10) ∷ [])) (digits_same n (suc (n / 10)) (n / 10) (omega arith) (omega arith)))
-
--- one digit more
-longer : (m k n : ℕ) → (10 ≤ n → length (digits k (n / 10)) ≤ m) → length (digits (suc k) n) ≤ suc m
-unfolding digits
-longer m k n f = go (ltb n 10) refl
-  where
-    go : (t : Bool) → ltb n 10 ≡ t → length (digits (suc k) n) ≤ suc m
-    go true e = rw e (omega arith)
-    go false e =
-        rw (e, length-append (digits k (n / 10)) ((48 + n % 10) ∷ []))
-        (let h : length (digits k (n / 10)) ≤ m = f (ltb-false n 10 e) in omega arith)
-
--- at most m digits below the m-th power of ten, of which 0 has one
-digits_length : (m k n : ℕ) → n < 10 ^ suc m → length (digits k n) ≤ suc m
-unfolding digits
-digits_length m zero n h = zero-le
-digits_length zero (suc k) n h = longer zero k n (λ t. absurd (omega arith))
-digits_length (suc m) (suc k) n h =
-    longer (suc m) k n (λ t. digits_length m k (n / 10) (omega (arith, pow-suc 10 (suc m))))
-
-pub decimal_length : (n : ℕ) → n < 18446744073709551616 → length (decimal n) ≤ 20
-decimal_length n h = digits_length 19 (suc n) n (omega arith)

@@ -1,55 +1,64 @@
 -- The line at an index is the first of the text's lines from there on, and the others are those after its line feed.
--- So a reader, which stands behind each line that it handed out, hands out the text's lines and its rest. The search for the
--- line feed goes byte by byte: passing an index that holds none leaves the first one as it is.
+-- So a reader, which stands behind each line that it handed out, hands out the text's lines and its rest. The line feed is
+-- where a search for it from the index on finds it.
 -- Assumes nothing.
-use mathlib.Core.Bool.{Bool, true, false}
+use mathlib.Core.Bool.{Bool, true, false, cond}
 use mathlib.Core.Path.{◌≡◌, refl, sym, ap, ap₂, subst, ◌∙◌}
 use mathlib.Core.List.{List, [], ◌∷◌, ◌++◌, append_assoc, append-nil}
-use Prim.Native.Nat.{ℕ, zero, suc, ◌+◌, ◌<◌, ◌≤◌}
+use Prim.Native.Nat.{ℕ, zero, suc, ◌+◌, ◌-◌, ◌<◌, ◌≤◌}
 use native.Mathlib.Nat.{zero-add, suc-add}
 use native.Mathlib.Numerals.{add-one}
 use native.Mathlib.Omega.{arith}
 use lib.Dec.{eqb, ltb}
-use lib.ListN.{length, get_or, take, drop, length-drop, drop_of_length-le}
-use lib.Seq.{drop-cons, drop-drop, take-nil, slice}
-use borrow.Author.Tests.{ltb-true, ltb-false, lt-ltb, le-ltb, eq-eqb, ne_eqb}
+use Rattle.std.specs.Prelude.{Some, None, position}
+use Rattle.std.proofs.lemmas.List.{take_rest}
+use Rattle.std.proofs.lemmas.List.Recursion.{is_position_or_len}
+use lib.ListN.{length, take, drop, length-drop, drop_of_length-le}
+use lib.Seq.{drop-drop, take-nil, slice}
+use borrow.Author.Tests.{ltb-true, ltb-false, lt-ltb, le-ltb}
 use Rattle.text.specs.Lines.{feed_in, feed, line_at, Lines, ended, lines_from, lines_of, handed}
 use Rattle.text.specs.declared.Line.{Line}
 use Rattle.text.specs.declared.Line.TheVariants.{End, Unended, Whole}
-
-feed_here : (b : ℕ) (bs : List ℕ) → b ≡ 10 → feed_in (b ∷ bs) ≡ 0
-unfolding feed_in
-feed_here b bs e = rw (eq-eqb b 10 e)
-
-feed_later : (b : ℕ) (bs : List ℕ) → (b ≡ 10 → ⊥) → feed_in (b ∷ bs) ≡ suc (feed_in bs)
-unfolding feed_in
-feed_later b bs n = rw (ne_eqb b 10 n)
 
 feed_none : feed_in [] ≡ 0
 unfolding feed_in
 feed_none = refl
 
--- the search, byte by byte
-pub feed_on : (s : List ℕ) (i : ℕ) → i < length s → (get_or s i 0 ≡ 10 → ⊥) → feed s (i + 1) ≡ feed s i
-feed_on s i h n =
-    let e : feed_in (drop i s) ≡ suc (feed_in (drop (suc i) s)) =
-    ap feed_in (drop-cons s i 0 h) ∙ feed_later (get_or s i 0) (drop (suc i) s) n in
-    rw (add-one i) (omega arith)
+-- where a search finds a line feed, and where it finds none
+feed_sought : (s : List ℕ) → position (λ b. eqb b 10) s ≡ cond (ltb (feed_in s) (length s)) (Some (feed_in s)) None
+unfolding feed_in
+feed_sought s =
+    ap (λ (n : ℕ). cond (ltb n (length s)) (Some n) None)
+    (sym (is_position_or_len feed_in (λ b. eqb b 10) refl (λ b bs. ap (cond (eqb b 10) 0) (omega arith)) s))
 
-pub line_found : (s : List ℕ) (at i : ℕ) → at < length s → i < length s → feed s i ≡ feed s at → get_or s i 0 ≡ 10
-    → Whole at i ≡ line_at s at
-line_found s at i h k e b =
-    let z : feed_in (drop i s) ≡ 0 = ap feed_in (drop-cons s i 0 k) ∙ feed_here (get_or s i 0) (drop (suc i) s) b in
-    let f : feed s at ≡ i = omega arith in
-    rw (lt-ltb at (length s) h, f, lt-ltb i (length s) k)
+feed_found : (s : List ℕ) (n : ℕ) → Some n ≡ position (λ b. eqb b 10) s → (n ≡ feed_in s) × (feed_in s < length s)
+feed_found s n e = go (ltb (feed_in s) (length s)) refl (e ∙ feed_sought s)
+  where
+    go : (t : Bool) → ltb (feed_in s) (length s) ≡ t → Some n ≡ cond t (Some (feed_in s)) None
+        → (n ≡ feed_in s) × (feed_in s < length s)
+    go true h f = (cc, ltb-true (feed_in s) (length s) h)
+    go false h f = cc
 
-pub line_missed : (s : List ℕ) (at i : ℕ) → at < length s → length s ≤ i → feed s i ≡ feed s at
-    → Unended at ≡ line_at s at
-line_missed s at i h k e =
-    rw (lt-ltb at (length s) h, le-ltb (feed s at) (length s) (omega arith))
+feed_missed : (s : List ℕ) → None ≡ position (λ b. eqb b 10) s → length s ≤ feed_in s
+feed_missed s e = go (ltb (feed_in s) (length s)) refl (e ∙ feed_sought s)
+  where
+    go : (t : Bool) → ltb (feed_in s) (length s) ≡ t → None ≡ cond t (Some (feed_in s)) None → length s ≤ feed_in s
+    go true h f = absurd (cc)
+    go false h f = ltb-false (feed_in s) (length s) h
 
-pub line_none : (s : List ℕ) (at : ℕ) → length s ≤ at → End ≡ line_at s at
-line_none s at h = rw (le-ltb at (length s) h)
+-- the line at an index, by a search in the bytes from there on
+pub line_found : (s : List ℕ) (at n : ℕ) → at < length s
+    → Some n ≡ position (λ b. eqb b 10) (take (length s - at) (drop at s)) → Whole at (at + n) ≡ line_at s at
+line_found s at n h e =
+    let f = feed_found (drop at s) n (rw (take_rest s at) at e) in
+    let inside : feed s at < length s = omega (arith, f.1, length-drop at s) in
+    rw (lt-ltb at (length s) h, lt-ltb (feed s at) (length s) inside, f.0)
+
+pub line_missed : (s : List ℕ) (at : ℕ) → at < length s
+    → None ≡ position (λ b. eqb b 10) (take (length s - at) (drop at s)) → Unended at ≡ line_at s at
+line_missed s at h e =
+    let f : length (drop at s) ≤ feed_in (drop at s) = feed_missed (drop at s) (rw (take_rest s at) at e) in
+    rw (lt-ltb at (length s) h, le-ltb (feed s at) (length s) (omega (arith, length-drop at s)))
 
 -- the lines of bytes with a line feed, and of bytes without
 from_feed : (line s : List ℕ) → feed_in s < length s

@@ -1,11 +1,18 @@
 // A reader that hands out one line of a text after another. No function that is public asks for anything.
 #![tactic(auto)]
 
-ghost use Rattle.std.specs.Prelude.{◌≡◌, ℕ, ◌+◌, ◌^◌, ◌<◌};
+ghost use Rattle.std.specs.Prelude.{◌≡◌, ◌==◌, ℕ, ◌+◌, ◌^◌, ◌<◌, position};
 ghost use Rattle.text.specs.Lines.{line_at, after_line};
 ghost use Rattle.text.specs.declared.Line.TheVariants.{Whole};
 
 use text::Line;
+
+// Where the first line feed stands.
+fn find_feed(s: &[u8]) -> Option<usize>
+    ensures { result ≡ position (λ b. b == 10) s.now }
+{
+    s.iter().position(|b| *b == b'\n')
+}
 
 // The line that begins at `at`.
 fn line_at(s: &[u8], at: usize) -> Line
@@ -14,14 +21,10 @@ fn line_at(s: &[u8], at: usize) -> Line
     if s.len() <= at {
         return Line::End;
     }
-    let mut i = at;
-    while i < s.len() {
-        if s[i] == b'\n' {
-            return Line::Whole(at, i);
-        }
-        i += 1;
+    match find_feed(&s[at..]) {
+        Some(n) => Line::Whole(at, at + n),
+        None => Line::Unended(at),
     }
-    Line::Unended(at)
 }
 
 // Where a reader stands that stood at `at` and handed out this line.
@@ -30,8 +33,7 @@ fn place_after(line: Line, at: usize) -> usize
     ensures { result ≡ after_line line at }
 {
     match line {
-        Line::End => at,
-        Line::Unended(_) => at,
+        Line::End | Line::Unended(_) => at,
         Line::Whole(_, to) => to + 1,
     }
 }

@@ -1,30 +1,32 @@
-// Decimal numbers printed, and numbers parted by commas read. `put_decimal`, `put_text` and `read_fields` ask for slices that are
-// long enough.
+// Decimal numbers printed, and numbers parted by commas read. `put_decimal`, `put_bytes` and `put_text` ask for room.
 #![tactic(auto)]
 
-ghost use Rattle.std.specs.Prelude.{◌&&◌, ◌≡◌, ◌+◌, ◌*◌, ◌≤◌, ◌<◌, leb, ltb, length};
+ghost use Rattle.std.specs.Prelude.{◌≡◌, ℕ, List, ◌+◌, ◌≤◌, ◌<◌, ◌++◌, length, Some};
 ghost use Rattle.std.proofs.lemmas.List.Edits.{sets};
-ghost use Rattle.std.proofs.Math.Seq.{slice};
+ghost use Rattle.arrayvec.specs.ArrayVec.{array_vec_len};
 ghost use Rattle.text.specs.Decimal.{decimal};
-ghost use Rattle.text.specs.Fields.{largest, bad, byte, closed, fields};
-ghost use Rattle.text.specs.Computed.Reader.{capacity, shown, few, fitting, parsed_fields};
+ghost use Rattle.text.specs.Fields.{largest, digit, byte, fields};
+ghost use Rattle.text.specs.Computed.Reader.{few, opened, with_digit, shown, fitting, parsed_fields};
 
-use text::{FIELDS, LARGEST, Numbers};
+use arrayvec::ArrayVec;
+use text::{FIELDS, Numbers};
 
-// Writes n in decimal at `at`, and returns where it ends.
-pub fn put_decimal(out: &mut [u8], at: usize, n: u64) -> usize
-    requires { at + 20 ≤ length out.old }
-    ensures ended { result ≡ at + length (decimal n) }
-    ensures text { out.new ≡ sets out.old at (decimal n) }
+// Appends n in decimal. There must be room for 20 digits, which is the most that a u64 has.
+pub fn put_decimal<const N: usize>(line: &mut ArrayVec<u8, N>, n: u64)
+    requires { array_vec_len line.old + 20 ≤ N }
+    ensures text { line.new.items ≡ line.old.items ++ decimal n }
+    ensures len { array_vec_len line.new ≤ array_vec_len line.old + 20 }
 {
-    if n < 10 {
-        out[at] = (48 + n) as u8;
-        at + 1
-    } else {
-        let end = put_decimal(out, at, n / 10);
-        out[end] = (48 + n % 10) as u8;
-        end + 1
-    }
+    put_bytes(line, itoa::Buffer::new().format(n).as_bytes());
+}
+
+// Appends the bytes of s. There must be room.
+pub fn put_bytes<const N: usize>(line: &mut ArrayVec<u8, N>, s: &[u8])
+    requires { array_vec_len line.old + length s.now ≤ N }
+    ensures text { line.new.items ≡ line.old.items ++ s.now }
+    ensures len { array_vec_len line.new ≡ array_vec_len line.old + length s.now }
+{
+    line.try_extend_from_slice(s).unwrap();
 }
 
 // Writes the bytes of s at `at`, and returns where they end.
@@ -33,125 +35,53 @@ pub fn put_text(out: &mut [u8], at: usize, s: &[u8]) -> usize
     ensures ended { result ≡ at + length s.now }
     ensures text { out.new ≡ sets out.old at s.now }
 {
-    let mut i = 0;
-    while i < s.len() {
-        out[at + i] = s[i];
-        i += 1;
-    }
-    at + i
+    let end = at + s.len();
+    out[at..end].copy_from_slice(s);
+    end
 }
 
-// What was read is of no use.
-fn spoiled(n: Numbers) -> Numbers
-    ensures { shown result ≡ bad }
-{
-    let mut m = n;
-    m.good = false;
-    m
-}
-
-// Whether an open field x takes the digit d.
-fn takes_digit(x: u32, d: u32) -> bool
+// What the open field becomes with the digit d: one that is 0 takes none, and none passes the largest number.
+fn with_digit(field: Option<u32>, d: u32) -> Option<u32>
     requires { d < 10 }
-    ensures { result ≡ (ltb 0 x && leb (x * 10 + d) largest) }
+    ensures { (ns : List ℕ) → with_digit ns result ≡ digit largest d (opened field) ns }
 {
-    (0 < x) & (x as u64 * 10 + d as u64 <= LARGEST)
+    match field {
+        None => Some(d),
+        Some(0) => None,
+        Some(x) => x.checked_mul(10)?.checked_add(d),
+    }
 }
 
-// A digit.
-fn add_digit(n: Numbers, d: u32) -> Numbers
-    requires { d < 10 }
-    ensures { shown result ≡ few (byte largest (shown n) (48 + d)) }
+// One byte more: nothing where the line is no list of numbers, or has too many.
+pub fn next_byte(n: Numbers, b: u8) -> Option<Numbers>
+    ensures { shown result ≡ few (byte largest (shown (Some n)) b) }
 {
-    let x = n.current;
-    let mut m = n;
-    if !m.begun {
-        m.current = d;
-        m.begun = true;
-        return m;
-    }
-    if takes_digit(x, d) {
-        m.current = x * 10 + d;
-        return m;
-    }
-    spoiled(m)
-}
-
-// A comma.
-fn close_field(n: Numbers) -> Numbers
-    ensures { shown result ≡ few (byte largest (shown n) 44) }
-{
-    let k = n.count;
-    let x = n.current;
-    let mut m = n;
-    if !m.begun {
-        return spoiled(m);
-    }
-    if k < 63 {
-        m.values[k] = x;
-        m.count = k + 1;
-        m.begun = false;
-        return m;
-    }
-    spoiled(m)
-}
-
-// One byte more.
-pub fn next_byte(n: Numbers, b: u8) -> Numbers
-    ensures { shown result ≡ few (byte largest (shown n) b) }
-{
-    if b == b',' {
-        return close_field(n);
-    }
-    if b < b'0' {
-        return spoiled(n);
-    }
-    if b'9' < b {
-        return spoiled(n);
-    }
-    add_digit(n, b as u32 - 48)
-}
-
-// The end of the line closes the open field.
-fn finish_line(n: Numbers) -> Numbers
-    ensures fields { parsed_fields result ≡ fitting (closed (shown n)) }
-    ensures count { result.count ≤ capacity }
-{
-    let k = n.count;
-    let x = n.current;
-    let mut m = n;
-    if m.good {
-        if m.begun {
-            if k < FIELDS {
-                m.values[k] = x;
-                m.count = k + 1;
-                return m;
-            }
+    let Numbers { mut closed, open } = n;
+    match b {
+        b',' => {
+            closed.try_push(open?).ok()?;
+            Some(Numbers { closed, open: None })
         }
+        b'0'..=b'9' => {
+            let open = Some(with_digit(open, b as u32 - 48)?);
+            Some(Numbers { closed, open })
+        }
+        _ => None,
     }
-    m.count = 0;
-    m.good = false;
-    m
 }
 
-// The fields of the bytes of s from `from` up to, not including, `to`: good if and only if they are numbers
-// up to the largest parted by commas, not too many of them.
-pub fn read_fields(s: &[u8], from: usize, to: usize) -> Numbers
-    requires { to ≤ length s.now }
-    ensures fields { parsed_fields result ≡ fitting (fields largest (slice from to s.now)) }
-    ensures count { result.count ≤ capacity }
+// The fields of the bytes of s, if they are numbers up to the largest parted by commas, not too many of them.
+pub fn read_fields(s: &[u8]) -> Option<ArrayVec<u32, FIELDS>>
+    ensures { parsed_fields result ≡ fitting (fields largest s.now) }
 {
     let mut n = Numbers {
-        values: [0; FIELDS],
-        count: 0,
-        current: 0,
-        begun: false,
-        good: true,
+        closed: ArrayVec::new(),
+        open: None,
     };
-    let mut i = from;
-    while i < to {
-        n = next_byte(n, s[i]);
-        i += 1;
+    for b in s {
+        n = next_byte(n, *b)?;
     }
-    finish_line(n)
+    let Numbers { mut closed, open } = n;
+    closed.try_push(open?).ok()?;
+    Some(closed)
 }

@@ -3,4 +3,4 @@ use Rattle.embed_image.proofs.Crossing.{starts}
 use Rattle.embed_machine.proofs.arb_m_open.Goals as goal
 
 pub returns : goal.returns
-returns c = starts _ _ _ c.open-done.ensures c.done_numbers-numbers.ensures c.image_of-image.ensures
+returns c = starts _ _ _ c.open-done.ensures c.done_numbers.ensures c.image_of.ensures

@@ -83,11 +83,14 @@ effect_of banks rows stages oldest live addresses loads stores values taken p be
 abbrev pub answered : Bool → Bool → ℕ → ℕ
 answered load store v = cond load (cond store 0 v) 0
 
--- the same of a table over this memory
+-- the same of a table
+abbrev pub effect_in : Table → ℕ → ℕ → Action → Effect
+effect_in t p below act =
+    effect_of t.banks t.rows t.stages t.oldest t.live t.addresses t.loads t.stores t.values t.taken p below act
+
+-- the same over this memory
 abbrev pub effect_at : Table → ℕ → List ℕ → Action → Effect
-effect_at t p memory act =
-    effect_of t.banks t.rows t.stages t.oldest t.live t.addresses t.loads t.stores t.values t.taken p
-    (word_below memory act) act
+effect_at t p memory act = effect_in t p (word_below memory act) act
 
 -- the table after an execution at stage s with this effect
 abbrev pub apply_effect : Table → Effect → ℕ → Table

@@ -1,6 +1,6 @@
 -- The steps that the calls make on a table, as the code makes them.
 -- Assumes nothing.
-use Rattle.std.specs.Prelude.{Bool, cond, List, map, ◌++◌, ℕ, ◌+◌, ◌%◌, ◌^◌, ltb, get_or, set, take, drop}
+use Rattle.std.specs.Prelude.{Bool, cond, List, map, ◌++◌, ℕ, ◌+◌, ◌-◌, ◌%◌, ◌^◌, ltb, get_or, set, take, drop}
 use Rattle.std.specs.Int.Bits.{bit_and, bit_or}
 use Rattle.marks.specs.Circle.{firsts}
 use Rattle.table.specs.declared.Table.{Table}
@@ -43,6 +43,10 @@ narrowed t o k =
     (within (rows_in t.banks) t.loads (firsts o t.stages k))
     (within (rows_in t.banks) t.stores (firsts o t.stages k))
     t.values t.taken
+
+-- the oldest has left the window
+abbrev pub retired : Table → Table
+retired t = narrowed t (stage_of t 1) (t.live - 1)
 
 -- mark words of so many banks and of a window of n stages from o on, of which `left` of `live` references stay
 abbrev pub cut_marks : ℕ → ℕ → ℕ → ℕ → ℕ → List ℕ → List ℕ

@@ -1,11 +1,13 @@
 -- How the table is searched, as the code does it. Positions are of the window of n stages from stage o on; a row's marks are a
 -- set of stages. The laws in proofs/ say what each search finds on the list of references.
 -- Assumes nothing.
-use Rattle.std.specs.Prelude.{Bool, cond, not, ◌&&◌, List, ℕ, zero, suc, ◌+◌, ◌-◌, ◌*◌, eqb, ltb, get_or}
+use Rattle.std.specs.Prelude.{Bool, cond, not, ◌&&◌, Option, Some, None, List, ℕ, zero, suc, ◌+◌, ◌-◌, ◌*◌, eqb, ltb, get_or}
 use Rattle.std.specs.Int.Bits.{bit_or}
 use Rattle.marks.specs.Stages.{has}
 use Rattle.marks.specs.Circle.{stage}
-use Rattle.table.specs.Limits.{rows_most}
+use Rattle.table.specs.declared.Table.{Table}
+use Rattle.table.specs.Limits.{rows_most, rows_in}
+use Rattle.table.specs.Bank.{bank}
 use Rattle.table.specs.Computed.Check.{marks_of}
 use Rattle.table.specs.Reference.{Fate, waiting, other, accessed, lacks, holds, loaded, stored}
 use Rattle.lookup.specs.declared.Place.{Place}
@@ -17,6 +19,11 @@ use Rattle.lookup.specs.declared.Mark.TheVariants.{Absent, Load, Store}
 unfoldable pub find : (ℕ → Bool) → ℕ → ℕ
 find f zero = 0
 find f (suc n) = cond (f n) (suc n) (find f n)
+
+-- such a number as the code has it, the number itself if there is one
+abbrev pub one_more : Option ℕ → ℕ
+one_more None = 0
+one_more (Some k) = k + 1
 
 -- the first number from q on that has f; q + k where none of the k numbers from q on has
 unfoldable pub seek : (ℕ → Bool) → ℕ → ℕ → ℕ
@@ -133,3 +140,38 @@ abbrev pub marked_fate : Mark → Fate
 marked_fate Absent = other
 marked_fate (Load a) = loaded a 0
 marked_fate (Store a v) = stored a v
+
+-- The same of a table.
+
+abbrev pub forward_in : Table → ℕ → ℕ → ℕ → Taken
+forward_in t r p w = forward t.oldest t.stages t.stores t.values r p w
+
+abbrev pub violation_in : Table → ℕ → ℕ → ℕ → ℕ → ℕ
+violation_in t load store p v = violation_point t.oldest t.stages t.live load store t.taken p v
+
+abbrev pub mark_in : Table → ℕ → Mark
+mark_in t s = mark_of t.addresses t.loads t.stores t.values s (rows_in t.banks)
+
+abbrev pub marks_in : Table → ℕ → ℕ
+marks_in t b = bank_marks t.loads t.stores b t.rows
+
+abbrev pub opened_in : Table → ℕ → ℕ → ℕ
+opened_in t b q = opened_at t.oldest t.stages t.live t.rows t.loads t.stores b q
+
+abbrev pub evicted_in : Table → ℕ → ℕ → Place
+evicted_in t b p = evicted t.oldest t.stages t.live t.rows t.loads t.stores b p
+
+abbrev pub free_in : Table → ℕ → ℕ
+free_in t b = find (free t.loads t.stores b) t.rows
+
+abbrev pub allocated_in : Table → ℕ → ℕ → Place
+allocated_in t b p = allocated_row t.oldest t.stages t.live t.rows t.loads t.stores b p
+
+abbrev pub row_in : Table → ℕ → ℕ → ℕ
+row_in t b a = row_of t.rows t.addresses t.loads t.stores b a
+
+abbrev pub place_in : Table → ℕ → ℕ → Place
+place_in t a p = place_for t.oldest t.stages t.live t.rows t.addresses t.loads t.stores (bank t.banks a) a p
+
+abbrev pub left_in : Table → Place → ℕ → ℕ → ℕ
+left_in t q p v = left_after t.oldest t.stages t.live t.loads t.stores t.taken q.row q.left p v

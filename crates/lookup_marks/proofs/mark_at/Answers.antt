@@ -28,14 +28,11 @@ module _ (addresses loads stores values : List ℕ) (s : ℕ) where
   unfolding mark_of
   none_left i h = let z : i ≡ 0 = omega arith in rw z
 
-pub loop-i-init : goal.loop-i-init
-loop-i-init c = (omega arith, refl)
-
 pub returns-then-contains : goal.returns-then-contains
 returns-then-contains c =
     let test = c.before in
     sym
-    (test.loop-i.invariant.1 ∙ turn _ _ _ _ _ _ (omega arith) test.contains.ensures refl
+    (test.loop-r.invariant ∙ turn _ _ _ _ _ _ (omega arith) test.contains.ensures refl
     ∙ rw c.if-contains.true)
 
 pub returns-then-contains-2 : goal.returns-then-contains-2
@@ -43,19 +40,17 @@ returns-then-contains-2 c =
     let tests = c.before in
     let first = tests.before in
     sym
-    (first.loop-i.invariant.1
-    ∙ turn _ _ _ _ _ _ (omega arith) first.contains.ensures tests.contains-in-loop-i.ensures
+    (first.loop-r.invariant
+    ∙ turn _ _ _ _ _ _ (omega arith) first.contains.ensures tests.contains-in-loop-r.ensures
     ∙ rw (tests.if-contains.false, c.if-contains-2.true))
 
-pub loop-i-preserved : goal.loop-i-preserved
-loop-i-preserved c =
+pub loop-r-preserved : goal.loop-r-preserved
+loop-r-preserved c =
     let tests = c.before in
-    let first = tests.before in (
-      omega arith,
-      first.loop-i.invariant.1
-          ∙ turn _ _ _ _ _ _ (omega arith) first.contains.ensures tests.contains-in-loop-i.ensures
-          ∙ rw (tests.if-contains.false, c.if-contains-2.false),
-    )
+    let first = tests.before in
+    first.loop-r.invariant
+    ∙ turn _ _ _ _ _ _ (omega arith) first.contains.ensures tests.contains-in-loop-r.ensures
+    ∙ rw (tests.if-contains.false, c.if-contains-2.false)
 
 pub returns : goal.returns
-returns c = sym (c.loop-i.invariant.1 ∙ none_left _ _ _ _ _ _ (omega arith))
+returns c = sym (c.loop-r.invariant ∙ none_left _ _ _ _ _ _ (omega arith))

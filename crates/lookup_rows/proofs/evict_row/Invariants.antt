@@ -6,7 +6,7 @@ use Rattle.lookup.proofs.Tail.{Walking}
 use Rattle.lookup_rows.proofs.evict_row.Given as goal
 
 abbrev pub invariant-loop-unseen : goal.invariant-loop-unseen
-invariant-loop-unseen l = Walking l.oldest l.stages l.live l.rows l.loads l.stores l.b l.unseen
+invariant-loop-unseen l = let t = l.t in Walking t.oldest t.stages t.live t.rows t.loads t.stores l.b l.unseen
 
 abbrev pub decreases-loop-unseen : goal.decreases-loop-unseen
 decreases-loop-unseen l = l.unseen

@@ -1,16 +1,15 @@
 -- Assumes nothing.
 use native.Mathlib.Omega.{arith}
-use Rattle.lookup.proofs.Loops.{finding_all, finding_hit, finding_miss, finding_none}
+use Rattle.lookup.proofs.Loops.{finding_place, finding_miss, finding_none}
 use Rattle.lookup_rows.proofs.row_of.Goals as goal
 
-pub loop-i-init : goal.loop-i-init
-loop-i-init c = finding_all
-
-pub returns-then-loads-r : goal.returns-then-loads-r
-returns-then-loads-r c = finding_hit c.loop-i.invariant (omega arith) c.if-loads-r.true
+pub returns-then-marks_in-t : goal.returns-then-marks_in-t
+returns-then-marks_in-t c =
+    let place = finding_place c.loop-i.invariant (omega arith) (rw (← c.marks_in.ensures) c.if-marks_in-t.true) in
+    record { within = place.0; found = place.1 }
 
 pub loop-i-preserved : goal.loop-i-preserved
-loop-i-preserved c = finding_miss c.loop-i.invariant (omega arith) c.if-loads-r.false
+loop-i-preserved c = finding_miss c.loop-i.invariant (omega arith) (rw (← c.marks_in.ensures) c.if-marks_in-t.false)
 
 pub returns : goal.returns
-returns c = finding_none c.loop-i.invariant (omega arith)
+returns c = let none = finding_none c.loop-i.invariant (omega arith) in record { within = none.0; found = none.1 }

@@ -11,17 +11,17 @@ returns-then-program-ne0 c = rw (ne_eqb (length c.args.program.now % 4) 0 c.if-p
 
 pub loop-i-init : goal.loop-i-init
 unfolding every
-loop-i-init c = (omega arith, refl)
+loop-i-init c = refl
 
 pub loop-i-preserved : goal.loop-i-preserved
 loop-i-preserved c =
-    let inv = c.loop-i.invariant in
     let n = c.numbers_at-n.ensures in
-    (omega arith, every_next _ _ inv.1 (c.well_formed-fit.ensures ∙ rw (n.code_value.0, n.code_value.1, n.s_value.0, n.s_value.1)))
+    every_next _ _ c.loop-i.invariant
+    (c.well_formed-fit.ensures ∙ rw (n.code_value.0, n.code_value.1, n.s_value.0, n.s_value.1))
 
 pub returns : goal.returns
 unfolding program_fits
 returns c =
     let size = length c.args.program.now in
     let whole : size % 4 ≡ 0 = omega arith in
-    rw (eq-eqb (size % 4) 0 whole) (c.loop-i.invariant.1 ∙ ap (every _) (omega arith))
+    rw (eq-eqb (size % 4) 0 whole) (c.loop-i.invariant ∙ ap (every _) (omega arith))

@@ -1,6 +1,6 @@
 -- What the parts of a call compute, as the code does it, over the arrays lent or passed to them.
 -- Assumes nothing.
-use Rattle.std.specs.Prelude.{Bool, cond, not, ◌&&◌, ◌||◌, List, [], ◌∷◌, ℕ, zero, suc, ◌+◌, ◌-◌, ◌*◌, ◌<◌, eqb, leb, ltb, length, get_or}
+use Rattle.std.specs.Prelude.{Bool, cond, not, ◌&&◌, ◌||◌, List, [], ◌∷◌, ℕ, zero, suc, ◌+◌, ◌*◌, ◌<◌, eqb, leb, ltb, length, get_or}
 use Rattle.std.proofs.Math.Option.{Option, none, some}
 use Rattle.std.specs.Int.Bits.{bit_or}
 use Rattle.marks.specs.Stages.{has}
@@ -10,7 +10,7 @@ use Rattle.table.specs.Reference
 use Rattle.table.specs.View.{tabulate}
 use Rattle.table.specs.Limits.{rows_most, rows_in}
 use Rattle.table.specs.Bank.{bank}
-use Rattle.table.specs.Computed.Check.{marks_below, lawful_by}
+use Rattle.table.specs.Computed.Check.{marks_below}
 use Rattle.lookup.specs.declared.Mark.{Mark}
 use Rattle.lookup.specs.declared.Mark.TheVariants as mark
 use Rattle.lookup.specs.declared.Mark.TheVariants.{Absent}
@@ -21,17 +21,13 @@ use Rattle.engine.specs.declared.Part.TheVariants as part
 use Rattle.engine.specs.declared.Effect.{Effect}
 use Rattle.engine.specs.Conditions.{refusal, when, faults}
 use Rattle.engine.specs.Contract as answer
-use Rattle.engine.specs.Part.{word_of}
 use Rattle.engine.specs.Computed.Effect.{answered}
 use Rattle.machine_model.specs.declared.Instruction.{Instruction}
 use Rattle.machine_model.specs.declared.Instruction.TheVariants.{Add, Sum, Load, Store, Byte, Half}
 use Rattle.machine_model.specs.declared.Entry.{Entry}
-use Rattle.machine_model.specs.declared.Operand.{Operand}
-use Rattle.machine_model.specs.declared.Operand.TheVariants.{Unknown, Known}
 use Rattle.machine_model.specs.Program.{per_instruction, registers_most, code_of, d_of, s_of, imm_of, kind, destination, sum}
-use Rattle.machine_model.specs.Program.{program_fits}
 use Rattle.machine_model.specs.Window.{blank_entry, pending, address_by, misaligned, register_seen, reference, with₂}
-use Rattle.machine_model.specs.Calls.{Answer, matches_program, unknown, value_by, answer_by, target}
+use Rattle.machine_model.specs.Calls.{Answer, unknown, value_by, answer_by, target}
 use Rattle.machine_model.specs.Contract.{kind_of, place_of}
 
 -- the register that an instruction writes as a number; registers_most where it writes none
@@ -48,11 +44,6 @@ destination_at window oldest stages q =
 -- by position; 0 where there is none
 abbrev pub writer : List ℕ → ℕ → ℕ → ℕ
 writer destinations k p = find (λ (q : ℕ). eqb (get_or destinations q 0) k) p
-
--- an operand as a number that may not be known yet
-abbrev pub as_number : Operand → Option ℕ
-as_number Unknown = none
-as_number (Known v) = some v
 
 -- what an instruction with these operands asks
 abbrev pub action_of : Instruction → ℕ → ℕ → Action
@@ -89,13 +80,6 @@ union test f (suc n) = cond (test n) (bit_or (union test f n) (f n)) (union test
 abbrev pub marks_at : List ℕ → List ℕ → ℕ → ℕ → ℕ
 marks_at addresses marks b a =
     union (λ (i : ℕ). eqb (get_or addresses (b * rows_most + i) 0) a) (λ (i : ℕ). get_or marks (b * rows_most + i) 0) rows_most
-
--- the kind and the address of an executed entry with this code: tests of a number, no jump by the instruction
-abbrev pub kind_by : ℕ → ℕ
-kind_by code = cond (ltb code 3) 0 (cond (ltb code 5) (code - 2) 3)
-
-abbrev pub place_by : ℕ → ℕ → ℕ
-place_by code a = cond (ltb code 3) 0 (cond (ltb code 5) a (word_of a))
 
 -- the kind of an access with these marks; 0 with neither
 abbrev pub mark_number : Bool → Bool → ℕ
@@ -148,23 +132,6 @@ asked_of window registers oldest stages p =
     with₂ (register_seen (entries_of window oldest stages p) (s_of i) (some (get_or registers (s_of i) 0)))
     (register_seen (entries_of window oldest stages p) (second i) (some (get_or registers (second i) 0)))
     (action_of i)
-
--- the conditions 2, 3 and 4, in that order, of a machine with these parts and a call lent a memory of this length
-abbrev pub validate_by : ℕ → ℕ → ℕ → ℕ → ℕ → ℕ → ℕ → List ℕ → List ℕ → List ℕ → List Entry → ℕ → List ℕ → ℕ → ℕ
-validate_by banks rows stages words oldest live executed addresses loads stores window count program lent =
-    refusal
-    (when
-    (not
-    (lawful_by banks rows stages words oldest live executed addresses loads stores
-    && agreeing_by banks oldest stages executed addresses loads stores window live))
-    2
-    ∷ when (not (eqb lent words)) 3
-    ∷ when
-    (not
-    (program_fits program && eqb (length program) (per_instruction * count)
-    && every (λ (p : ℕ). matches_program program count (get_or window (stage oldest stages p) blank_entry)) live))
-    4
-    ∷ [])
 
 -- the mark of the oldest stage, by what its entry is to the buffer; v is the word that the table has at that stage
 abbrev pub mark_with : Reference.Fate → ℕ → Mark

@@ -1,8 +1,8 @@
--- `machine_window::marks_at` meets its contract. The loop's invariant: `load` and `store` are the unions over the i rows passed;
+-- `machine_window::marks_at` meets its contract. The loop's invariant: `loads` and `stores` are the unions over the i rows passed;
 -- a turn adds its row's marks where the row has the address. Assumes nothing.
 use mathlib.Core.Path.{◌≡◌}
 use mathlib.Core.List.{List}
-use Prim.Native.Nat.{ℕ, ◌+◌, ◌-◌, ◌≤◌}
+use Prim.Native.Nat.{ℕ, ◌+◌, ◌≤◌}
 use lib.Dec.{eqb}
 use lib.ListN.{get_or}
 use Rattle.table.specs.Limits.{rows_most, slots}
@@ -14,9 +14,7 @@ abbrev before : List ℕ → List ℕ → ℕ → ℕ → ℕ → ℕ
 before addresses words a first i = union (λ j. eqb (get_or addresses (first + j) 0) a) (λ j. get_or words (first + j) 0) i
 
 abbrev pub invariant-loop-i : goal.invariant-loop-i
-invariant-loop-i l = (l.i ≤ rows_most) × (l.first + rows_most ≤ slots)
-    × (l.load ≡ before l.addresses l.loads l.a l.first l.i)
-    × (l.store ≡ before l.addresses l.stores l.a l.first l.i)
-
-abbrev pub decreases-loop-i : goal.decreases-loop-i
-decreases-loop-i l = rows_most - l.i
+invariant-loop-i l =
+    let t = l.t.table.now in
+    (l.first + rows_most ≤ slots) × (l.loads ≡ before t.addresses t.loads l.a l.first l.i)
+    × (l.stores ≡ before t.addresses t.stores l.a l.first l.i)

@@ -3,7 +3,6 @@
 use mathlib.Core.Bool.{false}
 use mathlib.Core.Path.{◌≡◌, sym, ◌∙◌}
 use Prim.Native.Nat.{◌≤◌}
-use native.Mathlib.Nat.{sub-zero}
 use native.Mathlib.Omega.{arith}
 use lib.ListN.{length}
 use Rattle.machine_model.specs.Program.{program_most}
@@ -31,23 +30,22 @@ pub returns-then-s-gt-MOST : goal.returns-then-s-gt-MOST
 returns-then-s-gt-MOST c =
     begins_long (right_at (goal.at.returns-then-s-gt-MOST c).Else-wrongly_lent) c.if-s-gt-MOST.true c.idle-then-s-gt-MOST.ensures
 
-pub read_program-loaded-requires : goal.read_program-loaded-requires
-read_program-loaded-requires c = room_at (goal.at.read_program-loaded-requires c).Else-wrongly_lent
+pub read_program-cursor-requires : goal.read_program-cursor-requires
+read_program-cursor-requires c = room_at (goal.at.read_program-cursor-requires c).Else-wrongly_lent
 
 pub slice_bounds-open-end : goal.slice_bounds-open-end
 slice_bounds-open-end c =
     let room = room_at (goal.at.slice_bounds-open-end c).Else-wrongly_lent in
     omega arith
 
-pub returns-in-Nothing : goal.returns-in-Nothing
-returns-in-Nothing c =
-    begins_headless (right_at (goal.at.returns-in-Nothing c).Else-wrongly_lent) c.if-s-gt-MOST.false
-    (sym c.read_header-header.ensures ∙ c.in-Nothing.is) c.idle-in-Nothing.ensures
+pub returns-in_default : goal.returns-in_default
+returns-in_default c =
+    begins_headless (right_at (goal.at.returns-in_default c).Else-wrongly_lent) c.if-s-gt-MOST.false
+    (sym c.in_default.ensures) c.idle-in_default.ensures
 
-pub returns-in-Four : goal.returns-in-Four
-returns-in-Four c =
-    let start = (goal.at.returns-in-Four c).Else-wrongly_lent in
+pub returns : goal.returns
+returns c =
+    let start = (goal.at.returns c).Else-wrongly_lent in
     let room = room_at start in
-    begins_open (right_at start) c.if-s-gt-MOST.false
-    (headed _ (sym c.read_header-header.ensures ∙ c.in-Four.is))
-    c.read_program-loaded.ensures (omega arith) c.clear.ensures (sub-zero _) c.open-opened.ensures
+    begins_open (right_at start) c.if-s-gt-MOST.false (headed _ (sym c.in-Some.ensures))
+    c.read_program-cursor.ensures (omega arith) (c.fill.ensures.after (λ y e. e)) c.open-opened.ensures

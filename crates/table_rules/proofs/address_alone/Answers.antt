@@ -7,11 +7,10 @@ use Rattle.table_rules.proofs.address_alone.Goals as goal
 
 pub loop-k-init : goal.loop-k-init
 unfolding every
-loop-k-init c = (omega arith, refl)
+loop-k-init c = refl
 
 pub loop-k-preserved : goal.loop-k-preserved
-loop-k-preserved c =
-    (omega arith, every_next _ _ c.loop-k.invariant.1 (rw c.marks_in.ensures))
+loop-k-preserved c = every_next _ _ c.loop-k.invariant (rw c.marks_in.ensures)
 
 pub returns : goal.returns
-returns c = c.loop-k.invariant.1 ∙ ap (every _) (omega arith)
+returns c = c.loop-k.invariant ∙ ap (every _) (omega arith)

@@ -7,29 +7,31 @@ use Rattle.table.specs.Computed.Check.{lawful_by}
 use Rattle.table.proofs.Sizes.{sizes}
 use Rattle.table_rules.proofs.keeps_rules.Goals as goal
 
-pub returns-then-not-sizes_fit : goal.returns-then-not-sizes_fit
+pub returns-then-not-sizes_fit-clause-kept : goal.returns-then-not-sizes_fit-clause-kept
 unfolding lawful_by
-returns-then-not-sizes_fit c = rw (sym c.sizes_fit.ensures ∙ c.if-not-sizes_fit.true)
+returns-then-not-sizes_fit-clause-kept c = rw (sym c.sizes_fit.ensures ∙ c.if-not-sizes_fit.true)
 
-pub returns-then-live-stages : goal.returns-then-live-stages
+pub returns-then-live-stages-clause-kept : goal.returns-then-live-stages-clause-kept
 unfolding lawful_by
-returns-then-live-stages c = rw (sym c.sizes_fit.ensures ∙ c.if-not-sizes_fit.false, lt-leb _ _ c.if-live-stages.true)
+returns-then-live-stages-clause-kept c = rw (sym c.sizes_fit.ensures ∙ c.if-not-sizes_fit.false, lt-leb _ _ c.if-live-stages.true)
 
-pub returns-then-oldest-stages : goal.returns-then-oldest-stages
+pub returns-then-oldest-stages-clause-kept : goal.returns-then-oldest-stages-clause-kept
 unfolding lawful_by
-returns-then-oldest-stages c = rw (sym c.sizes_fit.ensures ∙ c.if-not-sizes_fit.false, le-leb _ _ c.if-live-stages.false, le-ltb _ _ c.if-oldest-stages.true)
+returns-then-oldest-stages-clause-kept c = rw (sym c.sizes_fit.ensures ∙ c.if-not-sizes_fit.false, le-leb _ _ c.if-live-stages.false, le-ltb _ _ c.if-oldest-stages.true)
 
-pub first_stages-requires : goal.first_stages-requires
-first_stages-requires c = (c.if-oldest-stages.false, c.if-live-stages.false, omega (arith, (sizes _ _ _ _ (sym c.sizes_fit.ensures ∙ c.if-not-sizes_fit.false)).stages))
+pub invariant_of-circle : goal.invariant_of-circle
+invariant_of-circle c =
+    let fit = sizes _ _ _ _ (sym c.sizes_fit.ensures ∙ c.if-not-sizes_fit.false) in
+    record { starts = c.if-oldest-stages.false; narrow = omega (arith, fit.stages) }
 
 pub rows_fit-requires : goal.rows_fit-requires
 rows_fit-requires c =
-    let fits = sizes _ _ _ _ (sym c.sizes_fit.ensures ∙ c.if-not-sizes_fit.false) in
-    record { banks_nonzero = (fits.some_bank, fits.banks); addresses_len = c.requires }
+    let fit = sizes _ _ _ _ (sym c.sizes_fit.ensures ∙ c.if-not-sizes_fit.false) in
+    (fit.some_bank, fit.banks)
 
-pub returns : goal.returns
+pub returns-clause-kept : goal.returns-clause-kept
 unfolding lawful_by
-returns c =
+returns-clause-kept c =
     rw (
       sym c.sizes_fit.ensures ∙ c.if-not-sizes_fit.false,
       le-leb _ _ c.if-live-stages.false,

@@ -7,14 +7,13 @@ use Rattle.table_rules.proofs.marks_from.Goals as goal
 
 pub loop-i-init : goal.loop-i-init
 unfolding marks_below
-loop-i-init c = (omega arith, refl)
+loop-i-init c = refl
 
 pub loop-i-preserved : goal.loop-i-preserved
 loop-i-preserved c =
     let at = c.loop-i in
-    let args = c.args in
-    let row = marks_from_lem args.loads.now args.stores.now args.first at.i in
-    (omega arith, marks_next _ _ _ at.invariant.1 (c.marks_in-all.ensures ∙ sym row))
+    let t = c.args.t.now in
+    marks_next _ _ _ at.invariant (c.marks_in-all.ensures ∙ sym (marks_from_lem t.loads t.stores c.args.first at.i))
 
 pub returns : goal.returns
-returns c = c.loop-i.invariant.1 ∙ ap (marks_below _ _) (omega arith)
+returns c = c.loop-i.invariant ∙ ap (marks_below _ _) (omega arith)

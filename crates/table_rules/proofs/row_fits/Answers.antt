@@ -13,8 +13,9 @@ pub returns : goal.returns
 unfolding row_fits
 returns c =
     rw (
+      ← c.marks_in-marks.ensures,
       ne_eqb _ 0 c.if-marks-eq0.false,
       c.address_alone.ensures,
       c.bank_of.ensures,
-      c.requires.r_lt_slots.2,
+      c.requires.2,
     )

@@ -13,30 +13,27 @@ use Rattle.table_rules.proofs.rows_fit.Goals.{then-used-ne0, else-used-ne0}
 
 pub loop-b-init : goal.loop-b-init
 unfolding every marks_below
-loop-b-init c = (omega arith, refl, refl)
+loop-b-init c = (refl, refl)
 
 pub loop-b-preserved : goal.loop-b-preserved
 loop-b-preserved c =
     let at = c.loop-b in
-    let args = c.args in
-    let loads = args.loads.now in
-    let stores = args.stores.now in
-    let test = row_fits args.banks args.rows args.allowed args.addresses.now loads stores in
+    let t = c.args.t.now in
+    let test = row_fits t.banks t.rows c.args.allowed t.addresses t.loads t.stores in
     let first = at.b * rows_most in
     let next : first + rows_most ≡ (at.b + 1) * rows_most = omega arith in
     let used = c.marks_from-used.ensures in
     let bank : c.if-used-ne0.fit ≡ every test (first + rows_most) =
     elim c.if-used-ne0.branch [
       | then-used-ne0 w ↦
-          w.fit-is ∙ ap₂ ◌&&◌ {v = every (λ i. test (first + i)) rows_most} at.invariant.1 w.bank_fits-fit.ensures
+          w.fit-is ∙ ap₂ ◌&&◌ {v = every (λ i. test (first + i)) rows_most} at.invariant.0 w.bank_fits-fit.ensures
           ∙ every_more test first rows_most
       | else-used-ne0 w ↦
-          w.fit-is ∙ at.invariant.1 ∙ free_more loads stores first _ _ _ _ rows_most (sym used ∙ w.if-used-ne0.false)
+          w.fit-is ∙ at.invariant.0 ∙ free_more t.loads t.stores first _ _ _ _ rows_most (sym used ∙ w.if-used-ne0.false)
     ] in (
-      omega arith,
       bank ∙ ap (every test) next,
-      ap₂ bit_or at.invariant.2 used ∙ taken_more loads stores first rows_most ∙ ap (marks_below loads stores) next,
+      ap₂ bit_or at.invariant.1 used ∙ taken_more t.loads t.stores first rows_most ∙ ap (marks_below t.loads t.stores) next,
     )
 
 pub returns : goal.returns
-returns c = c.loop-b.invariant.1 ∙ ap (every _) (omega arith)
+returns c = c.loop-b.invariant.0 ∙ ap (every _) (omega arith)

@@ -1,0 +1,2 @@
+-- The checksum of the answers.
+pub mod Sums
