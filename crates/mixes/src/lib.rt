@@ -4,7 +4,7 @@
 // (benchmarks/inplace.c) by tests/answers.
 #![tactic(auto)]
 
-ghost use Rattle.std.specs.Prelude.{◌≡◌, List, [], ◌∷◌, ℕ, ◌<◌};
+ghost use Rattle.std.specs.Prelude.{◌≡◌, List, [], ◌∷◌, ℕ, ◌<◌, ◌%◌};
 ghost use Rattle.mixes.specs.Sums.{with, with_all, answer_numbers, executed_numbers};
 ghost use Rattle.table.specs.Limits.{stages_most};
 
@@ -37,7 +37,9 @@ pub fn advance(seed: u64) -> u64 {
 }
 
 // Fifteen high bits of a state.
-pub fn bits(seed: u64) -> usize {
+pub fn bits(seed: u64) -> usize
+    ensures { result < 32768 }
+{
     (seed / 65536 % 32768) as usize
 }
 
@@ -160,8 +162,10 @@ pub fn position_drawn(t: &Table, drawn: usize) -> usize
 
 // The number off which kind, ticket and position of a turn in falling order are read: one that stands for the turn that is due.
 // In that order a window is issued whole, executed from its youngest reference down to its oldest, and committed: every mark is
-// younger than what executes, so that it evicts where no row is free.
-pub fn falling_drawn(t: &Table, drawn: usize) -> usize {
+// younger than what executes, so that it evicts where no row is free. None is a squash or another action (kinds 30 and 31).
+pub fn falling_drawn(t: &Table, drawn: usize) -> usize
+    ensures { result % 32 < 30 }
+{
     let &Table {
         stages,
         oldest,
