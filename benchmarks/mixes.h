@@ -45,7 +45,7 @@ struct spoiling {
 // The mixes of crates/mixes_buffer and mixes_machine, with the same answers. Turns of the kinds 25 to 29 are the
 // buffer's stores, those from `whole` on of a part; half of those of the kind 30 execute a drawn action. In falling
 // order each window is issued whole, executed from its youngest reference down to its oldest, and committed. The
-// machine is finished at the end.
+// machine is finished at the end. `whole` is 31 at most: with more Rattle's mix stores where C's squashes.
 //
 // C in place, and the calls of embed/arb.h and arb_machine.h.
 uint64_t inplace_buffer(struct sizes sizes, uint32_t calls, uint64_t seed, struct spoiling spoiling,

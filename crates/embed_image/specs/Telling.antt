@@ -1,6 +1,6 @@
 -- An answer of the machine as the numbers that cross to C, and the answer that they tell.
 -- Assumes nothing.
-use Rattle.std.specs.Prelude.{cond, ℕ, eqb}
+use Rattle.std.specs.Prelude.{cond, ℕ, eqb, Result, Ok, Err}
 use Rattle.std.proofs.Math.Option.{none, some}
 use Rattle.engine.specs.Contract.{refused, done, named, executed, committed, finished}
 use Rattle.machine_model.specs.Over.{Call, issue, execute, squash, commit, finish, Answer}
@@ -30,6 +30,11 @@ numbers_of (executed v d none) = numbered 0 0 0 0 0 0 0 v d
 numbers_of (executed v d (some p)) = numbered 0 p 1 0 0 0 0 v d
 numbers_of (committed i c r v d) = numbered 0 0 0 0 i c r v d
 numbers_of (finished n) = numbered 0 0 0 n 0 0 0 0 0
+
+-- What an answer says whose refusal is told by its number, any number: what it says of the value accepted, else that refusal.
+abbrev pub by_number : {A R : Type 0} → (Result A R → Answer) → Result A ℕ → Answer
+by_number says (Ok a) = says (Ok a)
+by_number says (Err k) = refused k
 
 -- The answer to call c that these numbers tell (proofs/Told.antt: the one that was given).
 abbrev pub acceptance : Call → Numbers → Answer

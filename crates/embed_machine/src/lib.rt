@@ -25,7 +25,7 @@ pub extern "C" fn arb_m_open(
     let done = machine::open(banks, rows, stages, words, program, memory);
     Answered {
         image: embed_slots::image_of(done.state),
-        numbers: embed_slots::done_numbers(done.answer),
+        numbers: embed_slots::done_numbers(embed_slots::by_number(done.answer)),
     }
 }
 
@@ -34,7 +34,7 @@ pub extern "C" fn arb_m_issue(passed: Image, program: &[u32]) -> Answered
     ensures { (w : List ℕ) → Crosses program.now passed issue w result w [] }
 {
     let done = machine::issue(embed_slots::machine_by(passed), program);
-    let numbers = embed_slots::issue_numbers(done.answer);
+    let numbers = embed_slots::issue_numbers(embed_slots::by_number(done.answer));
     embed_slots::crossed(passed, done.state, numbers)
 }
 
@@ -49,7 +49,7 @@ pub extern "C" fn arb_m_execute(
         memory.now [] }
 {
     let done = machine::execute(embed_slots::machine_by(passed), program, position, memory);
-    let numbers = embed_slots::execute_numbers(done.answer);
+    let numbers = embed_slots::execute_numbers(embed_slots::by_number(done.answer));
     embed_slots::crossed(passed, done.state, numbers)
 }
 
@@ -58,7 +58,7 @@ pub extern "C" fn arb_m_squash(passed: Image, program: &[u32], position: usize) 
     ensures { (w : List ℕ) → Crosses program.now passed (squash position) w result w [] }
 {
     let done = machine::squash(embed_slots::machine_by(passed), program, position);
-    let numbers = embed_slots::done_numbers(done.answer);
+    let numbers = embed_slots::done_numbers(embed_slots::by_number(done.answer));
     embed_slots::crossed(passed, done.state, numbers)
 }
 
@@ -67,7 +67,7 @@ pub extern "C" fn arb_m_commit(passed: Image, program: &[u32], memory: &mut [u32
     ensures { Crosses program.now passed commit memory.old result memory.new [] }
 {
     let done = machine::commit(embed_slots::machine_by(passed), program, memory);
-    let numbers = embed_slots::commit_numbers(done.answer);
+    let numbers = embed_slots::commit_numbers(embed_slots::by_number(done.answer));
     embed_slots::crossed(passed, done.state, numbers)
 }
 
@@ -89,6 +89,6 @@ pub extern "C" fn arb_m_finish(
         memory,
         list,
     );
-    let numbers = embed_slots::finish_numbers(done.answer);
+    let numbers = embed_slots::finish_numbers(embed_slots::by_number(done.answer));
     embed_slots::crossed(passed, done.state, numbers)
 }

@@ -4,11 +4,12 @@
 #![tactic(auto)]
 
 ghost use Rattle.std.specs.Prelude.{◌≡◌, map};
-ghost use Rattle.engine.specs.Answers.{number};
+ghost use Rattle.engine.specs.Answers.{says};
 ghost use Rattle.engine.specs.Contract.{refused};
+ghost use Rattle.machine_model.specs.Calls.{Answer};
 ghost use Rattle.machine_model.specs.Contract.{done_says, issue_says, execute_says, commit_says, finish_says};
 ghost use Rattle.embed_image.specs.Slots.{instruction_by, fate_by, entry_by, slot_of, machine_by, image_of};
-ghost use Rattle.embed_image.specs.Telling.{numbers_of};
+ghost use Rattle.embed_image.specs.Telling.{by_number, numbers_of};
 ghost use Rattle.embed_image.specs.Computed.Handing.{answered_by};
 
 use embed_image::{Answered, Image, Numbers, Slot};
@@ -184,36 +185,40 @@ const ZEROS: Numbers = Numbers {
 };
 
 // Those of a refusal.
-fn refused(why: Refusal) -> Numbers
-    ensures { result ≡ numbers_of (refused (number why)) }
+fn refused(refusal: u32) -> Numbers
+    ensures { result ≡ numbers_of (refused refusal) }
 {
-    Numbers {
-        refusal: why.number(),
-        ..ZEROS
-    }
+    Numbers { refusal, ..ZEROS }
+}
+
+// A call's answer with its refusal told by its number: it says the same.
+pub fn by_number<A>(answer: Result<A, Refusal>) -> Result<A, u32>
+    ensures { (f : A → Answer) → by_number (says f) result ≡ says f answer }
+{
+    answer.map_err(|why| why.number())
 }
 
 // The numbers of each call's answer.
-pub fn done_numbers(answer: Result<(), Refusal>) -> Numbers
-    ensures { result ≡ numbers_of (done_says answer) }
+pub fn done_numbers(answer: Result<(), u32>) -> Numbers
+    ensures { result ≡ numbers_of (by_number done_says answer) }
 {
     match answer {
         Ok(()) => ZEROS,
-        Err(why) => refused(why),
+        Err(number) => refused(number),
     }
 }
 
-pub fn issue_numbers(answer: Result<usize, Refusal>) -> Numbers
-    ensures { result ≡ numbers_of (issue_says answer) }
+pub fn issue_numbers(answer: Result<usize, u32>) -> Numbers
+    ensures { result ≡ numbers_of (by_number issue_says answer) }
 {
     match answer {
         Ok(position) => Numbers { position, ..ZEROS },
-        Err(why) => refused(why),
+        Err(number) => refused(number),
     }
 }
 
-pub fn execute_numbers(answer: Result<Executed<usize>, Refusal>) -> Numbers
-    ensures { result ≡ numbers_of (execute_says answer) }
+pub fn execute_numbers(answer: Result<Executed<usize>, u32>) -> Numbers
+    ensures { result ≡ numbers_of (by_number execute_says answer) }
 {
     match answer {
         Ok(done) => Numbers {
@@ -223,12 +228,12 @@ pub fn execute_numbers(answer: Result<Executed<usize>, Refusal>) -> Numbers
             distance: done.distance,
             ..ZEROS
         },
-        Err(why) => refused(why),
+        Err(number) => refused(number),
     }
 }
 
-pub fn commit_numbers(answer: Result<Committed, Refusal>) -> Numbers
-    ensures { result ≡ numbers_of (commit_says answer) }
+pub fn commit_numbers(answer: Result<Committed, u32>) -> Numbers
+    ensures { result ≡ numbers_of (by_number commit_says answer) }
 {
     match answer {
         Ok(done) => Numbers {
@@ -239,15 +244,15 @@ pub fn commit_numbers(answer: Result<Committed, Refusal>) -> Numbers
             distance: done.distance,
             ..ZEROS
         },
-        Err(why) => refused(why),
+        Err(number) => refused(number),
     }
 }
 
-pub fn finish_numbers(answer: Result<usize, Refusal>) -> Numbers
-    ensures { result ≡ numbers_of (finish_says answer) }
+pub fn finish_numbers(answer: Result<usize, u32>) -> Numbers
+    ensures { result ≡ numbers_of (by_number finish_says answer) }
 {
     match answer {
         Ok(commits) => Numbers { commits, ..ZEROS },
-        Err(why) => refused(why),
+        Err(number) => refused(number),
     }
 }

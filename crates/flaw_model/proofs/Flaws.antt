@@ -149,7 +149,7 @@ malformed_wrong (b ∷ bs) e = grind (arith, behind_wrong b bs e)
 -- ---- the lines
 
 -- a reason ends the script at its line
-told : (n : ℕ) (r : Option Reason) (more : Option Flaw) → is_none r ≡ false
+told : (n : ℕ) (r : Option Reason) (more : Result ℕ Flaw) → is_none r ≡ false
     → bad_number (cond (is_none r) more (flaw_at n r)) ≡ some n
 told n None more h = absurd cc
 told n (Some r) more h = refl
@@ -247,7 +247,7 @@ unfit_fine : (o : Opening) → is_none (unfit o) ≡ buffered.fits o
 unfolding sizes_fit
 unfit_fine (banked banks rows stages words) = grind (arith, common_steps)
 
-opening_number : (o : Opening) (more : Option Flaw) (b : Body) → bad_number more ≡ b.steps.flaw
+opening_number : (o : Opening) (more : Result ℕ Flaw) (b : Body) → bad_number more ≡ b.steps.flaw
     → bad_number (cond (is_none (unfit o)) more (flaw_at 1 (unfit o))) ≡ (headed (some o) b).body.steps.flaw
 opening_number o more b same = grind (arith, common_steps, unfit_fine o)
 

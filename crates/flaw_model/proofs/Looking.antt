@@ -8,7 +8,7 @@ use native.Mathlib.Numerals.{add-one}
 use native.Mathlib.Omega.{arith}
 use lib.ListN.{length, take, drop}
 use lib.Seq.{drop-cons, slice}
-use Rattle.std.specs.Prelude.{is_some, Option, Some, is_none, ◌==◌, count_by, slice_range}
+use Rattle.std.specs.Prelude.{is_some, Option, Some, is_none, Result, ◌==◌, count_by, slice_range}
 use Rattle.std.proofs.lemmas.List.{drop-take}
 use Rattle.std.proofs.lemmas.List.Recursion.{is_count_by}
 use Rattle.std.specs.declared.ops.ControlFlow.TheVariants.{Continue, Break}
@@ -44,7 +44,7 @@ slice_as s from to h =
     let e : from + (to - from) ≡ to = omega arith in
     sym (ap (λ (n : ℕ). drop from (take n s)) (sym e) ∙ drop-take from (to - from) s)
 
-abbrev flaw_by : ℕ → Part → Lines → Option Flaw
+abbrev flaw_by : ℕ → Part → Lines → Result ℕ Flaw
 flaw_by n part ls = flaw_in n part ls
 
 pub looks_end : (s : List ℕ) (at : ℕ) (part : Part) → line_at s at ≡ End → Looks s at part (Break (of_end part))

@@ -1,15 +1,18 @@
--- A script for each reason, and its message, computed. A script too long to write out stands in the last two rows by its flaw.
--- Behind them, that the largest number is written as it is.
+-- A script for each reason, and its message, computed. Two scripts too long to write out stand behind them by their flaws, and last
+-- a flaw that no script has, of a field with nothing wrong. Then what is found of scripts that are not bad, and that the largest
+-- number is written as it is.
 -- Assumes nothing.
 use mathlib.Core.Path.{◌≡◌, refl}
 use mathlib.Core.List.{List, [], ◌∷◌}
 use Prim.Native.String.{String, ◌++◌ as ◌&◌}
-use Rattle.std.specs.Prelude.{Option, Some, option_map}
+use Rattle.std.specs.Prelude.{Some, option_map, Result, Ok, ℕ}
+use Rattle.std.specs.Result.{result_err}
 use Rattle.text.specs.Decimal.{digits, decimal}
 use Rattle.text.specs.Fields.{largest, fields_text, bytes}
 use Rattle.text.specs.Lines.{lines_from}
 use Rattle.text.proofs.Trip.{written_fields}
-use Rattle.flaw_model.specs.declared.Reason.TheVariants.{TooLong, Full}
+use Rattle.flaw_model.specs.declared.Defect.TheVariants.{Sound}
+use Rattle.flaw_model.specs.declared.Reason.TheVariants.{TooLong, Field, Full}
 use Rattle.flaw_model.specs.declared.Flaw.{Flaw}
 use Rattle.script_model.specs.Language.{code_from}
 use Rattle.flaw_model.specs.Flaw.{commas, no_number, flaw_at, flaw_from, flaw_of}
@@ -18,7 +21,7 @@ use Rattle.flaw_model.specs.Message.{largest_text, message_text}
 
 -- what is found, and the message that it should have
 record Row : Type 0 where
-  found : Option Flaw
+  found : Result ℕ Flaw
   says : String
 
 -- a message that ends so
@@ -65,12 +68,13 @@ rows =
     ∷ ("N,1,1,1,1\ni\nA,1,0,5\n" gives "arb: line 3: found an instruction after a step, expected a step\n")
     ∷ (record { found = flaw_at 0 (Some TooLong); says = "arb: line 0: found over 65536 bytes of input, expected at most 65536\n" })
     ∷ (record { found = flaw_at 258 (Some Full); says = "arb: line 258: found a 257th instruction, expected at most 256\n" })
+    ∷ (record { found = flaw_at 2 (Some (Field 101 2 Sound)); says = "arb: line 2: field 2 (k) of 'e,k': found , " & number })
     ∷ []
 
 -- what is found has the message that each row says
 abbrev Hold : List Row → Type 0
 Hold [] = Unit {0}
-Hold (r ∷ rs) = (option_map message_text r.found ≡ Some (ascii r.says)) × Hold rs
+Hold (r ∷ rs) = (option_map message_text (result_err r.found) ≡ Some (ascii r.says)) × Hold rs
 
 infixr 20 ◌also◌
 abbrev ◌also◌ : {A B : Type 0} → A → B → A × B
@@ -82,7 +86,15 @@ messages_are =
     refl also refl also refl also refl also refl also refl also refl also refl also refl also refl also
     refl also refl also refl also refl also refl also refl also refl also refl also refl also refl also
     refl also refl also refl also refl also refl also refl also refl also refl also refl also refl also
-    refl also refl also refl also tt
+    refl also refl also refl also refl also tt
+
+-- where no line is bad, the number that a line after the last would have: after the sizes, an instruction, a step
+sound_numbers :
+    (flaw_of (ascii "N,1,1,1,1\n") ≡ Ok 2)
+    × (flaw_of (ascii "N,1,1,1,1\nA,1,0,5\n") ≡ Ok 3)
+    × (flaw_of (ascii "N,1,1,1,1\nA,1,0,5\ni\n") ≡ Ok 4)
+unfolding flaw_of lines_from bytes code_from commas no_number flaw_from ascii digits
+sound_numbers = (refl, refl, refl)
 
 -- "4294967295" reads as the largest number, and what reads as a number is its decimal
 pub largest_written : largest_text ≡ decimal largest

@@ -159,9 +159,10 @@ next_part part (Squash k) = after_other part
 next_part part Commit = after_other part
 next_part part (Finish k) = after_other part
 
-abbrev pub flaw_at : ℕ → Option Reason → Option Flaw
-flaw_at n None = None
-flaw_at n (Some r) = Some (record { line = n; reason = r })
+-- what the search ends with on line n: the bad line, or where nothing is wrong the number that this line would have
+abbrev pub flaw_at : ℕ → Option Reason → Result ℕ Flaw
+flaw_at n None = Ok n
+flaw_at n (Some r) = Err (record { line = n; reason = r })
 
 -- no line is left: on line 1 there was no input
 abbrev pub of_end : Part → Option Reason
@@ -170,7 +171,7 @@ of_end (Program room) = None
 of_end Steps = None
 
 -- these lines from number n on, the first of which stands in this part, and the bytes after the last line feed
-unfoldable pub flaw_from : ℕ → Part → List (List ℕ) → List ℕ → Option Flaw
+unfoldable pub flaw_from : ℕ → Part → List (List ℕ) → List ℕ → Result ℕ Flaw
 flaw_from n part [] [] = flaw_at n (of_end part)
 flaw_from n part [] (b ∷ rest) = flaw_at n (Some why.Unended)
 flaw_from n part (line ∷ lines) rest =
@@ -178,13 +179,14 @@ flaw_from n part (line ∷ lines) rest =
     (flaw_from (suc n) (next_part part (parsed_line line)) lines rest)
     (flaw_at n (reason_in part (parsed_line line) line))
 
-abbrev pub flaw_in : ℕ → Part → Lines → Option Flaw
+abbrev pub flaw_in : ℕ → Part → Lines → Result ℕ Flaw
 flaw_in n part ls = flaw_from n part ls.whole ls.rest
 
-unfoldable pub flaw_of : List ℕ → Option Flaw
+-- the first bad line and its reason, or the number that a line after the last would have
+unfoldable pub flaw_of : List ℕ → Result ℕ Flaw
 flaw_of text = cond (ltb most (length text)) (flaw_at 0 (Some why.TooLong)) (flaw_in 1 First (lines_of text))
 
 -- the number of the bad line, if there is one
-abbrev pub bad_number : Option Flaw → Maybe ℕ
-bad_number None = none
-bad_number (Some f) = some f.line
+abbrev pub bad_number : Result ℕ Flaw → Maybe ℕ
+bad_number (Ok n) = none
+bad_number (Err f) = some f.line

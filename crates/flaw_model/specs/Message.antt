@@ -3,13 +3,13 @@
 -- for each reason with its message.
 -- Assumes nothing.
 use Rattle.std.specs.Prelude.{cond, ◌&&◌, List, [], ◌∷◌, ◌++◌, ℕ, suc, eqb, leb, ltb, length}
-use Rattle.std.specs.Prelude.{Option, None, Some}
+use Rattle.std.specs.Prelude.{Result, Ok, Err}
 use Rattle.text.specs.Ascii.{ascii}
 use Rattle.text.specs.Decimal.{decimal}
 use Rattle.table.specs.Limits.{banks_most, rows_most, stages_most, words_most}
 use Rattle.machine_model.specs.Program.{instructions_most, last_register}
 use Rattle.flaw_model.specs.declared.Defect.{Defect}
-use Rattle.flaw_model.specs.declared.Defect.TheVariants.{Missing, Zero, Stray, Large, Beyond}
+use Rattle.flaw_model.specs.declared.Defect.TheVariants.{Sound, Missing, Zero, Stray, Large, Beyond}
 use Rattle.flaw_model.specs.declared.Reason.{Reason}
 use Rattle.flaw_model.specs.declared.Reason.TheVariants.{TooLong, NoInput, Blank, Unended, CarriageReturn, NoSizes}
 use Rattle.flaw_model.specs.declared.Reason.TheVariants.{SizesAgain, Letter, Glued, Count, Field, Full, Late}
@@ -62,6 +62,7 @@ number_text = ascii "a number from 0 to " ++ largest_text ++ ascii " without ext
 
 -- what a field is, and what it should be
 abbrev pub found_text : Defect → List ℕ
+found_text Sound = []
 found_text Missing = ascii "nothing"
 found_text Zero = ascii "an extra leading zero"
 found_text (Stray b) = byte_text b
@@ -69,6 +70,7 @@ found_text Large = ascii "a number above " ++ largest_text
 found_text (Beyond v) = decimal v
 
 abbrev pub expected_text : ℕ → ℕ → Defect → List ℕ
+expected_text b k Sound = number_text
 expected_text b k Missing = number_text
 expected_text b k Zero = number_text
 expected_text b k (Stray c) = number_text
@@ -111,6 +113,6 @@ abbrev pub message_room : ℕ
 message_room = 256
 
 -- what is written of a flaw: nothing where there is none, or where there may be no room
-abbrev pub message_in : List ℕ → Option Flaw → List ℕ
-message_in out None = []
-message_in out (Some f) = cond (ltb (length out) message_room) [] (message_text f)
+abbrev pub message_in : List ℕ → Result ℕ Flaw → List ℕ
+message_in out (Ok n) = []
+message_in out (Err f) = cond (ltb (length out) message_room) [] (message_text f)

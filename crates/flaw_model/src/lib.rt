@@ -10,10 +10,11 @@ pub enum Part {
     Steps,
 }
 
-// What is wrong with a field: it is empty, it has an extra leading zero, this byte is no digit, it is above the largest number,
-// or its number is outside the field's limits.
+// What is wrong with a field: nothing, so that no text tells what was found, it is empty, it has an extra leading zero, this byte
+// is no digit, it is above the largest number, or its number is outside the field's limits.
 #[derive(Clone, Copy)]
 pub enum Defect {
+    Sound,
     Missing,
     Zero,
     Stray(u8),

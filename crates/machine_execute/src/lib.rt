@@ -32,7 +32,14 @@ fn execute_in(
     ensures { Meets program.now m.old (execute p) memory.now (execute_says result) m.new memory.now [] }
 {
     let held = machine_window::validate(m, program, memory.len())?;
-    let asked = machine_window::asked_at(m, p)?;
+    let asked = machine_window::asked_at(
+        &m.window,
+        &m.registers,
+        m.table.oldest,
+        m.table.stages,
+        m.table.live,
+        p,
+    )?;
     let below = engine_steps::word_below(memory, asked.action);
     let effect = engine_steps::effect_of(held, p, asked.action, below);
     if effect.left == 0 {

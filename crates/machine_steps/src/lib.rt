@@ -78,6 +78,13 @@ pub fn entry_executed(e: Entry, value: u32, address: u32, distance: u32) -> Entr
     }
 }
 
+// The index that issue goes on with where `left` of `live` entries stay and the first that does not has this index.
+pub fn next_after(index: u32, live: usize, left: usize, next: u32) -> u32
+    ensures { result ≡ cond (ltb left live) index next }
+{
+    if left < live { index } else { next }
+}
+
 // The entry at stage `s` executes with this effect; issue goes on at the first entry that does not stay. It is read here and not
 // passed: an entry by value is one more copy, a fifth of a commit's time.
 pub fn execute_stage(m: &mut Machine, s: usize, effect: Effect)
@@ -85,9 +92,8 @@ pub fn execute_stage(m: &mut Machine, s: usize, effect: Effect)
     ensures { m.new ≡ executed_over m.old s effect }
 {
     let circle = table_rules::circle_of(&m.table);
-    if effect.left < m.table.live {
-        m.next = m.window[circle.stage_at(effect.left)].index;
-    }
+    let first = m.window[circle.stage_at(effect.left)].index;
+    m.next = next_after(first, m.table.live, effect.left, m.next);
     m.window[s] = entry_executed(m.window[s], effect.value, effect.address, effect.distance);
     engine_steps::apply(&mut m.table, effect, s);
 }

@@ -161,36 +161,29 @@ fn operand_of(e: Entry) -> Option<u32>
     }
 }
 
-// A machine whose window lies in its table's stages, lent: what the search for operands goes by.
+// A window that lies in the stages of its circle, and the registers, lent: what the search for operands goes by.
 #[derive(Clone, Copy)]
 struct Held<'a> {
-    machine: &'a Machine,
-    ghost starts: { machine.now.table.oldest < machine.now.table.stages },
-    ghost narrow: { machine.now.table.stages ≤ stages_most },
+    window: &'a [Entry; STAGES],
+    registers: &'a [u32; REGISTERS],
+    circle: Circle,
+    ghost narrow: { circle.stages ≤ stages_most },
 }
 
 impl Held<'_> {
-    // The circle of its table's stages.
-    fn circle(self) -> Circle
-        ensures { let t = self.entry.machine.now.table in (result.oldest ≡ t.oldest) × (result.stages ≡ t.stages) }
-    {
-        table_rules::circle_of(&self.machine.table)
-    }
-
     // The entry at position `p`.
     fn entry_at(self, p: usize) -> Entry
-        requires { p < self.machine.now.table.stages }
-        ensures { let m = self.entry.machine.now in
-            result ≡ get_or m.window (stage m.table.oldest m.table.stages p) blank_entry }
+        requires { p < self.circle.stages }
+        ensures { let h = self.entry in result ≡ get_or h.window.now (stage h.circle.oldest h.circle.stages p) blank_entry }
     {
-        self.machine.window[self.circle().stage_at(p)]
+        self.window[self.circle.stage_at(p)]
     }
 
     // The registers that the entries before position `p` write, by position: what the search for a writer reads.
     fn destinations(self, p: usize) -> [u32; STAGES]
-        requires { p ≤ self.machine.now.table.stages }
-        ensures { let m = self.entry.machine.now in
-            (q : ℕ) → q < p → get_or result q 0 ≡ destination_at m.window m.table.oldest m.table.stages q }
+        requires { p ≤ self.circle.stages }
+        ensures { let h = self.entry in
+            (q : ℕ) → q < p → get_or result q 0 ≡ destination_at h.window.now h.circle.oldest h.circle.stages q }
     {
         let mut into = [0; STAGES];
         for q in 0..p {
@@ -203,39 +196,49 @@ impl Held<'_> {
     // What register `k` holds for the entry at position `p`, if it is known: the value of its nearest older writer, or what is
     // committed where there is none.
     fn operand_at(self, into: &[u32; STAGES], k: u32, p: usize) -> Option<u32>
-        requires within { (k < registers_most) × (p ≤ self.machine.now.table.stages) }
-        requires packed { let m = self.machine.now in
-            (q : ℕ) → q < p → get_or into.now q 0 ≡ destination_at m.window m.table.oldest m.table.stages q }
-        ensures { let m = self.entry.machine.now in
+        requires within { (k < registers_most) × (p ≤ self.circle.stages) }
+        requires packed { (q : ℕ) → q < p → get_or into.now q 0
+            ≡ destination_at self.window.now self.circle.oldest self.circle.stages q }
+        ensures { let h = self.entry in
             as_option result
-            ≡ register_seen (entries_of m.window m.table.oldest m.table.stages p) k (some (get_or m.registers k 0)) }
+            ≡ register_seen (entries_of h.window.now h.circle.oldest h.circle.stages p) k (some (get_or h.registers.now k 0)) }
     {
         match writer_of(into, k, p) {
             Some(q) => operand_of(self.entry_at(q)),
-            None => Some(self.machine.registers[k as usize]),
+            None => Some(self.registers[k as usize]),
         }
     }
 }
 
-// What an execute at position `p` asks; refused where one of the conditions 7, 8 and 9 holds.
-pub fn asked_at(m: &Machine, p: usize) -> Result<Asked, Refusal>
-    requires within { let t = m.now.table in (t.oldest < t.stages) × (t.live ≤ t.stages) × (t.stages ≤ stages_most) }
-    requires operands_exist { let t = m.now.table in
-        p < t.live → OperandsExist (get_or m.now.window (stage t.oldest t.stages p) blank_entry).instruction }
-    ensures number { let t = m.now.table in
-        turned_down result ≡ asked_number m.now.window m.now.registers t.oldest t.stages t.live p }
-    ensures asked { let t = m.now.table in
-        IfOk result
-        (λ a. (a.stage ≡ stage t.oldest t.stages p)
-        × (a.entry ≡ get_or m.now.window (stage t.oldest t.stages p) blank_entry)
-        × (asked_of m.now.window m.now.registers t.oldest t.stages p ≡ some a.action)) }
+// What an execute at position `p` of `live` entries asks; refused where one of the conditions 7, 8 and 9 holds. It goes by the
+// window and the registers alone.
+pub fn asked_at(
+    window: &[Entry; STAGES],
+    registers: &[u32; REGISTERS],
+    oldest: usize,
+    stages: usize,
+    live: usize,
+    p: usize,
+) -> Result<Asked, Refusal>
+    requires oldest_lt_stages { (oldest < stages) × (live ≤ stages) × (stages ≤ stages_most) }
+    requires operands_exist { p < live → OperandsExist (get_or window.now (stage oldest stages p) blank_entry).instruction }
+    ensures number { turned_down result ≡ asked_number window.now registers.now oldest stages live p }
+    ensures asked { IfOk result
+        (λ a. (a.stage ≡ stage oldest stages p)
+        × (a.entry ≡ get_or window.now (stage oldest stages p) blank_entry)
+        × (asked_of window.now registers.now oldest stages p ≡ some a.action)) }
 {
-    if p >= m.table.live {
+    if p >= live {
         return Err(Refusal::Unnamed);
     }
-    let held = Held { machine: m };
-    let stage = held.circle().stage_at(p);
-    let entry = m.window[stage];
+    let circle = Circle { oldest, stages };
+    let held = Held {
+        window,
+        registers,
+        circle,
+    };
+    let stage = circle.stage_at(p);
+    let entry = window[stage];
     if !machine_isa::is_pending(entry) {
         return Err(Refusal::Executed);
     }

@@ -46,8 +46,9 @@ fn action_drawn(drawn: usize, whole: usize, word: usize) -> Action {
 
 // `calls` turns of a buffer with these sizes. Of 32 turns 12 are an issue, 8 a commit, 5 a load, 5 a store, 1
 // an execution of something else, half of them of a drawn action, and 1 a squash. The stores are the kinds 25 to 29,
-// those from `whole` on of a part. Unless `falling` is 0 the turns come in falling order (`falling_drawn` of crates/mixes),
-// half of the executions loads and half stores. In one turn the table is spoiled instead.
+// those from `whole` on of a part; below a larger `whole` the kinds 30 and 31 are stores as well. Unless `falling` is 0
+// the turns come in falling order (`falling_drawn` of crates/mixes), half of the executions loads and half stores. In
+// one turn the table is spoiled instead.
 //
 // The calls stand in the loop, and not in a function of their own: each layer would copy the table once more.
 pub fn mixes_buffer(
@@ -84,34 +85,29 @@ pub fn mixes_buffer(
         } else {
             let ticket = ticket_drawn(&t, drawn / 32);
             let word = mixes::bits(second);
-            if kind == 31 {
-                let squashed = buffer::squash(t, ticket);
-                t = squashed.state;
-                sum = mixes::with_answer(sum, squashed.answer);
-            } else {
-                let address = mixes::address_drawn(word);
-                let value = mixes::word_drawn(word);
-                let done = if kind < 25 {
-                    buffer::execute_load(t, ticket, address, memory)
-                } else if kind < whole {
-                    buffer::execute_store(t, ticket, address, value, memory)
-                } else if kind < 30 {
-                    buffer::execute_part(
-                        t,
-                        ticket,
-                        part_drawn(word),
-                        byte_drawn(word),
-                        value,
-                        memory,
-                    )
-                } else if word < 16384 {
+            let address = mixes::address_drawn(word);
+            let value = mixes::word_drawn(word);
+            let done = if kind < 25 {
+                buffer::execute_load(t, ticket, address, memory)
+            } else if kind < whole {
+                buffer::execute_store(t, ticket, address, value, memory)
+            } else if kind < 30 {
+                let byte = byte_drawn(word);
+                buffer::execute_part(t, ticket, part_drawn(word), byte, value, memory)
+            } else if kind < 31 {
+                if word < 16384 {
                     buffer::execute_other(t, ticket, memory)
                 } else {
                     buffer::execute(t, ticket, action_drawn(drawn, whole, word), memory)
-                };
-                t = done.state;
-                sum = mixes::with_answer(sum, done.answer);
-            }
+                }
+            } else {
+                let squashed = buffer::squash(t, ticket);
+                t = squashed.state;
+                sum = mixes::with_answer(sum, squashed.answer);
+                continue;
+            };
+            t = done.state;
+            sum = mixes::with_answer(sum, done.answer);
         }
     }
     sum

@@ -7,6 +7,9 @@ use machine_model::Machine;
 // The room in the buffer with which a step is begun: more than the lines of a commit, the most that a step prints, take.
 pub const LINE: usize = 128;
 
+// The largest count of lines and of commits.
+pub const COUNT: u64 = 18446744073709551615;
+
 // What the player does next: nothing, the bad line of this number, the next step, a finish with so many commits left, or the
 // memory words from this address on and then the end line.
 #[derive(Clone, Copy)]

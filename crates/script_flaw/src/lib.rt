@@ -225,13 +225,13 @@ fn look(s: &[u8], at: usize, part: Part) -> ControlFlow<Option<Reason>, (Part, u
     }
 }
 
-// The first bad line of a script and what is wrong with it.
+// The first bad line of a script and what is wrong with it, or the number that a line after the last would have.
 #[tactic(auto, unfolding(flaw_model::specs::Flaw::flaw_of))]
-pub fn flaw_of(s: &[u8]) -> Option<Flaw>
+pub fn flaw_of(s: &[u8]) -> Result<u64, Flaw>
     ensures { result ≡ flaw_of s.now }
 {
     if MOST < s.len() {
-        return Some(Flaw {
+        return Err(Flaw {
             line: 0,
             reason: Reason::TooLong,
         });
@@ -247,7 +247,8 @@ pub fn flaw_of(s: &[u8]) -> Option<Flaw>
                 at = to;
                 line += 1;
             }
-            ControlFlow::Break(reason) => return reason.map(|reason| Flaw { line, reason }),
+            ControlFlow::Break(None) => return Ok(line),
+            ControlFlow::Break(Some(reason)) => return Err(Flaw { line, reason }),
         }
     }
 }

@@ -144,12 +144,12 @@ fn message_of(flaw: Flaw) -> Message
 }
 
 // The message of a flaw, at the start of the buffer; nothing where there is no flaw, or where there may be no room.
-pub fn put_message(out: &mut [u8], flaw: Option<Flaw>) -> usize
+pub fn put_message(out: &mut [u8], flaw: Result<u64, Flaw>) -> usize
     ensures { Writes out.old 0 (message_in out.old flaw) out.new result
         × (result ≤ length out.old) }
 {
     match flaw {
-        Some(flaw) if ROOM <= out.len() => text_numbers::put_text(out, 0, &message_of(flaw)),
+        Err(flaw) if ROOM <= out.len() => text_numbers::put_text(out, 0, &message_of(flaw)),
         _ => 0,
     }
 }

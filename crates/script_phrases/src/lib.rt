@@ -79,6 +79,7 @@ pub fn put_found(message: &mut Message, d: Defect)
     ensures len { array_vec_len message.new ≤ array_vec_len message.old + 25 }
 {
     match d {
+        Defect::Sound => {}
         Defect::Missing => text_numbers::put_bytes(message, b"nothing"),
         Defect::Zero => text_numbers::put_bytes(message, b"an extra leading zero"),
         Defect::Stray(b) => put_byte(message, b),

@@ -95,7 +95,7 @@ fn play_on(p: Player, s: &[u8], program: &[u32], memory: &mut [u32], out: &mut [
             }
             Phase::Words(a) => {
                 if a < memory.len() {
-                    at = script_printing::put(out, at, &script_steps::word_line_at(memory, a));
+                    at = script_steps::put_word_at(memory, a, out, at);
                     let next = a + 1;
                     phase = Phase::Words(next);
                     continue;

@@ -6,7 +6,7 @@ ghost use Rattle.marks.specs.Circle.{stage};
 ghost use Rattle.machine_model.specs.Contract.{plain, finish_says};
 ghost use Rattle.sequential.specs.Play.{commits_in};
 ghost use Rattle.script_model.specs.Output.{faulted, ending};
-ghost use Rattle.player_model.specs.Playing.{one_more, ask_in, order_at};
+ghost use Rattle.player_model.specs.Playing.{one_more, ask_in, order_at, longest, Writes};
 ghost use Rattle.player_model.specs.Playing as steps;
 
 use engine::Refusal;
@@ -123,6 +123,19 @@ pub fn word_line_at(memory: &[u32], a: usize) -> Lines
         0 => Lines::new(),
         v => script_printing::word_line(a, v),
     }
+}
+
+// Writes it into a buffer that has room for a step's lines. A word of 0 is passed over at once: most words of a memory are.
+pub fn put_word_at(memory: &[u32], a: usize, out: &mut [u8], at: usize) -> usize
+    requires a_in_bounds { a < length memory.now }
+    requires longest_in_bounds { at + longest ≤ length out.old }
+    ensures writes { Writes out.old at (steps.word_line_at memory.now a) out.new result }
+    ensures upper_bound { result ≤ at + longest }
+{
+    if memory[a] == 0 {
+        return at;
+    }
+    script_printing::put(out, at, &word_line_at(memory, a))
 }
 
 // How many places of the lent program are in use.

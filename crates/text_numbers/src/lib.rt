@@ -1,11 +1,11 @@
 // Decimal numbers printed, and numbers parted by commas read. `put_decimal`, `put_bytes` and `put_text` ask for room.
 #![tactic(auto)]
 
-ghost use Rattle.std.specs.Prelude.{◌≡◌, ℕ, List, ◌+◌, ◌≤◌, ◌<◌, ◌++◌, length, Some};
+ghost use Rattle.std.specs.Prelude.{◌≡◌, ℕ, List, ◌+◌, ◌≤◌, ◌<◌, ◌++◌, length, Some, MatchOption};
 ghost use Rattle.std.proofs.lemmas.List.Edits.{sets};
 ghost use Rattle.arrayvec.specs.ArrayVec.{array_vec_len};
 ghost use Rattle.text.specs.Decimal.{decimal};
-ghost use Rattle.text.specs.Fields.{largest, digit, byte, fields};
+ghost use Rattle.text.specs.Fields.{largest, bad, digit, byte, fields};
 ghost use Rattle.text.specs.Computed.Reader.{few, opened, with_digit, shown, fitting, parsed_fields};
 
 use arrayvec::ArrayVec;
@@ -52,22 +52,33 @@ fn with_digit(field: Option<u32>, d: u32) -> Option<u32>
     }
 }
 
-// One byte more: nothing where the line is no list of numbers, or has too many.
-pub fn next_byte(n: Numbers, b: u8) -> Option<Numbers>
-    ensures { shown result ≡ few (byte largest (shown (Some n)) b) }
+// One byte more, taken by the numbers lent: nothing where the line is no list of numbers, or has too many. They are lent, since
+// numbers by value are copied twice a byte.
+fn take_byte(n: &mut Numbers, b: u8) -> Option<()>
+    ensures { MatchOption result (few (byte largest (shown (Some n.old)) b) ≡ bad)
+        (λ taken. shown (Some n.new) ≡ few (byte largest (shown (Some n.old)) b)) }
 {
-    let Numbers { mut closed, open } = n;
     match b {
         b',' => {
-            closed.try_push(open?).ok()?;
-            Some(Numbers { closed, open: None })
+            n.closed.try_push(n.open?).ok()?;
+            n.open = None;
+            Some(())
         }
         b'0'..=b'9' => {
-            let open = Some(with_digit(open, b as u32 - 48)?);
-            Some(Numbers { closed, open })
+            n.open = Some(with_digit(n.open, b as u32 - 48)?);
+            Some(())
         }
         _ => None,
     }
+}
+
+// The same of numbers by value; of a line that was none already, nothing.
+pub fn next_byte(n: Option<Numbers>, b: u8) -> Option<Numbers>
+    ensures { shown result ≡ few (byte largest (shown n) b) }
+{
+    let mut n = n?;
+    take_byte(&mut n, b)?;
+    Some(n)
 }
 
 // The fields of the bytes of s, if they are numbers up to the largest parted by commas, not too many of them.
@@ -79,7 +90,7 @@ pub fn read_fields(s: &[u8]) -> Option<ArrayVec<u32, FIELDS>>
         open: None,
     };
     for b in s {
-        n = next_byte(n, *b)?;
+        take_byte(&mut n, *b)?;
     }
     let Numbers { mut closed, open } = n;
     closed.try_push(open?).ok()?;

@@ -1,4 +1,6 @@
 -- `embed_machine::arb_m_squash` meets its contract: the machine's own, carried over to images by `crosses`. Assumes nothing.
+use mathlib.Core.Path.{ap, ◌∙◌}
+use Rattle.embed_image.specs.Telling.{numbers_of}
 use Rattle.embed_image.proofs.Crossing.{crosses}
 use Rattle.embed_machine.proofs.arb_m_squash.Goals as goal
 
@@ -6,5 +8,5 @@ pub returns : goal.returns
 returns c w =
     crosses _ _ _
     c.machine_by.ensures
-    (c.squash-done.ensures w) c.done_numbers-numbers.ensures
+    (c.squash-done.ensures w) (c.done_numbers-numbers.ensures ∙ ap numbers_of (c.by_number.ensures _))
     c.crossed.ensures

@@ -1,7 +1,7 @@
 -- How the first bad line is found: one line after another.
 -- Assumes nothing.
 use Rattle.std.specs.Prelude.{◌≡◌, List, ℕ, suc, ◌≤◌, ◌<◌, length, drop}
-use Rattle.std.specs.Prelude.{Option, None, Some}
+use Rattle.std.specs.Prelude.{Option, None, Some, Result}
 use Rattle.std.specs.declared.ops.ControlFlow.{ControlFlow}
 use Rattle.std.specs.declared.ops.ControlFlow.TheVariants.{Continue, Break}
 use Rattle.text.specs.Fields.{Open, empty, value}
@@ -17,7 +17,7 @@ open_of None = empty
 open_of (Some x) = value x
 
 -- the flaw of the lines from `at` on, the first of which has number n and stands in this part
-abbrev pub flaw_on : List ℕ → ℕ → ℕ → Part → Option Flaw
+abbrev pub flaw_on : List ℕ → ℕ → ℕ → Part → Result ℕ Flaw
 flaw_on s at n part = flaw_in n part (lines_of (drop at s))
 
 -- what the line at `at` leads to: the end, with a reason if it is bad, or the next line, its part and where it begins

@@ -160,13 +160,13 @@ pub loop-at-smaller-then-a-memory : goal.loop-at-smaller-then-a-memory
 loop-at-smaller-then-a-memory c =
     (word_way
     (ready (goal.at.loop-at-smaller-then-a-memory c).In-loop-at)
-    c.in-Words.is c.if-a-memory.true (puts_as c.put-at-then-a-memory.ensures c.word_line_at.ensures)).0
+    c.in-Words.is c.if-a-memory.true (c.put_word_at-at.ensures.writes, c.put_word_at-at.ensures.upper_bound)).0
 
 pub loop-at-preserved-then-a-memory : goal.loop-at-preserved-then-a-memory
 loop-at-preserved-then-a-memory c =
     (word_way
     (ready (goal.at.loop-at-preserved-then-a-memory c).In-loop-at)
-    c.in-Words.is c.if-a-memory.true (puts_as c.put-at-then-a-memory.ensures c.word_line_at.ensures)).1
+    c.in-Words.is c.if-a-memory.true (c.put_word_at-at.ensures.writes, c.put_word_at-at.ensures.upper_bound)).1
 
 pub loop-at-smaller : goal.loop-at-smaller
 loop-at-smaller c =

@@ -9,16 +9,18 @@ use Rattle.text.specs.Computed.Reader.{shown}
 use Rattle.text.proofs.Reader.{read_on, read_bad, read_all, no_last, last_field, overfull}
 use Rattle.text_numbers.proofs.read_fields.Goals as goal
 
-pub returns-in_err-n : goal.returns-in_err-n
-returns-in_err-n c =
+pub returns-in_err-take_byte : goal.returns-in_err-take_byte
+returns-in_err-take_byte c =
     let l = c.loop-b in
     rw c.from_residual.ensures
-    (sym (read_bad _) ∙ read_on (shown (Some l.n)) bad c.args.s.now l.b-index (omega arith) c.in_err-n.ensures ∙ l.invariant)
+    (sym (read_bad _)
+    ∙ read_on (shown (Some l.n)) bad c.args.s.now l.b-index (omega arith) (sym c.in_err-take_byte.ensures)
+    ∙ l.invariant)
 
 pub loop-b-preserved : goal.loop-b-preserved
 loop-b-preserved c =
     let l = c.loop-b in
-    read_on (shown (Some l.n)) (shown (Some c.in_ok-n.n)) c.args.s.now l.b-index (omega arith) c.in_ok-n.ensures ∙ l.invariant
+    read_on (shown (Some l.n)) _ c.args.s.now l.b-index (omega arith) c.in_ok-take_byte.ensures ∙ l.invariant
 
 pub returns-in_err-open : goal.returns-in_err-open
 returns-in_err-open c =

@@ -7,5 +7,6 @@ use Rattle.machine_window.proofs.Held.destinations.Given as goal
 
 abbrev pub invariant-loop-q : goal.invariant-loop-q
 invariant-loop-q l =
-    let m = l.self.machine.now in
-    (length l.into ≡ stages_most) × ((j : ℕ) → j < l.q → get_or l.into j 0 ≡ destination_at m.window m.table.oldest m.table.stages j)
+    let h = l.self in
+    (length l.into ≡ stages_most)
+    × ((j : ℕ) → j < l.q → get_or l.into j 0 ≡ destination_at h.window.now h.circle.oldest h.circle.stages j)

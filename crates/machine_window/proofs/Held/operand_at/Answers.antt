@@ -12,11 +12,11 @@ use Rattle.machine_window.proofs.Held.operand_at.Goals as goal
 
 pub returns-in-Some : goal.returns-in-Some
 returns-in-Some c =
-    let m = c.args.self.machine.now in
-    let t = m.table in
+    let h = c.args.self in
+    let t = h.circle in
     let q = c.in-Some.q in
     let law =
-    register_found m.window t.oldest t.stages c.args.into.now c.args.k c.requires.within.0 (some (get_or m.registers c.args.k 0))
+    register_found h.window.now t.oldest t.stages c.args.into.now c.args.k c.requires.within.0 (some (get_or h.registers.now c.args.k 0))
     c.args.p _ c.requires.packed c.in-Some.ensures.1 in
     let at : stage t.oldest t.stages q ≡ stage t.oldest t.stages (q + 1 - 1) = ap (stage t.oldest t.stages) (omega arith) in
     c.operand_of.ensures
@@ -25,9 +25,9 @@ returns-in-Some c =
 
 pub returns-in-None : goal.returns-in-None
 returns-in-None c =
-    let m = c.args.self.machine.now in
-    let t = m.table in
+    let h = c.args.self in
+    let t = h.circle in
     let law =
-    register_found m.window t.oldest t.stages c.args.into.now c.args.k c.requires.within.0 (some (get_or m.registers c.args.k 0))
+    register_found h.window.now t.oldest t.stages c.args.into.now c.args.k c.requires.within.0 (some (get_or h.registers.now c.args.k 0))
     c.args.p _ c.requires.packed c.in-None.ensures.1 in
     sym (law.0 refl)
