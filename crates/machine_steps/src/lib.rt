@@ -92,8 +92,11 @@ pub fn execute_stage(m: &mut Machine, s: usize, effect: Effect)
     ensures { m.new ≡ executed_over m.old s effect }
 {
     let circle = table_rules::circle_of(&m.table);
-    let first = m.window[circle.stage_at(effect.left)].index;
-    m.next = next_after(first, m.table.live, effect.left, m.next);
+    // the first that goes is read only where one does: a read of an entry may wait for the writes of its parts
+    if effect.left < m.table.live {
+        let first = m.window[circle.stage_at(effect.left)].index;
+        m.next = next_after(first, m.table.live, effect.left, m.next);
+    }
     m.window[s] = entry_executed(m.window[s], effect.value, effect.address, effect.distance);
     engine_steps::apply(&mut m.table, effect, s);
 }
