@@ -18,6 +18,7 @@ use Rattle.script_model.specs.Language.{code_from}
 use Rattle.flaw_model.specs.Flaw.{commas, no_number, flaw_at, flaw_from, flaw_of}
 use Rattle.text.specs.Ascii.{ascii}
 use Rattle.flaw_model.specs.Message.{largest_text, message_text}
+use Rattle.flaw_model.proofs.Defects.{no_sound_field}
 
 -- what is found, and the message that it should have
 record Row : Type 0 where
@@ -87,6 +88,10 @@ messages_are =
     refl also refl also refl also refl also refl also refl also refl also refl also refl also refl also
     refl also refl also refl also refl also refl also refl also refl also refl also refl also refl also
     refl also refl also refl also refl also tt
+
+-- the flaw of the last row is no script's
+no_script : (text : List ℕ) → flaw_of text ≡ flaw_at 2 (Some (Field 101 2 Sound)) → ⊥
+no_script text e = no_sound_field text _ 101 2 e refl
 
 -- where no line is bad, the number that a line after the last would have: after the sizes, an instruction, a step
 sound_numbers :
